@@ -1,0 +1,15 @@
+pub mod Result
+pub mod Bits
+pub mod Tree
+pub mod Strategy
+pub mod Book
+pub mod Reader
+pub mod Writer
+pub mod Line
+pub mod Match
+pub mod Sound
+pub mod Reduction
+pub mod Machine
+pub mod Run
+pub mod Demand3
+pub mod Page
