@@ -6,6 +6,8 @@ pub mod Operators
 pub mod Trees
 pub mod Line
 pub mod Rules
+pub mod Bytes
+pub mod Books
 pub mod Matching
 pub mod Figure
 pub mod Steps
@@ -15,3 +17,6 @@ pub mod Locate
 pub mod Stack
 pub mod Numbers
 pub mod Moves
+pub mod Invariant
+pub mod Local
+pub mod Starred
