@@ -78,8 +78,8 @@ strategy-bits arity is =
     let len : List ℕ = toBits 5 (length ns) in
     let given : List ℕ = len ++ concat (toBits 4) ns in
     if-bits (same ns (numbers (default arity))) (toBits 1 0) (toBits 1 1 ++ given) (toBits-below 1 0)
-        (both-bits (toBits 1 1) given (toBits-below 1 1)
-            (both-bits len (concat (toBits 4) ns) (toBits-below 5 (length ns)) (concat-bits (toBits 4) (toBits-below 4) ns)))
+    (both-bits (toBits 1 1) given (toBits-below 1 1)
+    (both-bits len (concat (toBits 4) ns) (toBits-below 5 (length ns)) (concat-bits (toBits 4) (toBits-below 4) ns)))
 
 operator-bits : (o : Operator) → AllBits (write-operator o)
 unfolding write-operator
@@ -179,8 +179,8 @@ parts-bits B =
     let n : ℕ = length (B .operators) in
     let m : ℕ = length (B .rules) in
     both-bits (toBits 8 n) (concat write-operator (B .operators) ++ write-rules (B .rules)) (toBits-below 8 n)
-        (both-bits (concat write-operator (B .operators)) (write-rules (B .rules)) (concat-bits write-operator operator-bits (B .operators))
-            (both-bits (toBits 8 m) (concat write-rule (B .rules)) (toBits-below 8 m) (concat-bits write-rule rule-bits (B .rules))))
+    (both-bits (concat write-operator (B .operators)) (write-rules (B .rules)) (concat-bits write-operator operator-bits (B .operators))
+    (both-bits (toBits 8 m) (concat write-rule (B .rules)) (toBits-below 8 m) (concat-bits write-rule rule-bits (B .rules))))
 
 rules-good : (ops : List Operator) (xs : List ℕ) (r : Read Book) → 0 < length ops → length ops < 256 → All GoodOperator ops → AllBits xs →
     read-rules ops xs ≡ accepted r → GoodBook (r .value)
@@ -192,7 +192,7 @@ rules-good ops xs r some few gs h e =
     let (l, k) = field-bounded 8 xs a h q in
     let (n, g, _) = repeat-good (GoodRule ops) (read-rule ops) (read-rule-good ops) (a .value) (a .left) b k s in
     subst GoodBook (sym (end-good (record { operators = ops; rules = b .value }) (b .left) r e₂))
-        (record { some-operators = some; few-operators = few; operators = gs; few-rules = omega arith; rules = g })
+    (record { some-operators = some; few-operators = few; operators = gs; few-rules = omega arith; rules = g })
 
 bits-good : (xs : List ℕ) (r : Read Book) → AllBits xs → read-bits xs ≡ accepted r → GoodBook (r .value)
 bits-good xs r h e =
@@ -219,7 +219,7 @@ rules-read B k l g =
     ap (read-rules ops) (append-assoc (toBits 8 m) ws zs)
     ∙ bind-return (field 8) (λ m. repeat m (read-rule ops) >>= end) (toBits 8 m ++ (ws ++ zs)) (ws ++ zs) m (field-toBits 8 m (ws ++ zs) (g .few-rules))
     ∙ bind-return (repeat m (read-rule ops)) end (ws ++ zs) zs (B .rules)
-        (repeat-read (GoodRule ops) (read-rule ops) write-rule (λ r xs h. write-rule-read ops r xs (le-of-lt (g .few-operators)) h) (B .rules) zs (g .rules))
+    (repeat-read (GoodRule ops) (read-rule ops) write-rule (λ r xs h. write-rule-read ops r xs (le-of-lt (g .few-operators)) h) (B .rules) zs (g .rules))
     ∙ end-read B k l
 
 bits-read : (B : Book) (k : ℕ) → k < 8 → GoodBook B → read-bits (write-parts B ++ replicate k 0) ≡ return B (replicate k 0)
@@ -232,10 +232,10 @@ bits-read B k l g =
     read-parts (write-parts B ++ zs)
     ∙ ap (read-count >>= (λ n. repeat n read-operator >>= read-rules)) (append-assoc (toBits 8 n) (ws ++ vs) zs)
     ∙ bind-return read-count (λ n. repeat n read-operator >>= read-rules) (toBits 8 n ++ (ws ++ vs ++ zs)) (ws ++ vs ++ zs) n
-        (count-read n (ws ++ vs ++ zs) (g .some-operators) (g .few-operators))
+    (count-read n (ws ++ vs ++ zs) (g .some-operators) (g .few-operators))
     ∙ ap (repeat n read-operator >>= read-rules) (append-assoc ws vs zs)
     ∙ bind-return (repeat n read-operator) read-rules (ws ++ (vs ++ zs)) (vs ++ zs) (B .operators)
-        (repeat-read GoodOperator read-operator write-operator write-operator-read (B .operators) (vs ++ zs) (g .operators))
+    (repeat-read GoodOperator read-operator write-operator write-operator-read (B .operators) (vs ++ zs) (g .operators))
     ∙ rules-read B k l g
 
 -- a good book that is written is read back
@@ -273,7 +273,7 @@ good-book-sound B g =
     record {
       distinct = λ o. all-getD D (B .operators) o _ tt (all-map GoodOperator D good-distinct (B .operators) (g .operators));
       within = λ o. all-getD W (B .operators) o _ tt (all-map GoodOperator W good-within (B .operators) (g .operators));
-      rules = all-map (GoodRule (B .operators)) (SoundRule B) (good-sound B) (B .rules) (g .rules)
+      rules = all-map (GoodRule (B .operators)) (SoundRule B) (good-sound B) (B .rules) (g .rules);
     }
 
 pub read-sound : (bytes : List ℕ) (B : Book) → readBook bytes ≡ accepted B → Sound B

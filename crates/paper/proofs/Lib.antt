@@ -20,3 +20,6 @@ pub mod Moves
 pub mod Invariant
 pub mod Local
 pub mod Starred
+pub mod Fork
+pub mod Exit
+pub mod Entry

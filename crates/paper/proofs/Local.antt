@@ -15,6 +15,7 @@ use Rattle.paper.specs.Tree.{Tree, node, label, arguments, size, pick, P
 use Rattle.paper.specs.Strategy.{Step}
 use Rattle.paper.specs.Book.{Term, Book, arity, steps}
 use Rattle.paper.specs.Match.{rewrite}
+use Rattle.paper.specs.Reduction
 use Rattle.paper.specs.Reduction.{Weight}
 use Rattle.paper.specs.Machine.{Order, orders, joins-in, lower, fall, Worker, worker, asleep, State, with-unit, Event, Ending, Outcome, going, ended, Limits, exceeds, unit, do-visit, do-fork, do-join, do-rewrite, do-whole}
 use Rattle.paper.specs.Run.{weigh}
@@ -155,3 +156,213 @@ module _ (B : Book) (L : Limits) where
     at-place ev Y s′ x w c e t us fit r bd sh cn mv sw =
         n-going (plug C Y) (a ++ (blk C Y ∷ b)) (local Y w c e s′ t x us fit r bd) (λ q. lift (sh q) C) cn (λ ψ. omega (arith, pending-same Y ψ, mv ψ))
         (rw (us, length-set (s .units) u x)) sw
+
+-- THE ORDERS
+
+-- the term that FORK or VISIT names below a position
+subterm-below : (p : Position) (i : ℕ) (t : Term) → subterm (p ++ (i ∷ [])) t ≡ subterm (i ∷ []) (subterm p t)
+unfolding subterm
+subterm-below [] i t = refl
+subterm-below (j ∷ p) i t = subterm-below p i (pick t j (arguments t))
+
+erase-opened : (B : Book) (j : ℕ) (t : Term) → erase (opened B j t) ≡ t
+unfolding erase label arguments
+erase-opened B j (node o ts) = ap (node o) (resting-erases ts)
+
+drop-orders : (j : ℕ) (p : Position) (ss : List Step) (rs : List Order) → drop (length ss) (orders j p ss ++ rs) ≡ rs
+unfolding orders
+drop-orders j p [] rs = refl
+drop-orders j p (Step.visit i ∷ ss) rs = drop-orders j p ss rs
+drop-orders j p (Step.fork i ∷ ss) rs = drop-orders j p ss rs
+drop-orders j p (Step.join c ∷ ss) rs = drop-orders (suc j) p ss rs
+drop-orders j p (Step.whole ∷ ss) rs = drop-orders j p ss rs
+
+-- a term in work, none of its arguments in work by the same unit
+pub record Quiet (l : Label) (ks : Ghosts) (ss : List Step) : Type 0 where
+  pub wells : Wells l ss 0 0 ks
+  pub counted : Counted (lents ks) ss
+  pub distinct : Distinct ss
+  pub within : Within (width ks) ss
+
+pub quiet : {l : Label} {o j : ℕ} {ks : Ghosts} {ss : List Step} → ((p : Position) (i : ℕ) → lists p i ks ≡ []) → Well l (work o j ks ss) → Quiet l ks ss
+quiet q (w-work w ok ds wi) = record { wells = quiet-none w [] 0 (q [] 0); counted = ok; distinct = ds; within = wi }
+
+-- with none in work, the list is that of the term's own steps
+pub quiet-orders : (o j : ℕ) (ks : Ghosts) (ss : List Step) → ((p : Position) (i : ℕ) → lists p i ks ≡ []) → (p : Position) → list p (work o j ks ss) ≡ orders j p ss
+unfolding list
+quiet-orders o j ks ss q p = ap (λ (z : List Order). z ++ orders j p ss) (q p 0)
+
+-- fewer orders mention fewer numbers
+pub fewer : (n : ℕ) (xs ys : List Order) → ((k : ℕ) → tally (joins-of k) ys ≤ tally (joins-of k) xs) → ((k : ℕ) → tally (mentions-of k) ys ≤ tally (mentions-of k) xs) →
+    Renumbers n n xs ys
+fewer n xs ys h g = record { more = omega arith; joins = λ k. inl (h k); mentions = λ k e. g k }
+
+dropped : (n : ℕ) (o : Order) (xs ys : List Order) → xs ≡ o ∷ ys → Renumbers n n xs ys
+unfolding tally
+dropped n o xs ys e =
+    fewer n xs ys (λ k. rw e (omega arith)) (λ k. rw e (omega arith))
+
+visit-joins : (k j : ℕ) (q : Position) (ss : List Step) (rs : List Order) →
+    (tally (joins-of k) (orders j q ss ++ rs) ≤ tally (joins-of k) (Order.visit q ∷ rs))
+    ⊎ ((j ≤ k) × (tally (joins-of k) (orders j q ss ++ rs) ≤ suc (tally (joins-of k) (Order.visit q ∷ rs))))
+unfolding tally joins-of
+visit-joins k j q ss rs =
+    elim (ltb-cases k j) [
+      | inl e ↦ inl (omega (arith, tally-append (joins-of k) (orders j q ss) rs, joins-below k j q ss (e .1)))
+      | inr e ↦ inr (e .1, omega (arith, tally-append (joins-of k) (orders j q ss) rs, joins-once k j q ss))
+    ]
+
+visit-mentions : (k j m : ℕ) (q : Position) (ss : List Step) (rs : List Order) → Counted m ss → j + joins-in ss ≤ k →
+    tally (mentions-of k) (orders j q ss ++ rs) ≤ tally (mentions-of k) (Order.visit q ∷ rs)
+unfolding tally mentions-of
+visit-mentions k j m q ss rs w e = omega (arith, tally-append (mentions-of k) (orders j q ss) rs, mentions-above k j m q ss w e)
+
+-- the state that VISIT leaves, when x is the term at its position
+opened-state : Book → ℕ → State → List Order → Position → Term → State
+opened-state B u s os p x = record {
+  term = s .term;
+  units = put (s .units) u (worker true (orders (s .joins) p (steps B (label x)) ++ os));
+  rewrites = s .rewrites;
+  granted = s .granted;
+  kept = s .kept;
+  joins = s .joins + joins-in (steps B (label x));
+}
+
+visit-is : (B : Book) (L : Limits) (u : ℕ) (s : State) (os : List Order) (p : Position) →
+    do-visit B L u s os p ≡ going Event.visited (opened-state B u s os p (subterm p (s .term)))
+unfolding do-visit opened-state
+visit-is B L u s os p = refl
+
+module _ (B : Book) (L : Limits) (sound : Sound B) where
+  module _ {s : State} {C : Context} {a b : List Block} {u : ℕ} where
+    -- VISIT of the term x at q: its orders come before the rest
+    go-open : {X : Ghost} (h : At B L s C X a b u) (q : Position) (x : Term) (rs : List Order) (Y : Ghost) → subterm q (s .term) ≡ x → list (pos C) X ≡ Order.visit q ∷ rs →
+        list (pos C) Y ≡ orders (s .joins) q (steps B (label x)) ++ rs → Well (lab C) Y → erase X ≡ erase Y →
+        ((φ : Block → ℕ) → sum φ (parts (pos C) Y) ≡ sum φ (parts (pos C) X)) → ((w : Weight) → Shift B w (w .visit) X Y) →
+        Next B L u s (plug C X) (a ++ (blk C X ∷ b)) (do-visit B L u s (rs ++ (und C ++ list-of u b)) q)
+    unfolding opened-state weigh placed-by left-by
+    go-open {X} h q x rs Y e lx ly w er ps sh =
+        let os = rs ++ (und C ++ list-of u b) in
+        rw (visit-is B L u s os q, e)
+        (at-place B L h Event.visited Y (opened-state B u s os q x) (worker true (orders (s .joins) q (steps B (label x)) ++ os)) w
+        (subst (λ (z : Term). Correct (arity B) z) er (correct-here B L h)) ps (h .inv .is-term ∙ erase-same C X Y er) refl
+        (rw ly (simp append-assoc), λ z. absurd (true≢false z))
+        (rw (lx, ly)
+        (record {
+          more = omega arith;
+          joins = λ k. visit-joins k (s .joins) q (steps B (label x)) rs;
+          mentions = λ k m. visit-mentions k (s .joins) 0 q (steps B (label x)) rs (steps-counted B (label x)) m;
+        }))
+        (h .inv .within) sh (record { rewrites = omega arith; granted = omega arith; forks = omega arith }) (λ ψ. refl) tt)
+
+    pub go-todo : {t : Term} → At B L s C (todo t) a b u →
+        Next B L u s (plug C (todo t)) (a ++ (blk C (todo t) ∷ b)) (do-visit B L u s (und C ++ list-of u b) (pos C))
+    unfolding list parts sum erase
+    go-todo {t} h =
+        go-open h (pos C) t [] (opened B (s .joins) t) (term-at B L h) refl
+        (opened-list B (s .joins) t (pos C) ∙ sym (append-nil (orders (s .joins) (pos C) (steps B (label t)))))
+        (opened-well B sound t (correct-here B L h) (lab C) (s .joins)) (sym (erase-opened B (s .joins) t))
+        (λ φ. ap (sum φ) (opened-parts B (s .joins) t (pos C))) (λ w. shift-visit (s .joins) t)
+
+    module _ {o j : ℕ} {ks : Ghosts} {ss : List Step} (q : (p : Position) (i : ℕ) → lists p i ks ≡ []) where
+      pub go-visit : (i : ℕ) → At B L s C (work o j ks (Step.visit i ∷ ss)) a b u →
+          Next B L u s (plug C (work o j ks (Step.visit i ∷ ss))) (a ++ (blk C (work o j ks (Step.visit i ∷ ss)) ∷ b))
+          (do-visit B L u s (orders j (pos C) ss ++ (und C ++ list-of u b)) (pos C ++ (i ∷ [])))
+      unfolding list parts erase subterm arguments
+      go-visit i h =
+          let k : Quiet (lab C) ks (Step.visit i ∷ ss) = quiet q (inside B L h) in
+          let ha : HomeAt i ks = home-at i i (omega arith) (k .within .0) (λ x fr. fr .0) (k .wells) in
+          let c : Correct (arity B) (kid i ks) = kid-correct (arity B) ha (correct-here B L h .1) in
+          let (n, w) = open-wells B (s .joins) {ss′ = ss} (λ x fr. fr .1) (subst (λ (z : ℕ). Unnamed z ss) (sym (zero-add i)) (k .distinct .0)) ha
+          (opened-well B sound (kid i ks) c (lab C) (s .joins)) (k .wells) in
+          go-open h (pos C ++ (i ∷ [])) (kid i ks) (orders j (pos C) ss) (work o j (begin (opened B (s .joins)) own i ks) ss)
+          (subterm-below (pos C) i (s .term) ∙ ap (subterm (i ∷ [])) (term-at B L h) ∙ kid-pick ha (node o (erases ks)))
+          (unfold orders in quiet-orders o j ks (Step.visit i ∷ ss) q (pos C))
+          (ap (λ (z : List Order). z ++ orders j (pos C) ss) (open-list B (s .joins) ha (k .wells) (pos C) 0)
+          ∙ rw (zero-add i))
+          (w-work w (subst (λ (z : ℕ). Counted z ss) (sym (open-lents B (s .joins) ha)) (k .counted)) (k .distinct .1)
+          (subst (λ (z : ℕ). Within z ss) (sym (begin-width (opened B (s .joins)) own i ks)) (k .within .1)))
+          (ap (node o) (sym (begin-erases (opened B (s .joins)) (erase-opened B (s .joins)) own i ks)))
+          (λ φ. ap (sum φ) (open-parts B (s .joins) ha (pos C) j 0))
+          (λ w. shift-begin (opened-opens (s .joins)) own (w .visit) (omega arith) (home-still ha))
+
+      -- a place's steps go on, at the same term, with the same numbers in use
+      pub go-on : {Z : Step} (h : At B L s C (work o j ks (Z ∷ ss)) a b u) (ev : Event) (Y : Ghost) (s′ : State) (x : Worker) → Well (lab C) Y → erase Y ≡ node o (erases ks) →
+          ((φ : Block → ℕ) → sum φ (parts (pos C) Y) ≡ sum φ (parts (pos C) (work o j ks (Z ∷ ss)))) → s′ .term ≡ s .term → s′ .units ≡ put (s .units) u x →
+          Fit x ((list (pos C) Y ++ und C) ++ list-of u b) → s′ .joins ≡ s .joins → Renumbers (s .joins) (s .joins) (orders j (pos C) (Z ∷ ss)) (list (pos C) Y) →
+          s′ .rewrites ≡ s .rewrites → ((w : Weight) → Shift B w (weigh w ev) (work o j ks (Z ∷ ss)) Y) → Counts ev s s′ →
+          ((ψ : Position → ℕ → ℕ) → left-by ψ ev ≡ placed-by ψ ev) → Shows ev u s s′ →
+          Next B L u s (plug C (work o j ks (Z ∷ ss))) (a ++ (blk C (work o j ks (Z ∷ ss)) ∷ b)) (going ev s′)
+      unfolding erase
+      go-on {Z} h ev Y s′ x w e ps t us fit js r rs sh cn mv sw =
+          at-place B L h ev Y s′ x w (subst (λ (z : Term). Correct (arity B) z) (sym e) (correct-here B L h)) ps
+          (t ∙ h .inv .is-term ∙ erase-same C (work o j ks (Z ∷ ss)) Y (sym e)) us fit
+          (rw (js, quiet-orders o j ks (Z ∷ ss) q (pos C)) r) (rw rs (h .inv .within)) sh cn mv sw
+
+      pub go-join : (c : ℕ) → At B L s C (work o j ks (Step.join c ∷ ss)) a b u → unit (s .units) u .list ≡ Order.join j c ∷ (orders (suc j) (pos C) ss ++ (und C ++ list-of u b)) →
+          Next B L u s (plug C (work o j ks (Step.join c ∷ ss))) (a ++ (blk C (work o j ks (Step.join c ∷ ss)) ∷ b))
+          (do-join B L u s (orders (suc j) (pos C) ss ++ (und C ++ list-of u b)) j c)
+      unfolding do-join parts erase weigh placed-by left-by orders
+      go-join zero h ul =
+          let k : Quiet (lab C) ks (Step.join 0 ∷ ss) = quiet q (inside B L h) in
+          let z : lents ks ≡ 0 = sym (k .counted .0) in
+          let st : Stills ks = all-home (k .wells) z in
+          let ql = quiet-orders o (suc j) ks ss q (pos C) in
+          go-on h (Event.passed j) (work o (suc j) ks ss) _ (worker true (orders (suc j) (pos C) ss ++ (und C ++ list-of u b)))
+          (w-work (still-wells st (lab C) 0 ss) (subst (λ (x : ℕ). Counted x ss) (sym z) (k .counted .1)) (k .distinct) (k .within)) refl
+          (λ φ. ap (sum φ) (stills-parts st (pos C) (suc j) 0 ∙ sym (stills-parts st (pos C) j 0))) refl refl
+          (rw ql (simp append-assoc), λ y. absurd (true≢false y)) refl
+          (rw ql (dropped (s .joins) (Order.join j 0) _ _ refl)) refl (λ w. shift-join)
+          (record { rewrites = omega arith; granted = omega arith; forks = omega arith }) (λ ψ. refl)
+          (orders (suc j) (pos C) ss ++ (und C ++ list-of u b), ul)
+      go-join (suc c) h ul =
+          let ql = quiet-orders o j ks (Step.join (suc c) ∷ ss) q (pos C) in
+          go-on h Event.waited (work o j ks (Step.join (suc c) ∷ ss)) _ (worker false (Order.join j (suc c) ∷ (orders (suc j) (pos C) ss ++ (und C ++ list-of u b))))
+          (inside B L h) refl (λ φ. refl) refl refl (rw ql (simp append-assoc), λ y. rw ql tt) refl
+          (rw ql (fewer (s .joins) _ _ (λ k. omega arith) (λ k. omega arith))) refl (λ w. same _)
+          (record { rewrites = omega arith; granted = omega arith; forks = omega arith }) (λ ψ. refl)
+          (ap (λ (y : Worker). y .busy) (getD-set-same (s .units) u _ asleep (busy-in (s .units) u (h .busy))))
+
+      -- WHOLE: all arguments are at home and at rest
+      module _ (h : At B L s C (work o j ks (Step.whole ∷ ss)) a b u) where
+        os₀ : List Order
+        os₀ = orders j (pos C) ss ++ (und C ++ list-of u b)
+
+        stills : Stills ks
+        stills = let k : Quiet (lab C) ks (Step.whole ∷ ss) = quiet q (inside B L h) in all-home (k .wells) (k .counted .0)
+
+        go-rewrite : (r : Term) → rewrite (B .rules) (node o (erases ks)) ≡ some r → (n : ℕ) (p f : Bool) → eqb (s .rewrites) (L .budget) ≡ p → exceeds (L .symbols) n ≡ f →
+            Next B L u s (plug C (work o j ks (Step.whole ∷ ss))) (a ++ (blk C (work o j ks (Step.whole ∷ ss)) ∷ b)) (do-rewrite B L u s os₀ (pos C) (length ss) r p f)
+        unfolding do-rewrite parts list erase weigh placed-by left-by os₀
+        go-rewrite r e n true f pe fe =
+            n-spent (eqb-equal (s .rewrites) (L .budget) pe) (λ m v l. let (m′, z, l′) = lift (shift-hit {w = Reduction.rewrites} stills e) C .forth m v l in omega arith)
+        go-rewrite r e n false true pe fe = n-full n fe
+        go-rewrite r e n false false pe fe =
+            at-place B L h Event.rewrote (todo r) _ (worker true (Order.visit (pos C) ∷ drop (length ss) os₀)) w-todo
+            (rewrite-correct B (sound .rules) (node o (erases ks)) r (correct-here B L h) e) (λ φ. ap (sum φ) (sym (stills-parts stills (pos C) j 0)))
+            (rw (h .inv .is-term, position-way C []) (replace-way C (work o j ks (Step.whole ∷ ss)) (todo r))) refl
+            (ap (λ (x : List Order). Order.visit (pos C) ∷ x) (drop-orders j (pos C) ss (und C ++ list-of u b)), λ y. absurd (true≢false y))
+            (fewer (s .joins) _ _ (λ k. unfold tally joins-of in omega arith) (λ k. unfold tally mentions-of in omega arith))
+            (spend (s .rewrites) (L .budget) (h .inv .within) pe) (λ w. shift-hit stills e)
+            (record { rewrites = omega arith; granted = omega arith; forks = omega arith }) (λ ψ. refl) tt
+          where
+            spend : (n m : ℕ) → n ≤ m → eqb n m ≡ false → suc n ≤ m
+            spend n m l e = elim (eqb-cases n m) [ inl p ↦ absurd (true≢false (sym (p .0) ∙ e)) | inr p ↦ (let z = p .1 in omega arith) ]
+
+        go-match : (x : Option Term) → rewrite (B .rules) (node o (erases ks)) ≡ x →
+            Next B L u s (plug C (work o j ks (Step.whole ∷ ss))) (a ++ (blk C (work o j ks (Step.whole ∷ ss)) ∷ b)) (do-whole B L u s os₀ (pos C) (length ss) x)
+        unfolding do-whole parts erase weigh placed-by left-by orders os₀
+        go-match none e =
+            let k : Quiet (lab C) ks (Step.whole ∷ ss) = quiet q (inside B L h) in
+            let ql = quiet-orders o j ks ss q (pos C) in
+            go-on h Event.missed (work o j ks ss) _ (worker true os₀)
+            (w-work (still-wells stills (lab C) 0 ss) (subst (λ (x : ℕ). Counted x ss) (sym (k .counted .0)) (k .counted .1)) (k .distinct) (k .within)) refl
+            (λ φ. refl) refl refl (rw ql (simp append-assoc), λ y. absurd (true≢false y)) refl
+            (rw ql (dropped (s .joins) (Order.whole (pos C) (length ss)) _ _ refl)) refl (λ w. shift-miss stills e)
+            (record { rewrites = omega arith; granted = omega arith; forks = omega arith }) (λ ψ. refl) tt
+        go-match (some r) e = go-rewrite r e (size (replace (pos C) r (s .term))) (eqb (s .rewrites) (L .budget)) (exceeds (L .symbols) (size (replace (pos C) r (s .term)))) refl refl
+
+        pub go-whole : Next B L u s (plug C (work o j ks (Step.whole ∷ ss))) (a ++ (blk C (work o j ks (Step.whole ∷ ss)) ∷ b))
+            (do-whole B L u s (orders j (pos C) ss ++ (und C ++ list-of u b)) (pos C) (length ss) (rewrite (B .rules) (subterm (pos C) (s .term))))
+        unfolding erase os₀
+        go-whole = rw (term-at B L h) (go-match (rewrite (B .rules) (node o (erases ks))) refl)

@@ -135,9 +135,10 @@ mutual
       let (h, p, q) = both (match s t g) (matches ss ts) f e in
       let (x, y, z) = once-variables (preorder s) (preorders ss) d in
       let (a, b) = found-from s t g h x p in
-      let (a′, b′) = founds-from ss ts h f y q in
-      ( ap₂ cons (fill-agree s f h (all-map _ _ b′ (variables (preorder s)) z) ∙ a) a′
-      , λ v i. let (j, j′) = split-variables (λ (w : ℕ). v ≢ w) (preorder s) (preorders ss) i in b′ v j′ ∙ b v j)
+      let (a′, b′) = founds-from ss ts h f y q in (
+        ap₂ cons (fill-agree s f h (all-map _ _ b′ (variables (preorder s)) z) ∙ a) a′,
+        λ v i. let (j, j′) = split-variables (λ (w : ℕ). v ≢ w) (preorder s) (preorders ss) i in b′ v j′ ∙ b v j,
+      )
 
 -- a filling that is found gives the term, for no variable stands twice
 pub found : (l : Side) (t : Term) (f : Filling) → Once (variables (preorder l)) → match l t blank ≡ some f → fill f l ≡ t
@@ -254,15 +255,15 @@ pub applied-correct : (B : Book) (r : Rule) (f : Filling) → SoundRule B r → 
 applied-correct B r f s c =
     let P : ℕ → Type 0 = λ v. Correct (arity B) (f v) in
     let a : All P (variables (preorder (r .left))) =
-        inherited (B .operators) (λ (t u : Term). Correct (arity B) t) (λ (ts us : Forest ℕ). Corrects (arity B) ts) (λ o ts us h. h .1) (λ t u ts us h. h)
-            f f (r .left) (s .left) c in
+    inherited (B .operators) (λ (t u : Term). Correct (arity B) t) (λ (ts us : Forest ℕ). Corrects (arity B) ts) (λ o ts us h. h .1) (λ t u ts us h. h)
+    f f (r .left) (s .left) c in
     fill-correct (B .operators) (r .right) f (s .right)
-        (all-of P (variables (preorder (r .right))) (λ v i. all-in P v (variables (preorder (r .left))) a (s .bound v i)))
+    (all-of P (variables (preorder (r .right))) (λ v i. all-in P v (variables (preorder (r .left))) a (s .bound v i)))
 
 pub rewrite-correct : (B : Book) → All (SoundRule B) (B .rules) → (t r : Term) → Correct (arity B) t → rewrite (B .rules) t ≡ some r →
     Correct (arity B) r
 rewrite-correct B ss t u c e =
     let (before, r, after, f, a, b, p, q) =
-        rewrite-first (B .rules) t u (all-map (SoundRule B) _ (λ (r : Rule) (s : SoundRule B r). s .once) (B .rules) ss) e in
+    rewrite-first (B .rules) t u (all-map (SoundRule B) _ (λ (r : Rule) (s : SoundRule B r). s .once) (B .rules) ss) e in
     let s : SoundRule B r = all-split (SoundRule B) before (r ∷ after) (subst (All (SoundRule B)) a ss) .1 .0 in
     subst (Correct (arity B)) (sym q) (applied-correct B r f s (subst (Correct (arity B)) (sym p) c))

@@ -244,9 +244,11 @@ append-more (u ∷ us) v vs = eqb·suc-zero (length (us ++ (v ∷ vs)))
 
 argument-allowed : (a : ℕ) (g : Bool) (i : ℕ) (vs : List ℕ) → a < 8 → i < a → eqb (length vs) 0 ≡ false → Allowed a g vs →
     Allowed a g (suc i ∷ vs)
-argument-allowed a g i vs l h e k =
-    (omega arith, allowed-argument a g (eqb (length vs) 0) i (omega arith) ∙ rw e (ltb-true i a h),
-    rw (grouped-argument g i (omega arith)) k)
+argument-allowed a g i vs l h e k = (
+  omega arith,
+  allowed-argument a g (eqb (length vs) 0) i (omega arith) ∙ rw e (ltb-true i a h),
+  rw (grouped-argument g i (omega arith)) k,
+)
 
 group-allowed : (a : ℕ) (js vs : List ℕ) → a < 8 → All (λ j. j < a) js → eqb (length vs) 0 ≡ false → Allowed a false vs →
     Allowed a true (map suc js ++ (9 ∷ vs))
@@ -261,9 +263,11 @@ numbers-allowed a b [] l w n = tt
 numbers-allowed a b (Item.whole ∷ is) l w n = (omega arith, refl, numbers-allowed a true is l w n)
 numbers-allowed a b (Item.argument i ∷ is) l w n =
     argument-allowed a false i (numbers is) l (w .0) (numbers-more is n) (numbers-allowed a false is l (w .1) n)
-numbers-allowed a b (Item.group js ∷ is) l w n =
-    (omega arith, rw (append-more (map suc js) 9 (numbers is)),
-    group-allowed a js (numbers is) l (w .0) (numbers-more is n) (numbers-allowed a false is l (w .1) n))
+numbers-allowed a b (Item.group js ∷ is) l w n = (
+  omega arith,
+  rw (append-more (map suc js) 9 (numbers is)),
+  group-allowed a js (numbers is) l (w .0) (numbers-more is n) (numbers-allowed a false is l (w .1) n),
+)
 
 -- Operators
 
@@ -296,7 +300,7 @@ settled-good a vs l b h =
       settled = settle-twice is;
       within = settled-within a is w;
       ends = settled-ends is n;
-      short = omega (arith, settled-length is, ap length p)
+      short = omega (arith, settled-length is, ap length p);
     })
 
 -- the reading of a given list, behind its count and behind its numbers
@@ -368,23 +372,28 @@ module _ (a : ℕ) (is : List Item) (xs : List ℕ) (g : GoodOperator (record { 
   write-default-read : numbers is ≡ numbers (default a) → ReadBack a is (toBits 1 0 ++ xs) xs
   unfolding read-strategy
   write-default-read e =
-      let l : a ≤ 7 = omega (arith, g .arity) in
-      (0, xs, field-toBits 1 0 xs (omega arith),
-      ap (λ (js : List Item). return js xs) (sym (items-numbers (default a) (within-more a 7 (default a) l (default-items a))) ∙ ap items (sym e) ∙ known))
+      let l : a ≤ 7 = omega (arith, g .arity) in (
+        0,
+        xs,
+        field-toBits 1 0 xs (omega arith),
+        ap (λ (js : List Item). return js xs) (sym (items-numbers (default a) (within-more a 7 (default a) l (default-items a))) ∙ ap items (sym e) ∙ known),
+      )
 
   write-given-read : ReadBack a is (toBits 1 1 ++ (toBits 5 (length (numbers is)) ++ concat (toBits 4) (numbers is)) ++ xs) xs
   unfolding read-strategy
   write-given-read =
       let n : ℕ = length (numbers is) in
-      let bs : List ℕ = concat (toBits 4) (numbers is) in
-      (1, toBits 5 n ++ (bs ++ xs),
-      ap (field 1) (append-assoc (toBits 1 1) (toBits 5 n ++ bs) xs ∙ ap (λ (ys : List ℕ). toBits 1 1 ++ ys) (append-assoc (toBits 5 n) bs xs))
-      ∙ field-toBits 1 1 (toBits 5 n ++ (bs ++ xs)) (omega arith),
-      bind-return (field 5) (counted a) (toBits 5 n ++ (bs ++ xs)) (bs ++ xs) n
-      (field-toBits 5 n (bs ++ xs) (g .short))
-      ∙ bind-return (read-numbers a false n) settled-items (bs ++ xs) xs (numbers is)
-      (read-back a false (numbers is) xs (numbers-allowed a true is (g .arity) (g .within) (g .ends)))
-      ∙ ap (λ (js : List Item). return js xs) (ap settle known ∙ g .settled))
+      let bs : List ℕ = concat (toBits 4) (numbers is) in (
+        1,
+        toBits 5 n ++ (bs ++ xs),
+        ap (field 1) (append-assoc (toBits 1 1) (toBits 5 n ++ bs) xs ∙ ap (λ (ys : List ℕ). toBits 1 1 ++ ys) (append-assoc (toBits 5 n) bs xs))
+            ∙ field-toBits 1 1 (toBits 5 n ++ (bs ++ xs)) (omega arith),
+        bind-return (field 5) (counted a) (toBits 5 n ++ (bs ++ xs)) (bs ++ xs) n
+            (field-toBits 5 n (bs ++ xs) (g .short))
+            ∙ bind-return (read-numbers a false n) settled-items (bs ++ xs) xs (numbers is)
+            (read-back a false (numbers is) xs (numbers-allowed a true is (g .arity) (g .within) (g .ends)))
+            ∙ ap (λ (js : List Item). return js xs) (ap settle known ∙ g .settled),
+      )
 
   write-strategy-read : ReadBack a is (write-strategy a is ++ xs) xs
   unfolding write-strategy

@@ -173,10 +173,11 @@ module _ (ops : List Operator) (meet : List ℕ → Symbol → Reader (List ℕ)
         λ (ss : Read (List Symbol)) g.
         let (k, e) = spelt-correct (symbolArity ops) (s .value) (ss .value) (g .0 .complete) in
         let l : length (s .value ∷ ss .value) ≤ 64 = (let m = g .0 .short in omega arith) in
-        answer
-        ( record { correct = k; short = subst (λ (ys : List Symbol). length ys ≤ 64) (sym e) l; fits = subst (All (Fits ops)) (sym e) (f .0, g .0 .fits) }
-        , subst Q (sym e) (c .1 (ss .value) (g .0 .checked))
-        , g .1)
+        answer (
+          record { correct = k; short = subst (λ (ys : List Symbol). length ys ≤ 64) (sym e) l; fits = subst (All (Fits ops)) (sym e) (f .0, g .0 .fits) },
+          subst Q (sym e) (c .1 (ss .value) (g .0 .checked)),
+          g .1,
+        )
 
     side-written : (t : Side) (xs : List ℕ) → length ops ≤ 256 → GoodSide ops t → Q (preorder t) → read-side ops start meet (write-side t ++ xs) ≡ return t xs
     unfolding read-side write-side
@@ -232,22 +233,30 @@ left-takes vs = record { took = took; takes = takes }
     took (Symbol.operator o) xs = answer (refl, λ ss h. h)
     took (Symbol.variable v) xs = elim (has-cases v vs) [
       | inl p ↦ rw (p .0) refusal
-      | inr p ↦ rw (p .0) (answer (refl, λ ss h.
-          ( (out-all v (variables ss) (λ i. h .1 v i (inl refl)), h .0)
-          , λ u i j. elim i [ inl e ↦ p .1 (subst (λ (x : ℕ). In x vs) e j) | inr k ↦ h .1 u k (inr j) ])))
+      | inr p ↦ rw (p .0) (answer (
+        refl,
+        λ ss h. (
+          (out-all v (variables ss) (λ i. h .1 v i (inl refl)), h .0),
+          λ u i j. elim i [ inl e ↦ p .1 (subst (λ (x : ℕ). In x vs) e j) | inr k ↦ h .1 u k (inr j) ],
+        ),
+      ))
     ]
 
     takes : (s : Symbol) (ss : List Symbol) → Unmet vs (s ∷ ss) → Taken (left-symbol vs) Unmet (Unmet vs) s ss
     takes (Symbol.operator o) ss h = (vs, λ xs. refl, h)
     takes (Symbol.variable v) ss h = elim (has-cases v vs) [
       | inl p ↦ absurd (h .1 v (inl refl) (p .1))
-      | inr p ↦
-          ( v ∷ vs
-          , λ xs. rw (p .0)
-          , (h .0 .1, λ u i j. elim j [
+      | inr p ↦ (
+        v ∷ vs,
+        λ xs. rw (p .0),
+        (
+          h .0 .1,
+          λ u i j. elim j [
             | inl e ↦ all-out v (variables ss) (h .0 .0) (subst (λ (x : ℕ). In x (variables ss)) e i)
             | inr k ↦ h .1 u (inr i) k
-          ]))
+          ],
+        ),
+      )
     ]
 
 right-takes : (vs : List ℕ) → Takes (right-symbol vs) Bound (Bound vs)

@@ -114,9 +114,10 @@ drop-repeats-new seen [] = tt
 drop-repeats-new seen (Item.whole ∷ is) = drop-repeats-new seen is
 drop-repeats-new seen (Item.argument i ∷ is) =
     argument-cases (New seen) seen i is (λ p. drop-repeats-new seen is) (λ p. (p, drop-repeats-new (i ∷ seen) is))
-drop-repeats-new seen (Item.group js ∷ is) =
-    (unseen-new seen js,
-    new-fewer (js ++ seen) (unseen seen js ++ seen) (drop-repeats (js ++ seen) is) (unseen-covered seen js seen) (drop-repeats-new (js ++ seen) is))
+drop-repeats-new seen (Item.group js ∷ is) = (
+  unseen-new seen js,
+  new-fewer (js ++ seen) (unseen seen js ++ seen) (drop-repeats (js ++ seen) is) (unseen-covered seen js seen) (drop-repeats-new (js ++ seen) is),
+)
 
 drop-groups-new : (seen : List ℕ) (is : List Item) → New seen is → New seen (drop-groups is)
 unfolding drop-groups
@@ -168,9 +169,10 @@ distinct-group : (seen js : List ℕ) (ss : List Step) → NewIn seen js → ((x
 unfolding group-steps
 distinct-group seen [] ss h u d = d
 distinct-group seen (i ∷ []) ss h u d = (u i (has-first i []), d)
-distinct-group seen (i ∷ j ∷ js) ss h u d =
-    (unnamed-group i (i ∷ seen) (j ∷ js) ss (has-first i seen) (h .1) (u i (has-first i (j ∷ js))),
-    distinct-group (i ∷ seen) (j ∷ js) ss (h .1) (λ x e. u x (has-more x i (j ∷ js) e)) d)
+distinct-group seen (i ∷ j ∷ js) ss h u d = (
+  unnamed-group i (i ∷ seen) (j ∷ js) ss (has-first i seen) (h .1) (u i (has-first i (j ∷ js))),
+  distinct-group (i ∷ seen) (j ∷ js) ss (h .1) (λ x e. u x (has-more x i (j ∷ js) e)) d,
+)
 
 distinct-layout : (seen : List ℕ) (is : List Item) → New seen is → Distinct (layout is)
 unfolding layout
