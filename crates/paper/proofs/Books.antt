@@ -15,12 +15,12 @@ use Rattle.paper.specs.Book.{Operator, Symbol, Side, Rule, Book, arity, 
 use Rattle.paper.specs.Reader.{read-operator, read-rule, read-count, all-zero, read-end, read-bits, readBook}
 use Rattle.paper.specs.Writer.{concat, numbers, same, write-strategy, write-operator, write-symbol, write-side, write-rule, writeBook}
 use Rattle.paper.specs.Sound.{All, Distinct, Within, SoundRule, Sound}
+use Rattle.paper.proofs.Lists.{all-append, all-map}
 use Rattle.paper.proofs.Tests.{ltb-true}
 use Rattle.paper.proofs.Readers.{accepted-injective, refused-accepted, return-accepted, then-accepted, bind-accepted, bind-return}
 use Rattle.paper.proofs.Bits.{field-toBits, field-bounded}
-use Rattle.paper.proofs.Bytes.{all-append, toBits-below, bits-below, bits-bytes}
-use Rattle.paper.proofs.Settling.{settled-distinct, layout-within}
-use Rattle.paper.proofs.Operators.{GoodOperator, read-operator-good, write-operator-read}
+use Rattle.paper.proofs.Bytes.{toBits-below, bits-below, bits-bytes}
+use Rattle.paper.proofs.Operators.{GoodOperator, good-distinct, good-within, read-operator-good, write-operator-read}
 use Rattle.paper.proofs.Rules.{GoodRule, read-rule-good, write-rule-read, good-sound}
 
 -- some bits
@@ -254,16 +254,6 @@ all-getD : {A : Type 0} (P : A → Type 0) (as′ : List A) (n : ℕ) (d : A) �
 all-getD P [] n d p h = p
 all-getD P (a ∷ as′) zero d p h = h .0
 all-getD P (a ∷ as′) (suc n) d p h = all-getD P as′ n d p (h .1)
-
-all-map : {A : Type 0} (P Q : A → Type 0) → ((a : A) → P a → Q a) → (as′ : List A) → All P as′ → All Q as′
-all-map P Q f [] h = tt
-all-map P Q f (a ∷ as′) h = (f a (h .0), all-map P Q f as′ (h .1))
-
-good-distinct : (o : Operator) → GoodOperator o → Distinct (layout (o .strategy))
-good-distinct o g = subst (λ (is : List Item). Distinct (layout is)) (g .settled) (settled-distinct (o .strategy))
-
-good-within : (o : Operator) → GoodOperator o → Within (o .arity) (layout (o .strategy))
-good-within o g = layout-within (o .arity) (o .strategy) (g .within)
 
 pub good-book-sound : (B : Book) → GoodBook B → Sound B
 unfolding steps

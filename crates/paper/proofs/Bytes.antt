@@ -11,14 +11,7 @@ use lib.Seq.{take-add, take-append-add, length-take-le}
 use Rattle.paper.specs.Bits.{toBits, value, bitsOf, bytesFrom, bytesOf}
 use Rattle.paper.specs.Sound.{All}
 use Rattle.paper.proofs.Bits.{value-bounded, all-take, all-drop}
-
-pub all-append : {A : Type 0} (P : A → Type 0) (xs ys : List A) → All P xs → All P ys → All P (xs ++ ys)
-all-append P [] ys h k = k
-all-append P (x ∷ xs) ys h k = (h .0, all-append P xs ys (h .1) k)
-
-pub all-replicate : {A : Type 0} (P : A → Type 0) (n : ℕ) (a : A) → P a → All P (replicate n a)
-all-replicate P zero a h = tt
-all-replicate P (suc n) a h = (h, all-replicate P n a h)
+use Rattle.paper.proofs.Lists.{all-append, all-replicate}
 
 pub toBits-below : (n v : ℕ) → All (λ x. x < 2) (toBits n v)
 unfolding toBits

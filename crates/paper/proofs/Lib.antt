@@ -1,3 +1,4 @@
+pub mod Lists
 pub mod Tests
 pub mod Readers
 pub mod Bits
@@ -23,3 +24,8 @@ pub mod Starred
 pub mod Fork
 pub mod Exit
 pub mod Entry
+pub mod Progress
+pub mod Course
+pub mod Joined
+pub mod Demand3
+pub mod OneUnit

@@ -13,36 +13,7 @@ use Rattle.paper.specs.Book.{Operator, Symbol, Term, Side, Rule, Book, a
 use Rattle.paper.specs.Match.{Filling, fill, fills, Matches, bind, and-then, match, matches, blank, rewrite}
 use Rattle.paper.specs.Reader.{variables}
 use Rattle.paper.specs.Sound.{In, All, Once, SoundRule}
-
--- Lists
-
-module _ {A : Type 0} where
-  pub all-map : (P Q : A → Type 0) → ((x : A) → P x → Q x) → (xs : List A) → All P xs → All Q xs
-  all-map P Q h [] a = tt
-  all-map P Q h (x ∷ xs) (p, a) = (h x p, all-map P Q h xs a)
-
-  pub all-in : (P : A → Type 0) (x : A) (xs : List A) → All P xs → In x xs → P x
-  all-in P x (y ∷ ys) (p, a) (inl e) = subst P (sym e) p
-  all-in P x (y ∷ ys) (p, a) (inr i) = all-in P x ys a i
-
-  pub all-of : (P : A → Type 0) (xs : List A) → ((x : A) → In x xs → P x) → All P xs
-  all-of P [] h = tt
-  all-of P (x ∷ xs) h = (h x (inl refl), all-of P xs (λ y i. h y (inr i)))
-
-  pub all-append : (P : A → Type 0) (xs ys : List A) → All P xs → All P ys → All P (xs ++ ys)
-  all-append P [] ys a b = b
-  all-append P (x ∷ xs) ys (p, a) b = (p, all-append P xs ys a b)
-
-  pub all-split : (P : A → Type 0) (xs ys : List A) → All P (xs ++ ys) → All P xs × All P ys
-  all-split P [] ys b = (tt, b)
-  all-split P (x ∷ xs) ys (p, c) = let (a, b) = all-split P xs ys c in ((p, a), b)
-
-pub once-split : (xs ys : List ℕ) → Once (xs ++ ys) → Once xs × Once ys × All (λ x. All (λ y. x ≢ y) ys) xs
-once-split [] ys o = (tt, o, tt)
-once-split (x ∷ xs) ys (a, o) =
-    let (b, c) = all-split (λ (y : ℕ). x ≢ y) xs ys a in
-    let (d, e, f) = once-split xs ys o in
-    ((b, d), e, (c, f))
+use Rattle.paper.proofs.Lists.{all-map, all-in, all-of, all-append, all-split, once-split}
 
 pub variables-append : (xs ys : List Symbol) → variables (xs ++ ys) ≡ variables xs ++ variables ys
 unfolding variables

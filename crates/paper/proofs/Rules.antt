@@ -14,6 +14,7 @@ use Rattle.paper.specs.Book.{Operator, Symbol, Side, Rule, Book, symbolA
 use Rattle.paper.specs.Reader.{read-symbol, read-symbols, read-side, left-root, left-symbol, right-symbol, variables, read-rule}
 use Rattle.paper.specs.Writer.{concat, write-symbol, write-side, write-rule}
 use Rattle.paper.specs.Sound.{In, All, Once, Known, IsOperator, SoundRule}
+use Rattle.paper.proofs.Lists.{all-map}
 use Rattle.paper.proofs.Bits.{field-toBits, field-bounded}
 use Rattle.paper.proofs.Readers.{accepted-injective, refused-accepted}
 use Rattle.paper.proofs.Tests.{ltb-cases, eqb-cases, has-cases}
@@ -324,18 +325,17 @@ module _ (ops : List Operator) where
       (side-written ops right-symbol Bound bound-none right-takes (right-symbol vs) (Bound vs) (right-takes vs) (r .right) xs l (h .right) (h .bound))
       refl))
 
-fits-known : (B : Book) (ss : List Symbol) → All (Fits (B .operators)) ss → All (Known B) ss
-fits-known B [] h = tt
-fits-known B (Symbol.operator o ∷ ss) h = (h .0, fits-known B ss (h .1))
-fits-known B (Symbol.variable v ∷ ss) h = (tt, fits-known B ss (h .1))
+fit-known : (B : Book) (s : Symbol) → Fits (B .operators) s → Known B s
+fit-known B (Symbol.operator o) h = h
+fit-known B (Symbol.variable v) h = tt
 
 -- a good rule is sound
 pub good-sound : (B : Book) (r : Rule) → GoodRule (B .operators) r → SoundRule B r
 good-sound B r h = record {
   left = h .left .correct;
   right = h .right .correct;
-  left-known = fits-known B (preorder (r .left)) (h .left .fits);
-  right-known = fits-known B (preorder (r .right)) (h .right .fits);
+  left-known = all-map (Fits (B .operators)) (Known B) (fit-known B) (preorder (r .left)) (h .left .fits);
+  right-known = all-map (Fits (B .operators)) (Known B) (fit-known B) (preorder (r .right)) (h .right .fits);
   root = h .root;
   once = h .once;
   bound = h .bound;

@@ -1,0 +1,5 @@
+pub mod Bytes
+pub mod Splice
+pub mod Place
+pub mod Reading
+pub mod Writing
