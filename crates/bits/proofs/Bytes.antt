@@ -1,5 +1,5 @@
 -- Numbers side by side have their bits one after another, and so have bytes. Assumes nothing.
-use mathlib.Core.List.{List, [], _∷_, _++_, append-assoc}
+use mathlib.Core.List.{List, _∷_, _++_, append-assoc}
 use mathlib.Core.Path.{_≡_, refl, sym, ap, ap₂, _∙_}
 use Prim.Native.Nat.{ℕ, zero, suc, _+_, _*_, _/_, _%_, _^_, _≤_, _<_}
 use native.Mathlib.Nat.{zero-add, suc-add, add-comm, suc-mul, mul-le-mul-right}
@@ -8,6 +8,7 @@ use lib.ListN.{length, take, drop, take-append-drop}
 use lib.Pow.{shr-shr, high, low, field, mod-mod-pow, pow-add}
 use lib.Seq.{take-at, length-take-le}
 use Rattle.paper.specs.Bits.{toBits, bitsOf}
+use Rattle.paper.proofs.Bytes.{length-bitsOf, bitsOf-append}
 
 -- the m bits above the n low ones, and these
 split : (m n v : ℕ) → toBits (m + n) v ≡ toBits m (v / 2 ^ n) ++ toBits n v
@@ -50,16 +51,6 @@ three r n m h u l i j =
 pub three-lt : (r n m h u l : ℕ) → h < 2 ^ r → u < 2 ^ n → l < 2 ^ m →
     (h * 2 ^ n + u < 2 ^ (r + n)) × ((h * 2 ^ n + u) * 2 ^ m + l < 2 ^ ((r + n) + m))
 three-lt r n m h u l i j k = let y = two-lt r n h u i j in (y, two-lt (r + n) m (h * 2 ^ n + u) l y k)
-
-pub length-bitsOf : (bytes : List ℕ) → length (bitsOf bytes) ≡ 8 * length bytes
-unfolding bitsOf
-length-bitsOf [] = refl
-length-bitsOf (b ∷ bytes) = simp (length-bitsOf bytes) (omega arith)
-
-pub bitsOf-append : (xs ys : List ℕ) → bitsOf (xs ++ ys) ≡ bitsOf xs ++ bitsOf ys
-unfolding bitsOf
-bitsOf-append [] ys = refl
-bitsOf-append (x ∷ xs) ys = ap (λ (l : List ℕ). toBits 8 x ++ l) (bitsOf-append xs ys)
 
 pub bitsOf-take : (k : ℕ) (bytes : List ℕ) → k ≤ length bytes → bitsOf (take k bytes) ≡ take (8 * k) (bitsOf bytes)
 bitsOf-take k bytes h =

@@ -10,9 +10,10 @@ use lib.Seq.{take-length, length-take-le, set-getD, take-append-add, drop-at, dr
 use Rattle.paper.specs.Result.{return}
 use Rattle.paper.specs.Bits.{toBits, bitsOf, field}
 use Rattle.paper.proofs.Bits.{length-toBits, field-toBits}
+use Rattle.paper.proofs.Bytes.{length-bitsOf, bitsOf-append}
 use Rattle.bits.specs.Field.{splice}
 use Rattle.bits.specs.Window.{Window, set3, renewed}
-use Rattle.bits.proofs.Bytes.{three, length-bitsOf, bitsOf-append, bitsOf-take}
+use Rattle.bits.proofs.Bytes.{three, bitsOf-take}
 use Rattle.bits.proofs.Splice.{splice-middle}
 
 -- three bytes from i on: the list with them, cut where it ended

@@ -9,12 +9,11 @@ use lib.ListN.{length, take, drop, length-take, length-drop}
 use Rattle.paper.specs.Result.{refused, return, refuse}
 use Rattle.paper.specs.Bits.{bitsOf, field}
 use Rattle.paper.proofs.Bits.{all-drop, field-bounded}
-use Rattle.paper.proofs.Bytes.{bits-below}
+use Rattle.paper.proofs.Bytes.{bits-below, length-bitsOf}
 use Rattle.bits.specs.declared.Bits as D
 use Rattle.bits.specs.declared.Bits.the-variants.{Value, Out}
 use Rattle.bits.specs.Field.{Answers}
 use Rattle.bits.specs.Window.{Window}
-use Rattle.bits.proofs.Bytes.{length-bitsOf}
 use Rattle.bits.proofs.Place.{read-window}
 
 -- how many bits stand from a position on

@@ -9,8 +9,8 @@ use lib.Seq.{drop-drop}
 use Rattle.paper.specs.Result.{if, return, refuse, then}
 use Rattle.paper.specs.Bits.{toBits, value, bitsOf, field}
 use Rattle.paper.proofs.Bits.{length-toBits, field-toBits}
+use Rattle.paper.proofs.Bytes.{length-bitsOf}
 use Rattle.bits.specs.Field.{Written}
-use Rattle.bits.proofs.Bytes.{length-bitsOf}
 use Rattle.bits.proofs.Splice.{splice-here, splice-up-to, splice-before, splice-behind}
 
 -- a field's value depends on its own bits alone

@@ -9,6 +9,7 @@ pub mod Line
 pub mod Rules
 pub mod Bytes
 pub mod Books
+pub mod Prefix
 pub mod Matching
 pub mod Figure
 pub mod Steps

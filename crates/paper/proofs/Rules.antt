@@ -37,7 +37,7 @@ pub record GoodRule (ops : List Operator) (r : Rule) : Type 0 where
   pub once : Once (variables (preorder (r .left)))
   pub bound : (v : ℕ) → In v (variables (preorder (r .right))) → In v (variables (preorder (r .left)))
 
-abbrev Bits : List ℕ → Type 0
+abbrev pub Bits : List ℕ → Type 0
 Bits xs = All (λ x. x < 2) xs
 
 -- What a reader's answer ensures
