@@ -1,0 +1,4 @@
+pub mod Consumed
+pub mod Mask
+pub mod Symbols
+pub mod Sides

@@ -1,0 +1,58 @@
+-- `side::read_rest` meets its contract. The loop's invariant: what answers for the rest answers for the whole; the terms due stay small.
+-- The measure is the symbols that may follow. Assumes nothing.
+use Rattle.side.specs.Side.{RestAt}
+use Rattle.side.specs.declared.Rest as Re
+use Rattle.side.proofs.Sides.{rest-done, rest-full, rest-refused, rest-took}
+use mathlib.Core.Path.{refl}
+use Prim.Native.Nat.{_+_, _*_, _-_, _≤_}
+use native.Mathlib.Omega.{arith}
+use borrow.Author.Needs.{needs}
+use Rattle.side.proofs.read_rest.Statement.{statement}
+use Rattle.side.proofs.read_rest.Tie as tie
+
+abbrev Inv-loop : tie.InvT-loop
+Inv-loop book at n arities mask left due room p₀ met₀ owed₀ free₀ p met owed free =
+    (owed + 255 * free ≤ 65280) × ((r : Re.Rest) → RestAt book p n arities met left owed free r → RestAt book at n arities mask left due room r)
+
+abbrev μ-loop : tie.MeasureT-loop
+μ-loop book at n arities mask left due room p₀ met₀ owed₀ free₀ p met owed free = free
+
+loop-holds : tie.Need-loop-holds Inv-loop μ-loop
+loop-holds c = (omega arith, λ r q. q)
+
+returns : tie.Need-returns Inv-loop μ-loop
+returns c = c .before .before .loop .inv .1 _ (rest-done _ _ _ _ _ _ _ _ (c .if1 .taken))
+
+returns-2 : tie.Need-returns-2 Inv-loop μ-loop
+returns-2 c =
+    let t = c .before .before .before in
+    let l = t .before .before .before in
+    l .loop .inv .1 _
+    (rest-refused _ _ _ _ _ _ _ _ _ (t .before .if1 .left) (t .before .before .loop-test .taken) (rw (c .before .k .given .1) at (t .take .ensures)))
+
+add-owed : tie.Need-add-owed Inv-loop μ-loop
+add-owed c =
+    let s = rw (c .before .arity .given .1) at (c .before .before .before .take .ensures .narrow) in
+    omega arith
+
+loop-again : tie.Need-loop-again Inv-loop μ-loop
+loop-again c =
+    let s = rw (c .before .arity .given .1) at (c .before .before .before .take .ensures) in
+    let t = c .before .before .before in
+    let l = t .before .before .before in
+    let b = s .narrow in (
+      omega arith,
+      λ r q. l .loop .inv .1 r (rest-took _ _ _ _ _ _ _ _ _ _ _ _ _ r (t .before .if1 .left) (t .before .before .loop-test .taken) s refl refl q),
+    )
+
+returns-3 : tie.Need-returns-3 Inv-loop μ-loop
+returns-3 c = c .before .before .loop .inv .1 _ (rest-done _ _ _ _ _ _ _ _ (c .if2 .taken))
+
+returns-4 : tie.Need-returns-4 Inv-loop μ-loop
+returns-4 c = c .before .before .loop .inv .1 _ (rest-full _ _ _ _ _ _ _ _ (c .if2 .left) (omega arith))
+
+pub read-rest-spec : {M : Type 1} → statement M
+read-rest-spec =
+    tie.close
+    (tie.spec Inv-loop μ-loop loop-holds returns (λ c κs. search needs) (λ c. search needs) returns-2 (λ c. search needs) (λ c. search needs)
+    add-owed (λ c. search needs) (λ c. search needs) loop-again returns-3 returns-4)
