@@ -250,7 +250,7 @@ round-trip bytes B e = write-read B (read-book-good bytes B e)
 
 -- What is read is sound
 
-all-getD : {A : Type 0} (P : A → Type 0) (as′ : List A) (n : ℕ) (d : A) → P d → All P as′ → P (getD as′ n d)
+pub all-getD : {A : Type 0} (P : A → Type 0) (as′ : List A) (n : ℕ) (d : A) → P d → All P as′ → P (getD as′ n d)
 all-getD P [] n d p h = p
 all-getD P (a ∷ as′) zero d p h = h .0
 all-getD P (a ∷ as′) (suc n) d p h = all-getD P as′ n d p (h .1)

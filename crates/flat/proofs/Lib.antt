@@ -1,0 +1,17 @@
+pub mod Starred
+pub mod Offsets
+pub mod Matching
+pub mod Steps
+pub mod Stacks
+pub mod Lists
+pub mod Places
+pub mod Apart
+pub mod Relation
+pub mod Entry
+pub mod Run
+pub mod Bounds
+pub mod Counts
+pub mod Heights
+pub mod Lengths
+pub mod Rules
+pub mod Indices

@@ -1,0 +1,5 @@
+pub mod Symbols
+pub mod Machine
+pub mod Run
+pub mod Rules
+pub mod Relation

@@ -1,0 +1,14 @@
+-- `stack::lower_at` meets its contract: the frame at index i is put back with its count lowered. Assumes nothing.
+use borrow.Author.Needs.{needs}
+use Rattle.stack.proofs.Stacks.{lowered}
+use Rattle.stack.proofs.lower_at.Statement.{statement}
+use Rattle.stack.proofs.lower_at.Tie as tie
+
+returns : tie.Need-returns
+returns c =
+    let put = c .before .before .put-bytes in
+    let low = c .before .before .before .lowered in
+    lowered _ _ (rw (← low .ensures _) (put .ensures))
+
+pub lower-at-spec : {M : Type 1} → statement M
+lower-at-spec = tie.close (tie.spec (λ c. search needs) (λ c. search needs) (λ c. search needs) (λ c. search needs) (λ c. search needs) (λ c. search needs) (λ c. search needs) (λ c κs. search needs) (λ c κs. search needs) (λ c. search needs) returns)

@@ -1,0 +1,38 @@
+-- `units::lowest_idle` meets its contract: the loop's invariant: the whole search gives what the search from unit u gives. Assumes nothing.
+use mathlib.Core.List.{List}
+use mathlib.Core.Path.{_≡_, refl, _∙_}
+use Prim.Native.Nat.{ℕ, _-_, _≤_}
+use native.Mathlib.Omega.{arith}
+use borrow.Author.Needs.{needs}
+use Rattle.flat.specs.Machine.{idle, idle-from}
+use Rattle.units.specs.Units.{units-from, units-of}
+use Rattle.units.proofs.Loops.{idle-start, idle-next, idle-here, idle-none}
+use Rattle.units.proofs.lowest_idle.Statement.{statement}
+use Rattle.units.proofs.lowest_idle.Tie as tie
+
+abbrev Inv-loop : tie.InvT-loop
+Inv-loop busy n u₀ u = (1 ≤ u) × ((w h : List ℕ) → idle (units-of w busy h n) ≡ idle-from u (units-from w busy h u (n - u)))
+
+abbrev μ-loop : tie.MeasureT-loop
+μ-loop busy n u₀ u = n - u
+
+loop-holds : tie.Need-loop-holds Inv-loop μ-loop
+loop-holds c = (omega arith, λ w h. idle-start w _ h _)
+
+returns : tie.Need-returns Inv-loop μ-loop
+returns c =
+    let l = c .before .before .before in
+    let i = l .loop .inv in
+    record { units = λ w h. i .1 w h ∙ idle-here w _ h _ _ (c .if1 .taken) (omega arith); other = (i .0, c .before .before .loop-test .taken) }
+
+loop-again : tie.Need-loop-again Inv-loop μ-loop
+loop-again c =
+    let l = c .before .before .before in
+    (omega arith, λ w h. l .loop .inv .1 w h ∙ idle-next w _ h _ _ _ _ (c .if1 .left) refl (omega arith))
+
+returns-2 : tie.Need-returns-2 Inv-loop μ-loop
+returns-2 c =
+    record { units = λ w h. c .before .loop .inv .1 w h ∙ idle-none w _ h _ _ (omega arith); other = tt }
+
+pub lowest-idle-spec : {M : Type 1} → statement M
+lowest-idle-spec = tie.close (tie.spec Inv-loop μ-loop loop-holds (λ c. search needs) returns (λ c. search needs) (λ c. search needs) loop-again returns-2)

@@ -1,0 +1,17 @@
+-- `units::push` meets its contract: a frame is put above the highest of unit u. Assumes nothing.
+use mathlib.Core.Path.{refl}
+use native.Mathlib.Omega.{arith}
+use borrow.Author.Needs.{needs}
+use Rattle.units.proofs.Changes.{pushes}
+use Rattle.units.proofs.push.Statement.{statement}
+use Rattle.units.proofs.push.Tie as tie
+
+returns : tie.Need-returns
+returns c =
+    let s = c .before .before .before .before .before .before .before .before in
+    pushes (c .before .before .put-frame .ensures) _ _ _ _ (s .pre .1) (s .pre .2) (omega arith) (omega arith) refl
+
+pub push-spec : {M : Type 1} → statement M
+push-spec =
+    tie.close (tie.spec (λ c. search needs) (λ c. search needs) (λ c κs. search needs) (λ c κs. search needs) (λ c. search needs)
+    (λ c κs. search needs) (λ c. search needs) (λ c. search needs) (λ c. search needs) (λ c. search needs) returns)
