@@ -174,20 +174,20 @@ spelt a g e (v ∷ vs) m h =
 -- Reading numbers
 
 -- the rest of the reading behind a number v
-unfoldable rest : ℕ → Bool → ℕ → ℕ → Reader (List ℕ)
+unfoldable pub rest : ℕ → Bool → ℕ → ℕ → Reader (List ℕ)
 unfolding refuse
 rest a g n v = elim (allowed a g (eqb n 0) v) [ false ↦ refuse 3 | true ↦ read-numbers a (grouped-after g v) n >>= (λ vs. return (v ∷ vs)) ]
 
-read-numbers-suc : (a : ℕ) (g : Bool) (n : ℕ) (xs : List ℕ) → read-numbers a g (suc n) xs ≡ (field 4 >>= rest a g n) xs
+pub read-numbers-suc : (a : ℕ) (g : Bool) (n : ℕ) (xs : List ℕ) → read-numbers a g (suc n) xs ≡ (field 4 >>= rest a g n) xs
 unfolding read-numbers rest
 read-numbers-suc a g n xs = refl
 
-rest-allowed : (a : ℕ) (g : Bool) (n v : ℕ) (xs : List ℕ) → allowed a g (eqb n 0) v ≡ true →
+pub rest-allowed : (a : ℕ) (g : Bool) (n v : ℕ) (xs : List ℕ) → allowed a g (eqb n 0) v ≡ true →
     rest a g n v xs ≡ (read-numbers a (grouped-after g v) n >>= (λ vs. return (v ∷ vs))) xs
 unfolding rest
 rest-allowed a g n v xs e = rw (e, rest)
 
-rest-refused : (a : ℕ) (g : Bool) (n v : ℕ) (xs : List ℕ) → allowed a g (eqb n 0) v ≡ false → rest a g n v xs ≡ refused 3
+pub rest-refused : (a : ℕ) (g : Bool) (n v : ℕ) (xs : List ℕ) → allowed a g (eqb n 0) v ≡ false → rest a g n v xs ≡ refused 3
 unfolding rest
 rest-refused a g n v xs e = rw (e, rest)
 
@@ -217,6 +217,11 @@ read-allowed a g (suc n) xs r h e =
     let (v, p, q) = bind-accepted (field 4) (rest a g n) xs r (sym (read-numbers-suc a g n xs) ∙ e) in
     let (b, l) = field-bounded 4 xs v h p in
     rest-read a g n (v .value) (v .left) r b (λ s. read-allowed a (grouped-after g (v .value)) n (v .left) s l) q
+
+-- numbers that are read outside a group are those of some items
+pub read-spelt : (a n : ℕ) (xs : List ℕ) (r : Read (List ℕ)) → All (λ x. x < 2) xs → read-numbers a false n xs ≡ accepted r →
+    (is : List Item) × (r .value ≡ numbers is) × ItemsWithin a is × EndsWhole is
+read-spelt a n xs r h e = let (l, k, t) = read-allowed a false n xs r h e in spelt a false true (r .value) (outside (length (r .value))) k
 
 -- numbers that may stand here are read back
 read-back : (a : ℕ) (g : Bool) (vs xs : List ℕ) → Allowed a g vs → read-numbers a g (length vs) (concat (toBits 4) vs ++ xs) ≡ return vs xs
@@ -311,10 +316,10 @@ abbrev counted : ℕ → ℕ → Reader (List Item)
 counted a n = read-numbers a false n >>= settled-items
 
 -- what reading a strategy leaves
-abbrev StrategyRead : ℕ → Read (List Item) → Type 0
+abbrev pub StrategyRead : ℕ → Read (List Item) → Type 0
 StrategyRead a r = GoodOperator (record { arity = a; strategy = r .value }) × All (λ x. x < 2) (r .left)
 
-read-strategy-good : (a given : ℕ) (xs : List ℕ) (r : Read (List Item)) → a < 8 → All (λ x. x < 2) xs → read-strategy a given xs ≡ accepted r →
+pub read-strategy-good : (a given : ℕ) (xs : List ℕ) (r : Read (List Item)) → a < 8 → All (λ x. x < 2) xs → read-strategy a given xs ≡ accepted r →
     StrategyRead a r
 unfolding read-strategy
 read-strategy-good a zero xs r l h e = return-accepted (default a) xs r (StrategyRead a) e (default-good a l, h)

@@ -1,0 +1,6 @@
+pub mod Readers
+pub mod Grow
+pub mod Operators
+pub mod Rules
+pub mod Parts
+pub mod Laws
