@@ -1,0 +1,266 @@
+//! The model with one slip, to show that the comparison finds slips.
+//!
+//! Slips are put in from outside, so that the model itself stays plain. Those
+//! of runs are the document's own list of where hands slip.
+
+use crate::model::{self, Answer, Book, Filling, Item, Machine, Order, Pattern};
+use crate::subject::{hand_over, ModelSubject, Question, Subject, Told, Written, MODEL_PUBLISHED};
+
+#[derive(Clone, Copy, Debug, PartialEq, Eq)]
+pub enum Slip {
+    /// A woken unit's top JOIN is taken as passed.
+    Join,
+    /// A rewrite forgets more than that term's orders.
+    List,
+    /// 0s are collapsed before repeated arguments are dropped.
+    Zeros,
+    /// The longest left side is tried first.
+    Longest,
+    /// A variable's copies count once in the new size.
+    Copies,
+    /// The schedule is checked before the line.
+    Order,
+    /// One byte after the term is cleared.
+    Spill,
+    /// The work area is cleared before the checks.
+    Work,
+    /// A further byte 0 after the book is let through.
+    Padding,
+    /// Lists are written as they were given.
+    Given,
+}
+
+pub const SLIPS: [(&str, Slip); 10] = [
+    ("join", Slip::Join),
+    ("list", Slip::List),
+    ("zeros", Slip::Zeros),
+    ("longest", Slip::Longest),
+    ("copies", Slip::Copies),
+    ("order", Slip::Order),
+    ("spill", Slip::Spill),
+    ("work", Slip::Work),
+    ("padding", Slip::Padding),
+    ("given", Slip::Given),
+];
+
+pub struct BrokenModel {
+    pub slip: Slip,
+}
+
+impl Subject for BrokenModel {
+    fn published(&self) -> usize {
+        MODEL_PUBLISHED
+    }
+
+    fn answer(&mut self, question: &Question, work: &mut [u8], output: &mut [u8]) -> Told {
+        if self.slip == Slip::Work {
+            work.fill(0);
+        }
+        let answer = self.broken_answer(question, work.len(), output.len());
+        let told = hand_over(answer, output);
+        if self.slip == Slip::Spill && told.refusal == 0 && told.length < output.len() {
+            output[told.length] = 0;
+        }
+        told
+    }
+
+    fn written(&mut self, book: &[u8], output: &mut [u8]) -> Written {
+        match (self.slip, model::read_book(book)) {
+            (Slip::Given, Ok(book)) => write_given(book, output),
+            _ => ModelSubject.written(book, output),
+        }
+    }
+}
+
+impl BrokenModel {
+    fn broken_answer(&self, question: &Question, work: usize, output: usize) -> Result<Answer, u8> {
+        model::check_frame(question.units, work, output, MODEL_PUBLISHED)?;
+        let book = self.broken_book(question.book)?;
+        if self.slip == Slip::Order {
+            model::check_schedule(question.schedule, question.units)?;
+        }
+        let line = model::read_line(&book, question.line)?;
+        model::check_schedule(question.schedule, question.units)?;
+        let mut machine = Machine::new(&book, line, question.units, question.budget);
+        let ending = self.run(&mut machine, question.schedule);
+        Ok(machine.answer(ending))
+    }
+
+    fn broken_book(&self, bytes: &[u8]) -> Result<Book, u8> {
+        let bytes = match bytes {
+            [before @ .., 0] if self.slip == Slip::Padding && model::read_book(before).is_ok() => {
+                before
+            }
+            _ => bytes,
+        };
+        let mut book = model::read_book(bytes)?;
+        match self.slip {
+            Slip::Zeros => settle_zeros_first(&mut book),
+            Slip::Longest => book.rules.sort_by_key(|rule| usize::MAX - rule.left.size()),
+            _ => {}
+        }
+        Ok(book)
+    }
+
+    fn run(&self, machine: &mut Machine, schedule: &[u8]) -> u8 {
+        for &unit in schedule {
+            let unit = usize::from(unit);
+            drop_stray_orders(machine, unit);
+            let ending = match self.slip {
+                Slip::Join => entry_passing_joins(machine, unit),
+                Slip::List => entry_forgetting_list(machine, unit),
+                Slip::Copies => entry_counting_copies_once(machine, unit),
+                _ => machine.entry(unit),
+            };
+            if let Some(ending) = ending {
+                return ending;
+            }
+        }
+        model::ending::CUT
+    }
+}
+
+fn settle_zeros_first(book: &mut Book) {
+    for operator in &mut book.operators {
+        if let Some(given) = &operator.given {
+            let mut items = given.clone();
+            items.dedup_by(|item, before| *item == Item::Whole && *before == Item::Whole);
+            operator.strategy = settle_without_zeros(&items);
+        }
+    }
+}
+
+/// Settles each stretch between 0s by itself, so that no 0s meet.
+fn settle_without_zeros(items: &[Item]) -> Vec<Item> {
+    let mut seen = Vec::new();
+    let mut settled = Vec::new();
+    for item in items {
+        if *item == Item::Whole {
+            settled.push(Item::Whole);
+            continue;
+        }
+        seen.push(item.clone());
+        let with_item = model::settle(&seen);
+        let before = model::settle(&seen[..seen.len() - 1]);
+        settled.extend_from_slice(&with_item[before.len()..]);
+    }
+    settled
+}
+
+fn entry_passing_joins(machine: &mut Machine, unit: usize) -> Option<u8> {
+    let idle: Vec<usize> = (0..machine.units.len())
+        .filter(|&other| !machine.units[other].busy)
+        .collect();
+    let is_exit = matches!(machine.units[unit].orders.last(), Some(Order::Exit { .. }));
+    let ending = machine.entry(unit);
+    for other in idle {
+        let woken = &mut machine.units[other];
+        if let (true, true, Some(Order::Join { count })) =
+            (is_exit, woken.busy, woken.orders.last_mut())
+        {
+            *count = 0;
+        }
+    }
+    ending
+}
+
+/// EXIT, JOIN and the lowest order are spared; without them no run would
+/// come far enough to show the slip.
+fn entry_forgetting_list(machine: &mut Machine, unit: usize) -> Option<u8> {
+    let rewrites = machine.rewrites;
+    let ending = machine.entry(unit);
+    if machine.rewrites > rewrites {
+        let orders = &mut machine.units[unit].orders;
+        let visit = orders.pop().expect("a rewrite leaves a VISIT on top");
+        while matches!(
+            orders.last(),
+            Some(Order::Visit(_) | Order::Fork { .. } | Order::Whole { .. })
+        ) {
+            orders.pop();
+        }
+        orders.push(visit);
+    }
+    ending
+}
+
+fn entry_counting_copies_once(machine: &mut Machine, unit: usize) -> Option<u8> {
+    let more = match machine.units[unit].orders.last() {
+        Some(Order::Whole { term, .. }) => machine
+            .term
+            .part(term)
+            .map_or(0, |part| copied(machine.book, part)),
+        _ => 0,
+    };
+    machine.size_limit = model::TERM_LIMIT + more;
+    machine.entry(unit)
+}
+
+/// The symbols of all copies but the first in the rewrite that is due.
+fn copied(book: &Book, part: &model::Term) -> usize {
+    let Some((rule, filling)) = book.first_match(part) else {
+        return 0;
+    };
+    let mut seen = Vec::new();
+    rule.right.filled_size(&filling) - size_with_copies_once(&rule.right, &filling, &mut seen)
+}
+
+fn size_with_copies_once(side: &Pattern, filling: &Filling, seen: &mut Vec<u8>) -> usize {
+    match side {
+        Pattern::Variable(variable) if seen.contains(variable) => 0,
+        Pattern::Variable(variable) => {
+            seen.push(*variable);
+            side.filled_size(filling)
+        }
+        Pattern::Operator(_, arguments) => {
+            let sizes = arguments
+                .iter()
+                .map(|argument| size_with_copies_once(argument, filling, seen));
+            1 + sizes.sum::<usize>()
+        }
+    }
+}
+
+/// A slip can leave orders whose part or JOIN is gone. The model would stop
+/// there, and nothing would be left to compare.
+fn drop_stray_orders(machine: &mut Machine, unit: usize) {
+    while machine.units[unit].busy && has_stray_top(machine, unit) {
+        machine.units[unit].orders.pop();
+    }
+}
+
+fn has_stray_top(machine: &Machine, unit: usize) -> bool {
+    let is_open_join = |unit: usize, join: usize| {
+        matches!(
+            machine.units[unit].orders.get(join),
+            Some(Order::Join { count: 1.. })
+        )
+    };
+    match machine.units[unit].orders.last() {
+        Some(Order::Visit(term) | Order::Whole { term, .. }) => machine.term.part(term).is_none(),
+        Some(Order::Fork { join, .. }) => !is_open_join(unit, *join),
+        Some(Order::Exit { unit, join }) => !is_open_join(*unit, *join),
+        _ => false,
+    }
+}
+
+fn write_given(mut book: Book, output: &mut [u8]) -> Written {
+    for operator in &mut book.operators {
+        if let Some(given) = operator.given.take() {
+            operator.strategy = given;
+        }
+    }
+    let bytes = model::write_book(&book);
+    match output.get_mut(..bytes.len()) {
+        None => Written {
+            refusal: model::refusal::OUTPUT,
+            length: 0,
+        },
+        Some(front) => {
+            front.copy_from_slice(&bytes);
+            Written {
+                refusal: 0,
+                length: bytes.len(),
+            }
+        }
+    }
+}

@@ -1,0 +1,187 @@
+//! Books and whole cases as drafts: fields that may break any rule, so that
+//! they can be spoiled on purpose, encoded as they are, and shrunk.
+
+use crate::model::{Packer, OUTPUT_LEN};
+
+#[derive(Clone, Copy, Debug, PartialEq, Eq)]
+pub enum Symbol {
+    Operator(u8),
+    Variable(u8),
+}
+
+#[derive(Clone, Debug, Default, PartialEq, Eq)]
+pub struct OperatorDraft {
+    pub arity: u8,
+    /// 4-bit items, at most 31.
+    pub strategy: Option<Vec<u8>>,
+}
+
+/// Two sides in preorder.
+#[derive(Clone, Debug, PartialEq, Eq)]
+pub struct RuleDraft {
+    pub left: Vec<Symbol>,
+    pub right: Vec<Symbol>,
+}
+
+/// At most 255 operators and 255 rules.
+#[derive(Clone, Debug, Default, PartialEq, Eq)]
+pub struct Draft {
+    pub operators: Vec<OperatorDraft>,
+    pub rules: Vec<RuleDraft>,
+}
+
+impl Draft {
+    pub fn encode(&self) -> Vec<u8> {
+        let mut packer = Packer::default();
+        packer.put(self.operators.len() as u8, 8);
+        for operator in &self.operators {
+            encode_operator(&mut packer, operator);
+        }
+        packer.put(self.rules.len() as u8, 8);
+        for rule in &self.rules {
+            encode_side(&mut packer, &rule.left);
+            encode_side(&mut packer, &rule.right);
+        }
+        packer.into_bytes()
+    }
+
+    /// A variable, or an operator unknown to the draft, has no arguments.
+    pub fn arity(&self, symbol: Symbol) -> usize {
+        match symbol {
+            Symbol::Variable(_) => 0,
+            Symbol::Operator(operator) => self
+                .operators
+                .get(usize::from(operator))
+                .map_or(0, |known| known.arity.into()),
+        }
+    }
+
+    /// Where the part that starts at `start` ends, if it is complete.
+    pub fn part_end(&self, symbols: &[Symbol], start: usize) -> Option<usize> {
+        let mut due = 1;
+        let mut end = start;
+        while due > 0 {
+            due += self.arity(*symbols.get(end)?);
+            due -= 1;
+            end += 1;
+        }
+        Some(end)
+    }
+}
+
+fn encode_operator(packer: &mut Packer, operator: &OperatorDraft) {
+    packer.put(operator.arity, 3);
+    match &operator.strategy {
+        None => packer.put(0, 1),
+        Some(items) => {
+            packer.put(1, 1);
+            packer.put(items.len() as u8, 5);
+            for item in items {
+                packer.put(*item, 4);
+            }
+        }
+    }
+}
+
+fn encode_side(packer: &mut Packer, side: &[Symbol]) {
+    for symbol in side {
+        match symbol {
+            Symbol::Operator(operator) => {
+                packer.put(0, 1);
+                packer.put(*operator, 8);
+            }
+            Symbol::Variable(variable) => {
+                packer.put(1, 1);
+                packer.put(*variable, 4);
+            }
+        }
+    }
+}
+
+/// A change to a book's bytes after encoding.
+#[derive(Clone, Debug, PartialEq, Eq)]
+pub enum Damage {
+    /// Turns one bit, counted from the book's end so that it stays near the
+    /// same field while the book is shrunk.
+    Flip(usize),
+    /// Drops up to so many last bytes.
+    Cut(usize),
+    Add(u8),
+    Replace(Vec<u8>),
+}
+
+impl Damage {
+    pub fn apply(&self, bytes: &mut Vec<u8>) {
+        match self {
+            Damage::Flip(_) if bytes.is_empty() => {}
+            Damage::Flip(bit) => {
+                let bit = bit % (bytes.len() * 8);
+                let place = bytes.len() - 1 - bit / 8;
+                bytes[place] ^= 1 << (bit % 8);
+            }
+            Damage::Cut(count) => bytes.truncate(bytes.len().saturating_sub(*count)),
+            Damage::Add(byte) => bytes.push(*byte),
+            Damage::Replace(other) => bytes.clone_from(other),
+        }
+    }
+}
+
+/// One question to an implementation.
+#[derive(Clone, Debug, PartialEq, Eq)]
+pub struct Case {
+    pub draft: Draft,
+    pub damage: Vec<Damage>,
+    pub line: Vec<u8>,
+    pub units: u8,
+    pub budget: u32,
+    pub schedule: Vec<u8>,
+    /// The work area's length less the published length, which depends on
+    /// the implementation.
+    pub work_offset: isize,
+    pub output_len: usize,
+    /// The room lent to the book writer less the length of the written book.
+    pub writer_offset: isize,
+}
+
+impl Case {
+    /// A case without fault in its frame.
+    pub fn new(draft: Draft, line: Vec<u8>, units: u8, budget: u32, schedule: Vec<u8>) -> Case {
+        Case {
+            draft,
+            damage: Vec::new(),
+            line,
+            units,
+            budget,
+            schedule,
+            work_offset: 0,
+            output_len: OUTPUT_LEN,
+            writer_offset: 0,
+        }
+    }
+
+    pub fn book(&self) -> Vec<u8> {
+        let mut bytes = self.draft.encode();
+        for damage in &self.damage {
+            damage.apply(&mut bytes);
+        }
+        bytes
+    }
+
+    pub fn work_len(&self, published: usize) -> usize {
+        published.saturating_add_signed(self.work_offset)
+    }
+
+    /// The program's input for this case, where the lengths fit their fields.
+    pub fn input(&self) -> Option<Vec<u8>> {
+        let mut input = Vec::new();
+        for announced in [&self.book(), &self.line] {
+            let length = u16::try_from(announced.len()).ok()?;
+            input.extend(length.to_be_bytes());
+            input.extend(announced);
+        }
+        input.push(self.units);
+        input.extend(self.budget.to_be_bytes());
+        input.extend(&self.schedule);
+        Some(input)
+    }
+}

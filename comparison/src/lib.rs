@@ -1,0 +1,22 @@
+//! A plain model of rule books and the units that reduce by them, and a
+//! comparison of other implementations with it on random cases.
+//!
+//! - `model`: the definitions, written for reading.
+//! - `draft`: books and cases as fields that may break any rule.
+//! - `random`, `books`, `grow`, `faults`: random cases.
+//! - `subject`: what an implementation under comparison must offer.
+//! - `compare`, `shrink`: the comparison, and how a difference is made small.
+//! - `broken`: the model with one slip, to show that slips are found.
+//! - `library`: the place of the implementation that is compared.
+
+pub mod books;
+pub mod broken;
+pub mod compare;
+pub mod draft;
+pub mod faults;
+pub mod grow;
+pub mod library;
+pub mod model;
+pub mod random;
+pub mod shrink;
+pub mod subject;

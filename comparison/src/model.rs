@@ -1,0 +1,951 @@
+//! The model: rule books, terms, and the units that reduce them.
+//!
+//! Each part follows the wording of the scope document. Terms are trees and
+//! orders stand in plain lists, so that a step can be held against its
+//! sentence there; nothing is arranged for speed.
+
+use std::fmt::Write;
+
+pub const TERM_LIMIT: usize = 1024;
+pub const SIDE_LIMIT: usize = 64;
+pub const OUTPUT_LEN: usize = 1024;
+pub const SCHEDULE_LIMIT: usize = 32_768;
+
+/// The refusal numbers of the table of checks.
+pub mod refusal {
+    pub const BITS_RUN_OUT: u8 = 1;
+    pub const NO_OPERATOR: u8 = 2;
+    pub const STRATEGY: u8 = 3;
+    pub const RULE_OPERATOR: u8 = 4;
+    pub const LEFT_IS_VARIABLE: u8 = 5;
+    pub const VARIABLE_TWICE: u8 = 6;
+    pub const VARIABLE_ABSENT: u8 = 7;
+    pub const SIDE_TOO_LONG: u8 = 8;
+    pub const BOOK_END: u8 = 9;
+    pub const TERM_SHAPE: u8 = 10;
+    pub const TERM_OPERATOR: u8 = 11;
+    pub const TERM_TOO_LONG: u8 = 12;
+    pub const UNITS: u8 = 13;
+    pub const SCHEDULE: u8 = 14;
+    pub const WORK_AREA: u8 = 15;
+    pub const OUTPUT: u8 = 16;
+    pub const INPUT: u8 = 17;
+}
+
+/// The four endings of a run.
+pub mod ending {
+    pub const FINISHED: u8 = 0;
+    pub const SPENT: u8 = 1;
+    pub const FULL: u8 = 2;
+    pub const CUT: u8 = 3;
+}
+
+// ---------------------------------------------------------------------------
+// Terms, patterns and books
+
+#[derive(Clone, Debug, PartialEq, Eq)]
+pub struct Term {
+    pub operator: u8,
+    pub arguments: Vec<Term>,
+}
+
+/// The arguments to follow from the root, each counted from 1.
+pub type Position = Vec<u8>;
+
+impl Term {
+    pub fn size(&self) -> usize {
+        1 + self.arguments.iter().map(Term::size).sum::<usize>()
+    }
+
+    pub fn part(&self, at: &[u8]) -> Option<&Term> {
+        match at.split_first() {
+            None => Some(self),
+            Some((&argument, rest)) => self.arguments.get(usize::from(argument) - 1)?.part(rest),
+        }
+    }
+
+    fn part_mut(&mut self, at: &[u8]) -> Option<&mut Term> {
+        match at.split_first() {
+            None => Some(self),
+            Some((&argument, rest)) => self
+                .arguments
+                .get_mut(usize::from(argument) - 1)?
+                .part_mut(rest),
+        }
+    }
+
+    pub fn preorder(&self) -> Vec<u8> {
+        let mut bytes = Vec::new();
+        self.write_preorder(&mut bytes);
+        bytes
+    }
+
+    fn write_preorder(&self, bytes: &mut Vec<u8>) {
+        bytes.push(self.operator);
+        for argument in &self.arguments {
+            argument.write_preorder(bytes);
+        }
+    }
+}
+
+#[derive(Clone, Debug, PartialEq, Eq)]
+pub enum Pattern {
+    Operator(u8, Vec<Pattern>),
+    Variable(u8),
+}
+
+/// What each of the 16 variables stands for after a match.
+pub type Filling<'t> = [Option<&'t Term>; 16];
+
+impl Pattern {
+    /// Left sides name no variable twice, so a variable matches any part.
+    fn matches<'t>(&self, term: &'t Term, filling: &mut Filling<'t>) -> bool {
+        match self {
+            Pattern::Variable(variable) => {
+                filling[usize::from(*variable)] = Some(term);
+                true
+            }
+            Pattern::Operator(operator, arguments) => {
+                *operator == term.operator
+                    && arguments
+                        .iter()
+                        .zip(&term.arguments)
+                        .all(|(pattern, part)| pattern.matches(part, filling))
+            }
+        }
+    }
+
+    fn filled(&self, filling: &Filling) -> Term {
+        match self {
+            Pattern::Variable(variable) => filled_variable(filling, *variable).clone(),
+            Pattern::Operator(operator, arguments) => Term {
+                operator: *operator,
+                arguments: arguments
+                    .iter()
+                    .map(|pattern| pattern.filled(filling))
+                    .collect(),
+            },
+        }
+    }
+
+    /// The size of the filled side; every copy of a variable counts.
+    pub fn filled_size(&self, filling: &Filling) -> usize {
+        match self {
+            Pattern::Variable(variable) => filled_variable(filling, *variable).size(),
+            Pattern::Operator(_, arguments) => {
+                1 + arguments
+                    .iter()
+                    .map(|pattern| pattern.filled_size(filling))
+                    .sum::<usize>()
+            }
+        }
+    }
+
+    pub fn size(&self) -> usize {
+        match self {
+            Pattern::Variable(_) => 1,
+            Pattern::Operator(_, arguments) => {
+                1 + arguments.iter().map(Pattern::size).sum::<usize>()
+            }
+        }
+    }
+}
+
+fn filled_variable<'t>(filling: &Filling<'t>, variable: u8) -> &'t Term {
+    filling[usize::from(variable)].expect("the reader refuses a right variable absent on the left")
+}
+
+#[derive(Clone, Debug, PartialEq, Eq)]
+pub struct Rule {
+    pub left: Pattern,
+    pub right: Pattern,
+}
+
+#[derive(Clone, Debug, PartialEq, Eq)]
+pub enum Item {
+    Whole,
+    Argument(u8),
+    Group(Vec<u8>),
+}
+
+#[derive(Clone, Debug, PartialEq, Eq)]
+pub struct Operator {
+    pub arity: u8,
+    /// The list as it stood in the book.
+    pub given: Option<Vec<Item>>,
+    /// The settled list, or the default where none was given.
+    pub strategy: Vec<Item>,
+}
+
+#[derive(Clone, Debug, PartialEq, Eq)]
+pub struct Book {
+    pub operators: Vec<Operator>,
+    pub rules: Vec<Rule>,
+}
+
+impl Book {
+    /// The first rule in book order whose left side matches.
+    pub fn first_match<'b, 't>(&'b self, term: &'t Term) -> Option<(&'b Rule, Filling<'t>)> {
+        self.rules.iter().find_map(|rule| {
+            let mut filling = [None; 16];
+            rule.left
+                .matches(term, &mut filling)
+                .then_some((rule, filling))
+        })
+    }
+
+    fn strategy(&self, term: &Term) -> &[Item] {
+        &self.operators[usize::from(term.operator)].strategy
+    }
+}
+
+// ---------------------------------------------------------------------------
+// Strategies
+
+/// (1 2 .. arity 0)
+pub fn default_strategy(arity: u8) -> Vec<Item> {
+    (1..=arity)
+        .map(Item::Argument)
+        .chain([Item::Whole])
+        .collect()
+}
+
+pub fn settle(given: &[Item]) -> Vec<Item> {
+    let mut mentioned = Vec::new();
+    let mut settled: Vec<Item> = given
+        .iter()
+        .filter_map(|item| settle_item(item, &mut mentioned))
+        .collect();
+    // Only 0s can still have an equal neighbour: no argument is left twice.
+    settled.dedup();
+    settled
+}
+
+fn settle_item(item: &Item, mentioned: &mut Vec<u8>) -> Option<Item> {
+    match item {
+        Item::Whole => Some(Item::Whole),
+        Item::Argument(argument) => settle_group(&[*argument], mentioned),
+        Item::Group(arguments) => settle_group(arguments, mentioned),
+    }
+}
+
+/// An argument outside a group settles as a group of one does.
+fn settle_group(arguments: &[u8], mentioned: &mut Vec<u8>) -> Option<Item> {
+    let mut kept = Vec::new();
+    for &argument in arguments {
+        if !mentioned.contains(&argument) {
+            mentioned.push(argument);
+            kept.push(argument);
+        }
+    }
+    match kept[..] {
+        [] => None,
+        [argument] => Some(Item::Argument(argument)),
+        _ => Some(Item::Group(kept)),
+    }
+}
+
+// ---------------------------------------------------------------------------
+// The book's reader
+
+struct Bits<'a> {
+    bytes: &'a [u8],
+    position: usize,
+}
+
+impl Bits<'_> {
+    fn left(&self) -> usize {
+        self.bytes.len() * 8 - self.position
+    }
+
+    fn take(&mut self, width: usize) -> Result<u8, u8> {
+        if self.left() < width {
+            return Err(refusal::BITS_RUN_OUT);
+        }
+        let value = (0..width).fold(0, |value, _| value << 1 | self.next_bit());
+        Ok(value)
+    }
+
+    fn next_bit(&mut self) -> u8 {
+        let bit = self.bytes[self.position / 8] >> (7 - self.position % 8) & 1;
+        self.position += 1;
+        bit
+    }
+}
+
+pub fn read_book(bytes: &[u8]) -> Result<Book, u8> {
+    let mut bits = Bits { bytes, position: 0 };
+    let operators = read_operators(&mut bits)?;
+    let rules = read_rules(&mut bits, &operators)?;
+    read_end(&mut bits)?;
+    Ok(Book { operators, rules })
+}
+
+fn read_operators(bits: &mut Bits) -> Result<Vec<Operator>, u8> {
+    let count = bits.take(8)?;
+    if count == 0 {
+        return Err(refusal::NO_OPERATOR);
+    }
+    (0..count).map(|_| read_operator(bits)).collect()
+}
+
+fn read_operator(bits: &mut Bits) -> Result<Operator, u8> {
+    let arity = bits.take(3)?;
+    let given = match bits.take(1)? {
+        0 => None,
+        _ => Some(read_strategy(bits, arity)?),
+    };
+    let strategy = match &given {
+        None => default_strategy(arity),
+        Some(items) => settle(items),
+    };
+    Ok(Operator {
+        arity,
+        given,
+        strategy,
+    })
+}
+
+fn read_strategy(bits: &mut Bits, arity: u8) -> Result<Vec<Item>, u8> {
+    let length = bits.take(5)?;
+    let mut items = Vec::new();
+    let mut group = None;
+    for place in 1..=length {
+        let item = bits.take(4)?;
+        read_item(item, arity, &mut items, &mut group)?;
+        if place == length && item != 0 {
+            return Err(refusal::STRATEGY);
+        }
+    }
+    Ok(items)
+}
+
+/// `group` holds the arguments of the open group, if one is open.
+fn read_item(
+    item: u8,
+    arity: u8,
+    items: &mut Vec<Item>,
+    group: &mut Option<Vec<u8>>,
+) -> Result<(), u8> {
+    match (item, group.as_mut()) {
+        (0, None) => items.push(Item::Whole),
+        (1..=7, None) if item <= arity => items.push(Item::Argument(item)),
+        (1..=7, Some(arguments)) if item <= arity => arguments.push(item),
+        (8, None) => *group = Some(Vec::new()),
+        (9, Some(arguments)) => {
+            items.push(Item::Group(std::mem::take(arguments)));
+            *group = None;
+        }
+        _ => return Err(refusal::STRATEGY),
+    }
+    Ok(())
+}
+
+fn read_rules(bits: &mut Bits, operators: &[Operator]) -> Result<Vec<Rule>, u8> {
+    let count = bits.take(8)?;
+    (0..count).map(|_| read_rule(bits, operators)).collect()
+}
+
+fn read_rule(bits: &mut Bits, operators: &[Operator]) -> Result<Rule, u8> {
+    let mut on_left = Vec::new();
+    let left = read_side(bits, operators, &mut |variable, symbols_before| {
+        if symbols_before == 0 {
+            return Err(refusal::LEFT_IS_VARIABLE);
+        }
+        if on_left.contains(&variable) {
+            return Err(refusal::VARIABLE_TWICE);
+        }
+        on_left.push(variable);
+        Ok(())
+    })?;
+    let right = read_side(bits, operators, &mut |variable, _| {
+        if on_left.contains(&variable) {
+            Ok(())
+        } else {
+            Err(refusal::VARIABLE_ABSENT)
+        }
+    })?;
+    Ok(Rule { left, right })
+}
+
+/// Tells whether a variable may stand after so many symbols of its side.
+type VariableCheck<'a> = dyn FnMut(u8, usize) -> Result<(), u8> + 'a;
+
+fn read_side(
+    bits: &mut Bits,
+    operators: &[Operator],
+    check: &mut VariableCheck,
+) -> Result<Pattern, u8> {
+    read_pattern(bits, operators, check, &mut 0)
+}
+
+fn read_pattern(
+    bits: &mut Bits,
+    operators: &[Operator],
+    check: &mut VariableCheck,
+    symbols: &mut usize,
+) -> Result<Pattern, u8> {
+    // A symbol is due here, so the side is incomplete. This is told before
+    // the bits are asked for.
+    if *symbols == SIDE_LIMIT {
+        return Err(refusal::SIDE_TOO_LONG);
+    }
+    if bits.take(1)? == 1 {
+        let variable = bits.take(4)?;
+        check(variable, *symbols)?;
+        *symbols += 1;
+        return Ok(Pattern::Variable(variable));
+    }
+    let operator = bits.take(8)?;
+    let known = operators
+        .get(usize::from(operator))
+        .ok_or(refusal::RULE_OPERATOR)?;
+    *symbols += 1;
+    let arguments = (0..known.arity)
+        .map(|_| read_pattern(bits, operators, check, symbols))
+        .collect::<Result<_, u8>>()?;
+    Ok(Pattern::Operator(operator, arguments))
+}
+
+fn read_end(bits: &mut Bits) -> Result<(), u8> {
+    let padding = bits.left() % 8;
+    if bits.take(padding)? != 0 || bits.left() > 0 {
+        return Err(refusal::BOOK_END);
+    }
+    Ok(())
+}
+
+// ---------------------------------------------------------------------------
+// The book's writer
+
+/// Fields packed most significant bit first.
+#[derive(Default)]
+pub struct Packer {
+    bytes: Vec<u8>,
+    used: usize,
+}
+
+impl Packer {
+    pub fn put(&mut self, value: u8, width: usize) {
+        for place in (0..width).rev() {
+            self.put_bit(value >> place & 1);
+        }
+    }
+
+    fn put_bit(&mut self, bit: u8) {
+        if self.used == self.bytes.len() * 8 {
+            self.bytes.push(0);
+        }
+        self.bytes[self.used / 8] |= bit << (7 - self.used % 8);
+        self.used += 1;
+    }
+
+    /// The bits not yet used in the last byte are the zero padding.
+    pub fn into_bytes(self) -> Vec<u8> {
+        self.bytes
+    }
+}
+
+pub fn written(book: &[u8], output_len: usize) -> Result<Vec<u8>, u8> {
+    let bytes = write_book(&read_book(book)?);
+    if output_len < bytes.len() {
+        return Err(refusal::OUTPUT);
+    }
+    Ok(bytes)
+}
+
+/// Counts of a book that was read fit their fields: settling only shortens.
+pub fn write_book(book: &Book) -> Vec<u8> {
+    let mut packer = Packer::default();
+    packer.put(book.operators.len() as u8, 8);
+    for operator in &book.operators {
+        write_operator(&mut packer, operator);
+    }
+    packer.put(book.rules.len() as u8, 8);
+    for rule in &book.rules {
+        write_pattern(&mut packer, &rule.left);
+        write_pattern(&mut packer, &rule.right);
+    }
+    packer.into_bytes()
+}
+
+fn write_operator(packer: &mut Packer, operator: &Operator) {
+    packer.put(operator.arity, 3);
+    if operator.strategy == default_strategy(operator.arity) {
+        packer.put(0, 1);
+        return;
+    }
+    let items = item_numbers(&operator.strategy);
+    packer.put(1, 1);
+    packer.put(items.len() as u8, 5);
+    for item in items {
+        packer.put(item, 4);
+    }
+}
+
+/// The 4-bit items of a list, with 8 and 9 around each group.
+pub fn item_numbers(items: &[Item]) -> Vec<u8> {
+    let mut numbers = Vec::new();
+    for item in items {
+        match item {
+            Item::Whole => numbers.push(0),
+            Item::Argument(argument) => numbers.push(*argument),
+            Item::Group(arguments) => {
+                numbers.push(8);
+                numbers.extend(arguments);
+                numbers.push(9);
+            }
+        }
+    }
+    numbers
+}
+
+fn write_pattern(packer: &mut Packer, pattern: &Pattern) {
+    match pattern {
+        Pattern::Variable(variable) => {
+            packer.put(1, 1);
+            packer.put(*variable, 4);
+        }
+        Pattern::Operator(operator, arguments) => {
+            packer.put(0, 1);
+            packer.put(*operator, 8);
+            for argument in arguments {
+                write_pattern(packer, argument);
+            }
+        }
+    }
+}
+
+// ---------------------------------------------------------------------------
+// The line's reader
+
+pub fn read_line(book: &Book, line: &[u8]) -> Result<Term, u8> {
+    if line.len() > TERM_LIMIT {
+        return Err(refusal::TERM_TOO_LONG);
+    }
+    let mut rest = line.iter();
+    let term = read_term(book, &mut rest)?;
+    if rest.next().is_some() {
+        return Err(refusal::TERM_SHAPE);
+    }
+    Ok(term)
+}
+
+fn read_term(book: &Book, rest: &mut std::slice::Iter<u8>) -> Result<Term, u8> {
+    let operator = *rest.next().ok_or(refusal::TERM_SHAPE)?;
+    let known = book
+        .operators
+        .get(usize::from(operator))
+        .ok_or(refusal::TERM_OPERATOR)?;
+    let arguments = (0..known.arity)
+        .map(|_| read_term(book, rest))
+        .collect::<Result<_, u8>>()?;
+    Ok(Term {
+        operator,
+        arguments,
+    })
+}
+
+// ---------------------------------------------------------------------------
+// Reduction one after the other
+
+/// The reduced term and its rewrites, or `None` if it needs over `most`.
+pub fn reduce(book: &Book, mut term: Term, most: u64) -> Option<(Term, u64)> {
+    let mut rewrites = 0;
+    reduce_part(book, &mut term, &mut rewrites, most)?;
+    Some((term, rewrites))
+}
+
+fn reduce_part(book: &Book, term: &mut Term, rewrites: &mut u64, most: u64) -> Option<()> {
+    while reduce_items(book, term, rewrites, most)? {}
+    Some(())
+}
+
+/// Answers true if the term was replaced, and so is to be reduced afresh.
+fn reduce_items(book: &Book, term: &mut Term, rewrites: &mut u64, most: u64) -> Option<bool> {
+    for item in book.strategy(term) {
+        let arguments = match item {
+            Item::Argument(argument) => std::slice::from_ref(argument),
+            Item::Group(arguments) => arguments,
+            Item::Whole => match book.first_match(term) {
+                None => continue,
+                Some(_) if *rewrites == most => return None,
+                Some((rule, filling)) => {
+                    *term = rule.right.filled(&filling);
+                    *rewrites += 1;
+                    return Some(true);
+                }
+            },
+        };
+        for argument in arguments {
+            let part = &mut term.arguments[usize::from(*argument) - 1];
+            reduce_part(book, part, rewrites, most)?;
+        }
+    }
+    Some(false)
+}
+
+// ---------------------------------------------------------------------------
+// The units and their orders
+
+/// A JOIN is named by its height: how many orders lie under it in its list.
+/// Lists change only at the top, so a height stays true while the JOIN does.
+#[derive(Clone, Debug, PartialEq, Eq)]
+pub enum Order {
+    Visit(Position),
+    /// The JOIN is in the same list.
+    Fork {
+        argument: Position,
+        join: usize,
+    },
+    Join {
+        count: usize,
+    },
+    Exit {
+        unit: usize,
+        join: usize,
+    },
+    /// `below` is how many orders lie under those of the term itself.
+    Whole {
+        term: Position,
+        below: usize,
+    },
+    Sleep,
+    Bingo,
+}
+
+#[derive(Clone, Debug)]
+pub struct Unit {
+    pub busy: bool,
+    /// The last order of the vector is the top one.
+    pub orders: Vec<Order>,
+}
+
+impl Unit {
+    fn main() -> Unit {
+        Unit {
+            busy: true,
+            orders: vec![Order::Bingo, Order::Visit(Vec::new())],
+        }
+    }
+
+    fn helper() -> Unit {
+        Unit {
+            busy: false,
+            orders: vec![Order::Sleep],
+        }
+    }
+}
+
+/// All that a run works on.
+///
+/// Forked parts stay in their place of the one tree, so `term` is the present
+/// term throughout. Positions stay true: above a part in work no WHOLE acts
+/// before the part's JOIN has passed.
+pub struct Machine<'b> {
+    pub book: &'b Book,
+    pub term: Term,
+    /// The symbols of `term`.
+    pub size: usize,
+    pub size_limit: usize,
+    pub units: Vec<Unit>,
+    pub budget: u64,
+    pub rewrites: u64,
+    pub entries: u64,
+    pub granted: u64,
+    /// FORKs that found no idle unit.
+    pub kept: u64,
+}
+
+impl<'b> Machine<'b> {
+    pub fn new(book: &'b Book, line: Term, units: u8, budget: u32) -> Machine<'b> {
+        let helpers = (1..units).map(|_| Unit::helper());
+        Machine {
+            book,
+            size: line.size(),
+            size_limit: TERM_LIMIT,
+            term: line,
+            units: [Unit::main()].into_iter().chain(helpers).collect(),
+            budget: u64::from(budget),
+            rewrites: 0,
+            entries: 0,
+            granted: 0,
+            kept: 0,
+        }
+    }
+
+    /// Carries out a schedule and answers the run's ending.
+    pub fn run(&mut self, schedule: &[u8]) -> u8 {
+        for &unit in schedule {
+            if let Some(ending) = self.entry(usize::from(unit)) {
+                return ending;
+            }
+        }
+        ending::CUT
+    }
+
+    /// Carries out one schedule entry; answers the ending if it ends the run.
+    pub fn entry(&mut self, unit: usize) -> Option<u8> {
+        self.entries += 1;
+        if !self.units[unit].busy {
+            return None;
+        }
+        // The lowest order, SLEEP or BINGO, is never dropped.
+        match self.units[unit]
+            .orders
+            .pop()
+            .expect("a list is never empty")
+        {
+            Order::Visit(term) => self.visit(unit, term),
+            Order::Fork { argument, join } => self.fork(unit, argument, join),
+            Order::Join { count: 0 } => {}
+            waiting @ (Order::Join { .. } | Order::Sleep) => self.wait(unit, waiting),
+            Order::Exit { unit: parent, join } => self.exit(parent, join),
+            Order::Whole { term, below } => return self.whole(unit, term, below),
+            Order::Bingo => return Some(ending::FINISHED),
+        }
+        None
+    }
+
+    /// The last item goes to the list first, so that the first ends on top.
+    fn visit(&mut self, unit: usize, term: Position) {
+        let book = self.book;
+        let orders = &mut self.units[unit].orders;
+        let below = orders.len();
+        for item in book.strategy(present_part(&self.term, &term)).iter().rev() {
+            match item {
+                Item::Whole => orders.push(Order::Whole {
+                    term: term.clone(),
+                    below,
+                }),
+                Item::Argument(argument) => orders.push(Order::Visit(child(&term, *argument))),
+                Item::Group(arguments) => push_group(orders, &term, arguments),
+            }
+        }
+    }
+
+    fn fork(&mut self, unit: usize, argument: Position, join: usize) {
+        match self.lowest_idle_helper() {
+            Some(helper) => {
+                self.granted += 1;
+                let helper = &mut self.units[helper];
+                helper.busy = true;
+                helper.orders.push(Order::Exit { unit, join });
+                helper.orders.push(Order::Visit(argument));
+            }
+            None => {
+                self.kept += 1;
+                self.lower_count(unit, join);
+                self.units[unit].orders.push(Order::Visit(argument));
+            }
+        }
+    }
+
+    fn lowest_idle_helper(&self) -> Option<usize> {
+        (1..self.units.len()).find(|&helper| !self.units[helper].busy)
+    }
+
+    fn wait(&mut self, unit: usize, top: Order) {
+        self.units[unit].orders.push(top);
+        self.units[unit].busy = false;
+    }
+
+    /// The woken unit tests its own top order at its next entry: that may be
+    /// another JOIN than the one whose count fell.
+    fn exit(&mut self, parent: usize, join: usize) {
+        if self.lower_count(parent, join) == 0 {
+            self.units[parent].busy = true;
+        }
+    }
+
+    fn lower_count(&mut self, unit: usize, join: usize) -> usize {
+        match &mut self.units[unit].orders[join] {
+            Order::Join { count } => {
+                *count -= 1;
+                *count
+            }
+            other => panic!("{other:?} stands where a JOIN was placed"),
+        }
+    }
+
+    fn whole(&mut self, unit: usize, term: Position, below: usize) -> Option<u8> {
+        let part = present_part(&self.term, &term);
+        let (rule, filling) = self.book.first_match(part)?;
+        if self.rewrites == self.budget {
+            return Some(ending::SPENT);
+        }
+        let size = self.size - part.size() + rule.right.filled_size(&filling);
+        if size > self.size_limit {
+            return Some(ending::FULL);
+        }
+        let filled = rule.right.filled(&filling);
+        *self.term.part_mut(&term).expect("the part was just there") = filled;
+        self.size = size;
+        debug_assert_eq!(self.size, self.term.size());
+        self.rewrites += 1;
+        self.units[unit].orders.truncate(below);
+        self.units[unit].orders.push(Order::Visit(term));
+        None
+    }
+
+    pub fn answer(&self, ending: u8) -> Answer {
+        Answer {
+            ending,
+            rewrites: self.rewrites,
+            entries: self.entries,
+            granted: self.granted,
+            kept: self.kept,
+            term: self.term.preorder(),
+        }
+    }
+}
+
+fn present_part<'t>(term: &'t Term, at: &[u8]) -> &'t Term {
+    term.part(at)
+        .expect("an order names a part of the present term")
+}
+
+fn child(term: &[u8], argument: u8) -> Position {
+    let mut position = term.to_vec();
+    position.push(argument);
+    position
+}
+
+/// A settled group has at least two arguments.
+fn push_group(orders: &mut Vec<Order>, term: &[u8], arguments: &[u8]) {
+    let (last, forked) = arguments
+        .split_last()
+        .expect("a settled group is not empty");
+    let join = orders.len();
+    orders.push(Order::Join {
+        count: forked.len(),
+    });
+    orders.push(Order::Visit(child(term, *last)));
+    for argument in forked.iter().rev() {
+        orders.push(Order::Fork {
+            argument: child(term, *argument),
+            join,
+        });
+    }
+}
+
+// ---------------------------------------------------------------------------
+// The answer of a run
+
+#[derive(Clone, Debug, PartialEq, Eq)]
+pub struct Answer {
+    pub ending: u8,
+    pub rewrites: u64,
+    pub entries: u64,
+    pub granted: u64,
+    pub kept: u64,
+    pub term: Vec<u8>,
+}
+
+#[allow(clippy::too_many_arguments)]
+pub fn answer(
+    book: &[u8],
+    line: &[u8],
+    units: u8,
+    budget: u32,
+    schedule: &[u8],
+    work_len: usize,
+    output_len: usize,
+    published: usize,
+) -> Result<Answer, u8> {
+    check_frame(units, work_len, output_len, published)?;
+    let book = read_book(book)?;
+    let line = read_line(&book, line)?;
+    check_schedule(schedule, units)?;
+    let mut machine = Machine::new(&book, line, units, budget);
+    let ending = machine.run(schedule);
+    Ok(machine.answer(ending))
+}
+
+pub fn check_frame(
+    units: u8,
+    work_len: usize,
+    output_len: usize,
+    published: usize,
+) -> Result<(), u8> {
+    if !(1..=8).contains(&units) {
+        Err(refusal::UNITS)
+    } else if work_len < published {
+        Err(refusal::WORK_AREA)
+    } else if output_len < OUTPUT_LEN {
+        Err(refusal::OUTPUT)
+    } else {
+        Ok(())
+    }
+}
+
+/// Entries that the run would never reach are checked as well.
+pub fn check_schedule(schedule: &[u8], units: u8) -> Result<(), u8> {
+    if schedule.iter().any(|&unit| unit >= units) {
+        return Err(refusal::SCHEDULE);
+    }
+    Ok(())
+}
+
+// ---------------------------------------------------------------------------
+// The program's input and page
+
+pub fn page(input: &[u8]) -> Vec<u8> {
+    let mut text = String::from("REDUCE 1\n");
+    match page_answer(input) {
+        Ok(answer) => write_answer(&mut text, &answer),
+        Err(number) => write_line(&mut text, "refused", number),
+    }
+    text.into_bytes()
+}
+
+/// The program lends buffers of its own that are always long enough.
+fn page_answer(input: &[u8]) -> Result<Answer, u8> {
+    let mut rest = input;
+    let book = take_announced(&mut rest)?;
+    let line = take_announced(&mut rest)?;
+    let units = take_number(&mut rest, 1)? as u8;
+    let budget = take_number(&mut rest, 4)?;
+    if rest.len() > SCHEDULE_LIMIT {
+        return Err(refusal::INPUT);
+    }
+    answer(book, line, units, budget, rest, 0, OUTPUT_LEN, 0)
+}
+
+fn take_announced<'a>(rest: &mut &'a [u8]) -> Result<&'a [u8], u8> {
+    let length = take_number(rest, 2)?;
+    take_bytes(rest, length as usize)
+}
+
+fn take_number(rest: &mut &[u8], length: usize) -> Result<u32, u8> {
+    let bytes = take_bytes(rest, length)?;
+    Ok(bytes
+        .iter()
+        .fold(0, |number, &byte| number << 8 | u32::from(byte)))
+}
+
+fn take_bytes<'a>(rest: &mut &'a [u8], length: usize) -> Result<&'a [u8], u8> {
+    if rest.len() < length {
+        return Err(refusal::INPUT);
+    }
+    let (bytes, after) = rest.split_at(length);
+    *rest = after;
+    Ok(bytes)
+}
+
+fn write_answer(text: &mut String, answer: &Answer) {
+    write_line(text, "end", answer.ending);
+    write_line(text, "rewrites", answer.rewrites);
+    write_line(text, "entries", answer.entries);
+    write_line(text, "granted", answer.granted);
+    text.push_str("term");
+    for operator in &answer.term {
+        write!(text, " {operator}").expect("a string takes any text");
+    }
+    text.push('\n');
+}
+
+fn write_line(text: &mut String, name: &str, value: impl Into<u64>) {
+    let value: u64 = value.into();
+    writeln!(text, "{name} {value}").expect("a string takes any text");
+}

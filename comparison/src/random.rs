@@ -1,0 +1,162 @@
+//! A seeded generator and random cases.
+//!
+//! Most cases are sound and differ in how their runs go. The others carry one
+//! to three faults, so that the order in which faults are told is met too.
+
+use crate::books::draft;
+use crate::draft::Case;
+use crate::faults::spoil;
+use crate::grow::line;
+use crate::model::{self, OUTPUT_LEN, SCHEDULE_LIMIT};
+
+/// SplitMix64.
+pub struct Random {
+    state: u64,
+}
+
+impl Random {
+    pub fn new(seed: u64) -> Random {
+        Random { state: seed }
+    }
+
+    /// A generator for one numbered case, so that it can be made again alone.
+    pub fn for_case(seed: u64, number: u64) -> Random {
+        Random::new(seed.rotate_left(32) ^ Random::new(number).draw())
+    }
+
+    pub fn draw(&mut self) -> u64 {
+        self.state = self.state.wrapping_add(0x9E37_79B9_7F4A_7C15);
+        let mut mixed = self.state;
+        mixed = (mixed ^ mixed >> 30).wrapping_mul(0xBF58_476D_1CE4_E5B9);
+        mixed = (mixed ^ mixed >> 27).wrapping_mul(0x94D0_49BB_1331_11EB);
+        mixed ^ mixed >> 31
+    }
+
+    pub fn below(&mut self, bound: usize) -> usize {
+        (self.draw() % bound as u64) as usize
+    }
+
+    /// Both ends included.
+    pub fn between(&mut self, low: usize, high: usize) -> usize {
+        low + self.below(high - low + 1)
+    }
+
+    pub fn byte(&mut self) -> u8 {
+        self.draw() as u8
+    }
+
+    pub fn bytes(&mut self, length: usize) -> Vec<u8> {
+        (0..length).map(|_| self.byte()).collect()
+    }
+
+    pub fn one_in(&mut self, bound: usize) -> bool {
+        self.below(bound) == 0
+    }
+
+    pub fn pick<'a, T>(&mut self, list: &'a [T]) -> &'a T {
+        &list[self.below(list.len())]
+    }
+
+    /// A number from one of the ranges, each as likely as the others.
+    pub fn from_ranges(&mut self, ranges: &[(usize, usize)]) -> usize {
+        let (low, high) = *self.pick(ranges);
+        self.between(low, high)
+    }
+
+    pub fn shuffle<T>(&mut self, list: &mut [T]) {
+        for place in (1..list.len()).rev() {
+            list.swap(place, self.below(place + 1));
+        }
+    }
+}
+
+pub fn case(random: &mut Random) -> Case {
+    let draft = draft(random);
+    let line = line(random, &draft);
+    let units = random.between(1, 8) as u8;
+    let schedule = schedule(random, units);
+    let budget = budget(random);
+    let mut case = Case::new(draft, line, units, budget, schedule);
+    case.writer_offset = *random.pick(&[-1, 0, 0, 7]);
+    if random.one_in(4) {
+        sharpen(random, &mut case);
+    }
+    let faults = *random.pick(&[0, 0, 0, 0, 0, 0, 0, 0, 1, 1, 2, 3]);
+    for _ in 0..faults {
+        spoil(random, &mut case);
+    }
+    case
+}
+
+fn schedule(random: &mut Random, units: u8) -> Vec<u8> {
+    let length = match random.below(200) {
+        0 => SCHEDULE_LIMIT,
+        1..=4 => random.between(4000, 12_000),
+        _ => random.from_ranges(&[(0, 100), (100, 800), (300, 1500), (1000, 4000)]),
+    };
+    let count = usize::from(units);
+    match random.below(20) {
+        0..=5 => (0..length).map(|place| (place % count) as u8).collect(),
+        6..=11 => (0..length).map(|_| random.below(count) as u8).collect(),
+        12..=14 => bursts(random, count, length),
+        15 | 16 => favoured(random, count, length),
+        17 => (0..length)
+            .map(|place| (count - 1 - place % count) as u8)
+            .collect(),
+        18 if random.one_in(4) => Vec::new(),
+        // Unit 0 alone, or alone a unit that never gets work.
+        _ => vec![if random.one_in(8) { units - 1 } else { 0 }; length],
+    }
+}
+
+fn bursts(random: &mut Random, count: usize, length: usize) -> Vec<u8> {
+    let longest = *random.pick(&[3, 10, 60]);
+    let mut schedule = Vec::new();
+    while schedule.len() < length {
+        let unit = random.below(count) as u8;
+        let burst = random.between(1, longest).min(length - schedule.len());
+        schedule.extend(vec![unit; burst]);
+    }
+    schedule
+}
+
+/// One unit acts far more often than the others.
+fn favoured(random: &mut Random, count: usize, length: usize) -> Vec<u8> {
+    let favourite = random.below(count);
+    (0..length)
+        .map(|_| if random.one_in(6) { random.below(count) } else { favourite } as u8)
+        .collect()
+}
+
+fn budget(random: &mut Random) -> u32 {
+    match random.below(10) {
+        0 => random.below(2) as u32,
+        1 => random.between(2, 12) as u32,
+        2 => random.between(10, 200) as u32,
+        3 => u32::MAX,
+        _ => random.between(1000, 1_000_000) as u32,
+    }
+}
+
+/// Moves the budget or the schedule's end to where the run's ending turns.
+fn sharpen(random: &mut Random, case: &mut Case) {
+    let Ok(answer) = model::answer(
+        &case.book(),
+        &case.line,
+        case.units,
+        case.budget,
+        &case.schedule,
+        0,
+        OUTPUT_LEN,
+        0,
+    ) else {
+        return;
+    };
+    let less = random.below(2);
+    if random.one_in(2) {
+        case.budget = (answer.rewrites as u32).saturating_sub(less as u32);
+    } else {
+        case.schedule
+            .truncate((answer.entries as usize).saturating_sub(less));
+    }
+}

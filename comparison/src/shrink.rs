@@ -1,0 +1,293 @@
+//! Makes a case small while it still shows a difference.
+
+use crate::draft::{Case, Draft, RuleDraft, Symbol};
+use crate::model::OUTPUT_LEN;
+
+/// Enough for any case met so far, and an end for the slowest subject.
+const MOST_TRIES: usize = 200_000;
+
+pub fn shrink(case: Case, differs: &mut dyn FnMut(&Case) -> bool) -> Case {
+    let mut shrinker = Shrinker {
+        case,
+        differs,
+        tries: MOST_TRIES,
+    };
+    // One part made smaller often lets another follow.
+    while shrinker.pass() {}
+    shrinker.case
+}
+
+struct Shrinker<'a> {
+    case: Case,
+    differs: &'a mut dyn FnMut(&Case) -> bool,
+    tries: usize,
+}
+
+impl Shrinker<'_> {
+    /// Tries every kind of step once; answers whether one was kept.
+    fn pass(&mut self) -> bool {
+        let before = self.case.clone();
+        self.thin(|case| &mut case.damage);
+        self.thin(|case| &mut case.schedule);
+        self.fewer_units();
+        self.thin(|case| &mut case.draft.rules);
+        self.smaller_line();
+        self.smaller_sides();
+        self.simpler_strategies();
+        self.merge_operators();
+        self.fewer_operators();
+        self.simpler_frame();
+        self.smaller_budget();
+        self.case != before && self.tries > 0
+    }
+
+    /// Keeps the candidate if it still differs.
+    fn keep(&mut self, candidate: Case) -> bool {
+        if self.tries == 0 || candidate == self.case {
+            return false;
+        }
+        self.tries -= 1;
+        let kept = (self.differs)(&candidate);
+        if kept {
+            self.case = candidate;
+        }
+        kept
+    }
+
+    fn try_change(&mut self, change: impl FnOnce(&mut Case)) -> bool {
+        let mut candidate = self.case.clone();
+        change(&mut candidate);
+        self.keep(candidate)
+    }
+
+    /// Drops stretches of a list, long ones first.
+    fn thin<T>(&mut self, list: impl Fn(&mut Case) -> &mut Vec<T>) {
+        let mut stretch = list(&mut self.case).len();
+        while stretch > 0 {
+            let mut end = list(&mut self.case).len();
+            while end > 0 {
+                let start = end.saturating_sub(stretch);
+                self.try_change(|case| {
+                    list(case).drain(start..end);
+                });
+                end = start;
+            }
+            stretch /= 2;
+        }
+    }
+
+    /// Entries of the units that are gone are dropped, given to others, or
+    /// left for a refusal.
+    fn fewer_units(&mut self) {
+        for units in 1..self.case.units {
+            let drop = |schedule: &mut Vec<u8>| schedule.retain(|&unit| unit < units);
+            let give = |schedule: &mut Vec<u8>| schedule.iter_mut().for_each(|unit| *unit %= units);
+            let leave = |_: &mut Vec<u8>| {};
+            if self.set_units(units, drop)
+                || self.set_units(units, give)
+                || self.set_units(units, leave)
+            {
+                return;
+            }
+        }
+    }
+
+    fn set_units(&mut self, units: u8, change: impl Fn(&mut Vec<u8>)) -> bool {
+        self.try_change(|case| {
+            case.units = units;
+            change(&mut case.schedule);
+        })
+    }
+
+    fn smaller_line(&mut self) {
+        self.thin(|case| &mut case.line);
+        self.smaller_symbols(
+            |case| case.line.iter().copied().map(Symbol::Operator).collect(),
+            |case, symbols| case.line = symbols.iter().map(|&symbol| number(symbol)).collect(),
+        );
+    }
+
+    fn smaller_sides(&mut self) {
+        for rule in 0..self.case.draft.rules.len() {
+            for side in [left, right] {
+                self.smaller_symbols(
+                    |case| side(&mut case.clone().draft.rules[rule]).clone(),
+                    |case, symbols| *side(&mut case.draft.rules[rule]) = symbols.to_vec(),
+                );
+            }
+        }
+    }
+
+    /// Puts an argument, or a constant, in the place of a whole part.
+    fn smaller_symbols(
+        &mut self,
+        get: impl Fn(&Case) -> Vec<Symbol>,
+        set: impl Fn(&mut Case, &[Symbol]),
+    ) {
+        let mut start = 0;
+        while start < get(&self.case).len() {
+            let symbols = get(&self.case);
+            let kept = replacements(&self.case.draft, &symbols, start)
+                .into_iter()
+                .any(|candidate| self.try_change(|case| set(case, &candidate)));
+            // A part made smaller may become smaller still.
+            if !kept {
+                start += 1;
+            }
+        }
+    }
+
+    fn simpler_strategies(&mut self) {
+        for operator in 0..self.case.draft.operators.len() {
+            if self.case.draft.operators[operator].strategy.is_none() {
+                continue;
+            }
+            if !self.try_change(|case| case.draft.operators[operator].strategy = None) {
+                self.thin(|case| {
+                    case.draft.operators[operator]
+                        .strategy
+                        .get_or_insert_with(Vec::new)
+                });
+            }
+        }
+    }
+
+    /// Lets the lowest operator with as many arguments stand for another.
+    fn merge_operators(&mut self) {
+        for operator in (0..self.case.draft.operators.len()).rev() {
+            let arity = self.case.draft.operators[operator].arity;
+            let mut arities = self.case.draft.operators.iter().map(|other| other.arity);
+            let lowest = arities.position(|other| other == arity).unwrap_or(operator);
+            let (from, to) = (operator as u8, lowest as u8);
+            self.try_change(|case| rename_in_line(case, from, to));
+            self.try_change(|case| {
+                rename_in_line(case, from, to);
+                rename_in_rules(case, from, to);
+            });
+        }
+    }
+
+    /// In pairs too: two plain operators take a whole byte, so that all later
+    /// fields keep their place within the bytes.
+    fn fewer_operators(&mut self) {
+        for together in [1, 2] {
+            let mut unused = unused_operators(&self.case);
+            while unused.len() >= together {
+                let dropped = unused.split_off(unused.len() - together);
+                self.try_change(|case| {
+                    dropped
+                        .iter()
+                        .rev()
+                        .for_each(|&operator| remove_operator(case, operator));
+                });
+            }
+        }
+    }
+
+    fn simpler_frame(&mut self) {
+        self.try_change(|case| case.work_offset = 0);
+        self.try_change(|case| case.output_len = OUTPUT_LEN);
+        self.try_change(|case| case.writer_offset = 0);
+    }
+
+    fn smaller_budget(&mut self) {
+        self.try_change(|case| case.budget = 0);
+        while self.try_change(|case| case.budget /= 2) {}
+        while self.try_change(|case| case.budget = case.budget.saturating_sub(1)) {}
+    }
+}
+
+fn left(rule: &mut RuleDraft) -> &mut Vec<Symbol> {
+    &mut rule.left
+}
+
+fn right(rule: &mut RuleDraft) -> &mut Vec<Symbol> {
+    &mut rule.right
+}
+
+fn number(symbol: Symbol) -> u8 {
+    match symbol {
+        Symbol::Operator(operator) => operator,
+        Symbol::Variable(_) => unreachable!("a line has no variables"),
+    }
+}
+
+/// The symbols with the part at `start` made smaller, in each way there is.
+fn replacements(draft: &Draft, symbols: &[Symbol], start: usize) -> Vec<Vec<Symbol>> {
+    let Some(end) = draft.part_end(symbols, start) else {
+        return Vec::new();
+    };
+    if end - start < 2 {
+        return Vec::new();
+    }
+    let replaced = |part: &[Symbol]| [&symbols[..start], part, &symbols[end..]].concat();
+    let mut found: Vec<Vec<Symbol>> = constant(draft)
+        .iter()
+        .map(|leaf| replaced(&[*leaf]))
+        .collect();
+    let mut argument = start + 1;
+    while argument < end {
+        let argument_end = draft
+            .part_end(symbols, argument)
+            .expect("inside a complete part");
+        found.push(replaced(&symbols[argument..argument_end]));
+        argument = argument_end;
+    }
+    found
+}
+
+fn constant(draft: &Draft) -> Option<Symbol> {
+    let place = draft
+        .operators
+        .iter()
+        .position(|operator| operator.arity == 0)?;
+    Some(Symbol::Operator(place as u8))
+}
+
+/// From the lowest up, so that dropping the highest leaves the others' numbers.
+fn unused_operators(case: &Case) -> Vec<u8> {
+    let all = 0..case.draft.operators.len();
+    all.map(|operator| operator as u8)
+        .filter(|&operator| !is_used(case, operator))
+        .collect()
+}
+
+fn is_used(case: &Case, operator: u8) -> bool {
+    let symbol = Symbol::Operator(operator);
+    case.line.contains(&operator)
+        || case
+            .draft
+            .rules
+            .iter()
+            .any(|rule| rule.left.contains(&symbol) || rule.right.contains(&symbol))
+}
+
+fn rename_in_line(case: &mut Case, from: u8, to: u8) {
+    for number in case.line.iter_mut().filter(|number| **number == from) {
+        *number = to;
+    }
+}
+
+fn rename_in_rules(case: &mut Case, from: u8, to: u8) {
+    for symbol in rule_symbols(case).filter(|symbol| **symbol == Symbol::Operator(from)) {
+        *symbol = Symbol::Operator(to);
+    }
+}
+
+fn rule_symbols(case: &mut Case) -> impl Iterator<Item = &mut Symbol> {
+    let rules = case.draft.rules.iter_mut();
+    rules.flat_map(|rule| rule.left.iter_mut().chain(&mut rule.right))
+}
+
+/// Drops an unused operator; those after it move down.
+fn remove_operator(case: &mut Case, operator: u8) {
+    case.draft.operators.remove(operator.into());
+    for number in &mut case.line {
+        *number -= u8::from(*number > operator);
+    }
+    for symbol in rule_symbols(case) {
+        if let Symbol::Operator(number) = symbol {
+            *number -= u8::from(*number > operator);
+        }
+    }
+}

@@ -1,0 +1,122 @@
+//! What an implementation under comparison offers.
+
+use crate::model::{self, Answer};
+
+/// The parts of a run that are not lent buffers to write to.
+#[derive(Clone, Copy, Debug)]
+pub struct Question<'a> {
+    pub book: &'a [u8],
+    pub line: &'a [u8],
+    pub units: u8,
+    pub budget: u32,
+    pub schedule: &'a [u8],
+}
+
+/// The values of an answer. After a refusal all but its number are 0.
+#[derive(Clone, Copy, Debug, Default, PartialEq, Eq)]
+pub struct Told {
+    /// 0 if nothing is refused.
+    pub refusal: u8,
+    pub ending: u8,
+    pub rewrites: u64,
+    pub entries: u64,
+    pub granted: u64,
+    /// `None` from a subject that doesn't report it.
+    pub kept: Option<u64>,
+    /// The symbols written at the front of the output.
+    pub length: usize,
+}
+
+impl Told {
+    pub fn refused(number: u8) -> Told {
+        Told {
+            refusal: number,
+            kept: Some(0),
+            ..Told::default()
+        }
+    }
+
+    pub fn answered(answer: &Answer) -> Told {
+        Told {
+            refusal: 0,
+            ending: answer.ending,
+            rewrites: answer.rewrites,
+            entries: answer.entries,
+            granted: answer.granted,
+            kept: Some(answer.kept),
+            length: answer.term.len(),
+        }
+    }
+}
+
+/// The book writer's values.
+#[derive(Clone, Copy, Debug, Default, PartialEq, Eq)]
+pub struct Written {
+    pub refusal: u8,
+    pub length: usize,
+}
+
+/// Buffers are lent by the comparison, which also looks at what became of
+/// them; an implementation hands its values over as they come.
+pub trait Subject {
+    /// The published length of the work area, at most 65,536.
+    fn published(&self) -> usize;
+
+    fn answer(&mut self, question: &Question, work: &mut [u8], output: &mut [u8]) -> Told;
+
+    fn written(&mut self, book: &[u8], output: &mut [u8]) -> Written;
+}
+
+/// The model needs no work area; it asks for the longest one allowed so that
+/// the comparison's own cost shows.
+pub const MODEL_PUBLISHED: usize = 65_536;
+
+/// The model compared with itself.
+pub struct ModelSubject;
+
+impl Subject for ModelSubject {
+    fn published(&self) -> usize {
+        MODEL_PUBLISHED
+    }
+
+    fn answer(&mut self, question: &Question, work: &mut [u8], output: &mut [u8]) -> Told {
+        let answer = model::answer(
+            question.book,
+            question.line,
+            question.units,
+            question.budget,
+            question.schedule,
+            work.len(),
+            output.len(),
+            MODEL_PUBLISHED,
+        );
+        hand_over(answer, output)
+    }
+
+    fn written(&mut self, book: &[u8], output: &mut [u8]) -> Written {
+        match model::written(book, output.len()) {
+            Err(refusal) => Written { refusal, length: 0 },
+            Ok(bytes) => {
+                output[..bytes.len()].copy_from_slice(&bytes);
+                Written {
+                    refusal: 0,
+                    length: bytes.len(),
+                }
+            }
+        }
+    }
+}
+
+/// Writes the term at the output's front and answers the values. Only a
+/// broken model's term can be longer than the output.
+pub fn hand_over(answer: Result<Answer, u8>, output: &mut [u8]) -> Told {
+    match answer {
+        Err(number) => Told::refused(number),
+        Ok(answer) => {
+            for (place, operator) in output.iter_mut().zip(&answer.term) {
+                *place = *operator;
+            }
+            Told::answered(&answer)
+        }
+    }
+}

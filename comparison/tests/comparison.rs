@@ -1,0 +1,72 @@
+//! The comparison finds no difference in the model, and every slip.
+
+use comparison::broken::{BrokenModel, Slip, SLIPS};
+use comparison::compare::{check, compare, Tally};
+use comparison::subject::{ModelSubject, Question, Subject, Told, Written};
+
+#[test]
+fn the_model_agrees_with_itself_and_everything_is_met() {
+    let (tally, difference) = compare(&mut ModelSubject, 31, 0..6000);
+    assert!(difference.is_none());
+    assert_eq!(tally.cases, 6000);
+    assert!(tally.endings.iter().all(|&count| count > 0), "{tally}");
+    assert!(
+        tally.refusals[1..=16].iter().all(|&count| count > 0),
+        "{tally}"
+    );
+    assert!(
+        tally.writer_refusals[1..=9].iter().all(|&count| count > 0),
+        "{tally}"
+    );
+    assert!(
+        tally.books_written > 0 && tally.writer_refusals[16] > 0,
+        "{tally}"
+    );
+}
+
+#[test]
+fn every_slip_is_found_and_made_small() {
+    for (name, slip) in SLIPS {
+        let mut subject = BrokenModel { slip };
+        let (_, difference) = compare(&mut subject, 32, 0..20_000);
+        let difference = difference.unwrap_or_else(|| panic!("{name} is not found"));
+        let small = &difference.small;
+        assert!(
+            check(&mut subject, small, &mut Tally::default()).is_some(),
+            "{name}"
+        );
+        assert!(small.draft.rules.len() <= 3, "{name}: {difference}");
+        assert!(small.draft.operators.len() <= 8, "{name}: {difference}");
+        assert!(small.units <= 5, "{name}: {difference}");
+        // Copies matter only near the symbol limit.
+        let line_limit = if slip == Slip::Copies { 1024 } else { 30 };
+        assert!(small.line.len() <= line_limit, "{name}: {difference}");
+        assert!(small.schedule.len() <= 80, "{name}: {difference}");
+    }
+}
+
+/// A base library doesn't report the kept FORKs.
+struct WithoutKept;
+
+impl Subject for WithoutKept {
+    fn published(&self) -> usize {
+        ModelSubject.published()
+    }
+
+    fn answer(&mut self, question: &Question, work: &mut [u8], output: &mut [u8]) -> Told {
+        Told {
+            kept: None,
+            ..ModelSubject.answer(question, work, output)
+        }
+    }
+
+    fn written(&mut self, book: &[u8], output: &mut [u8]) -> Written {
+        ModelSubject.written(book, output)
+    }
+}
+
+#[test]
+fn a_subject_may_leave_kept_out() {
+    let (_, difference) = compare(&mut WithoutKept, 33, 0..500);
+    assert!(difference.is_none());
+}
