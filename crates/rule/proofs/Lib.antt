@@ -1,0 +1,7 @@
+pub mod Sides
+pub mod Bindings
+pub mod Matches
+pub mod Fills
+pub mod Choices
+pub mod Tables
+pub mod Laws

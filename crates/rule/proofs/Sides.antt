@@ -1,0 +1,127 @@
+-- Symbols in the book's bits, read one after another: what is read is what stands there, and no other symbols stand there. Assumes nothing.
+use mathlib.Core.List.{List, [], _∷_, _++_, append-assoc}
+use mathlib.Core.Logic.{_⊎_, inl, inr}
+use mathlib.Core.Path.{_≡_, refl, sym, ap, ap₂, _∙_, subst}
+use Prim.Native.Nat.{ℕ, zero, suc, _+_, _-_, _≤_, _<_}
+use native.Mathlib.Omega.{arith}
+use lib.ListN.{length, replicate, length-replicate}
+use Rattle.paper.specs.Result.{Result, accepted, Read, return}
+use Rattle.paper.specs.Book.{Operator, Symbol}
+use Rattle.paper.specs.Reader.{read-symbol}
+use Rattle.paper.specs.Sound.{All}
+use Rattle.paper.specs.Writer.{concat, write-symbol}
+use Rattle.paper.proofs.Readers.{accepted-injective, refused-accepted}
+use Rattle.paper.proofs.Rules as paper
+use Rattle.paper.proofs.Rules.{symbol-written}
+use Rattle.paper.proofs.Trees.{Complete}
+use Rattle.side.specs.Side.{bitsAt, symbol, SymbolAt}
+use Rattle.side.specs.declared.Symbol as Sy
+use Rattle.term.specs.Line.{arity-in}
+use Rattle.rule.specs.Packed.{symbol-arity, Fits, Stands, Goes, All-at}
+
+-- any n operators serve to read a symbol
+operators : ℕ → List Operator
+operators n = replicate n (record { arity = 0; strategy = [] })
+
+fits : (n : ℕ) (s : Symbol) → Fits n s → paper.Fits (operators n) s
+unfolding operators
+fits n (Symbol.operator o) h = rw length-replicate h
+fits n (Symbol.variable v) h = h
+
+-- the first of the symbols that bits spell is read off them
+first : (n : ℕ) → n ≤ 256 → (s : Symbol) (ss : List Symbol) (rest xs : List ℕ) → Fits n s → xs ≡ concat write-symbol (s ∷ ss) ++ rest →
+    read-symbol (operators n) xs ≡ accepted (record { value = s; left = concat write-symbol ss ++ rest })
+unfolding operators concat return
+first n few s ss rest xs f e =
+    let l : length (operators n) ≡ n = length-replicate n _ in
+    ap (read-symbol (operators n)) (e ∙ append-assoc (write-symbol s) (concat write-symbol ss) rest)
+    ∙ symbol-written (operators n) s (concat write-symbol ss ++ rest) (omega arith) (fits n s f)
+
+module _ (bytes : List ℕ) (n : ℕ) (arities : List ℕ) where
+  -- of the symbols ss, s is the first, and the others stand at the position next
+  abbrev Behind : ℕ → ℕ → List Symbol → Symbol → ℕ → Type 0
+  Behind due room ss s next =
+      (ss′ : List Symbol) × (ss ≡ s ∷ ss′)
+      × ((due′ room′ : ℕ) → due′ ≡ due - 1 + symbol-arity arities s → room′ ≡ room - 1 → Stands bytes next n arities due′ room′ ss′)
+
+  abbrev Took : ℕ → ℕ → List Symbol → Sy.Symbol → Type 0
+  Took due room ss (Sy.Symbol.Operator o next) = Behind due room ss (Symbol.operator o) next
+  Took due room ss (Sy.Symbol.Variable v next) = Behind due room ss (Symbol.variable v) next
+  Took due room ss (Sy.Symbol.Refused k) = ⊥
+
+  behind : (due room : ℕ) (s : Symbol) (ss : List Symbol) (rest : List ℕ) → n ≤ 256 → All (Fits n) ss → Complete (symbol-arity arities) (symbol-arity arities s + due) ss →
+      suc (length ss) ≤ room → (t : Symbol) (next : ℕ) →
+      _≡_ {A = Result (Read Symbol)} (accepted (record { value = t; left = bitsAt bytes next })) (accepted (record { value = s; left = concat write-symbol ss ++ rest })) →
+      Behind (suc due) room (s ∷ ss) t next
+  behind due room s ss rest few fs c l t next e =
+      let q = accepted-injective e in
+      let z : s ≡ t = ap (λ (x : Read Symbol). x .value) (sym q) in (
+        ss,
+        ap (λ (x : Symbol). x ∷ ss) z,
+        λ due′ room′ d r. record {
+          stand = record { rest = rest; is = ap (λ (x : Read Symbol). x .left) q };
+          few = few;
+          fits = fs;
+          complete = subst (λ (d : ℕ). Complete (symbol-arity arities) d ss) (let k = ap (symbol-arity arities) z in omega arith) c;
+          short = omega arith;
+        },
+      )
+
+  -- what is read is the first of the symbols that stand there
+  took : (at due room : ℕ) (ss : List Symbol) (r : Sy.Symbol) → SymbolAt bytes at n r → 0 < due → Stands bytes at n arities due room ss → Took due room ss r
+  unfolding operators
+  took at zero room ss r h d k = absurd (omega arith)
+  took at (suc due) room [] r h d k = absurd (k .complete)
+  took at (suc due) room (s ∷ ss) r h d k =
+      go r (h .is (operators n) (length-replicate n _) ∙ first n (k .few) s ss (k .stand .rest) (bitsAt bytes at) (k .fits .0) (k .stand .is))
+    where
+      go : (r : Sy.Symbol) → symbol bytes r ≡ accepted (record { value = s; left = concat write-symbol ss ++ k .stand .rest }) → Took (suc due) room (s ∷ ss) r
+      go (Sy.Symbol.Operator o next) e = behind due room s ss (k .stand .rest) (k .few) (k .fits .1) (k .complete) (k .short) (Symbol.operator o) next e
+      go (Sy.Symbol.Variable v next) e = behind due room s ss (k .stand .rest) (k .few) (k .fits .1) (k .complete) (k .short) (Symbol.variable v) next e
+      go (Sy.Symbol.Refused m) e = absurd (refused-accepted e)
+
+  pub goes-operator : (P : List Symbol → List Symbol → Type 0) (at o next arity : ℕ) → SymbolAt bytes at n (Sy.Symbol.Operator o next) → arity ≡ arity-in arities o →
+      ((ss : List Symbol) → P (Symbol.operator o ∷ ss) ss) → Goes bytes at n arities P arity next
+  goes-operator P at o next arity h e p due room ss d s =
+      let (ss′, z, k) = took at due room ss (Sy.Symbol.Operator o next) h d s in
+      (ss′, λ due′ room′ f g. k due′ room′ (omega arith) g, subst (λ (l : List Symbol). P l ss′) (sym z) (p ss′))
+
+  pub goes-variable : (P : List Symbol → List Symbol → Type 0) (at v next : ℕ) → SymbolAt bytes at n (Sy.Symbol.Variable v next) →
+      ((ss : List Symbol) → P (Symbol.variable v ∷ ss) ss) → Goes bytes at n arities P 0 next
+  goes-variable P at v next h p due room ss d s =
+      let (ss′, z, k) = took at due room ss (Sy.Symbol.Variable v next) h d s in
+      (ss′, k, subst (λ (l : List Symbol). P l ss′) (sym z) (p ss′))
+
+  pub none-stand : (P : List Symbol → Type 0) (at k : ℕ) → SymbolAt bytes at n (Sy.Symbol.Refused k) → All-at bytes at n arities P
+  none-stand P at k h due room ss d s = absurd (took at due room ss (Sy.Symbol.Refused k) h d s)
+
+  pub all-operator : (P : List Symbol → Type 0) (at o next : ℕ) → SymbolAt bytes at n (Sy.Symbol.Operator o next) → ((ss : List Symbol) → P (Symbol.operator o ∷ ss)) →
+      All-at bytes at n arities P
+  all-operator P at o next h p due room ss d s =
+      let (ss′, z, k) = took at due room ss (Sy.Symbol.Operator o next) h d s in subst P (sym z) (p ss′)
+
+  -- no symbol is to come where no term is due or no room is left
+  pub none-left : (at due room : ℕ) (ss : List Symbol) → Stands bytes at n arities due room ss → (due ≡ 0) ⊎ (room ≡ 0) → ss ≡ []
+  none-left at due room [] k e = refl
+  none-left at zero room (s ∷ ss) k (inl e) = absurd (k .complete)
+  none-left at (suc due) room (s ∷ ss) k (inl e) = absurd (omega arith)
+  none-left at due room (s ∷ ss) k (inr e) = let l = k .short in absurd (omega arith)
+
+  -- bits spell only one list of symbols
+  spelt-once : n ≤ 256 → (due : ℕ) (ss ts : List Symbol) (xs rest rest′ : List ℕ) → All (Fits n) ss → All (Fits n) ts → Complete (symbol-arity arities) due ss →
+      Complete (symbol-arity arities) due ts → xs ≡ concat write-symbol ss ++ rest → xs ≡ concat write-symbol ts ++ rest′ → ss ≡ ts
+  spelt-once few zero [] [] xs rest rest′ f g c d p q = refl
+  spelt-once few zero [] (t ∷ ts) xs rest rest′ f g c d p q = absurd d
+  spelt-once few zero (s ∷ ss) ts xs rest rest′ f g c d p q = absurd c
+  spelt-once few (suc due) [] ts xs rest rest′ f g c d p q = absurd c
+  spelt-once few (suc due) (s ∷ ss) [] xs rest rest′ f g c d p q = absurd d
+  spelt-once few (suc due) (s ∷ ss) (t ∷ ts) xs rest rest′ f g c d p q =
+      let e = accepted-injective (sym (first n few s ss rest xs (f .0) p) ∙ first n few t ts rest′ xs (g .0) q) in
+      let z : s ≡ t = ap (λ (x : Read Symbol). x .value) e in
+      ap₂ (λ (x : Symbol) (l : List Symbol). x ∷ l) z
+      (spelt-once few (symbol-arity arities s + due) ss ts (concat write-symbol ss ++ rest) rest rest′ (f .1) (g .1) c
+      (subst (λ (x : Symbol). Complete (symbol-arity arities) (symbol-arity arities x + due) ts) (sym z) d) refl (ap (λ (x : Read Symbol). x .left) e))
+
+  pub stands-once : (at due room : ℕ) (ss ts : List Symbol) → Stands bytes at n arities due room ss → Stands bytes at n arities due room ts → ss ≡ ts
+  stands-once at due room ss ts h k =
+      spelt-once (h .few) due ss ts (bitsAt bytes at) (h .stand .rest) (k .stand .rest) (h .fits) (k .fits) (h .complete) (k .complete) (h .stand .is) (k .stand .is)
