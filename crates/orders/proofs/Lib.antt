@@ -1,0 +1,5 @@
+pub mod Rows
+pub mod Changes
+pub mod Forks
+pub mod Tables
+pub mod Entries
