@@ -42,7 +42,7 @@ match-same f g (Symbol.variable v ∷ ss) a xs b h =
     ap (λ (k : ℕ). match f ss (a + k) (drop k xs) (bind v (segment a k) b)) (skip-same f g 1 xs h)
     ∙ match-same f g ss (a + skip g 1 xs) (drop (skip g 1 xs) xs) (bind v (segment a (skip g 1 xs)) b) (all-drop _ (skip g 1 xs) xs h)
 
-rewrite-same : (f g : ℕ → ℕ) (rs : List Rule) (a : ℕ) (xs : List ℕ) → All (λ o. f o ≡ g o) xs → rewrite f rs a xs ≡ rewrite g rs a xs
+pub rewrite-same : (f g : ℕ → ℕ) (rs : List Rule) (a : ℕ) (xs : List ℕ) → All (λ o. f o ≡ g o) xs → rewrite f rs a xs ≡ rewrite g rs a xs
 unfolding rewrite
 rewrite-same f g [] a xs h = refl
 rewrite-same f g (r ∷ rs) a xs h =
