@@ -129,7 +129,7 @@ unfolding read-count checked
 count-read zero xs h l = absurd (omega arith)
 count-read (suc n) xs h l = bind-return (field 8) checked (toBits 8 (suc n) ++ xs) xs (suc n) (field-toBits 8 (suc n) xs l) ∙ checked-suc n xs
 
-end-good : (B : Book) (xs : List ℕ) (r : Read Book) → read-end B xs ≡ accepted r → r .value ≡ B
+pub end-good : (B : Book) (xs : List ℕ) (r : Read Book) → read-end B xs ≡ accepted r → r .value ≡ B
 unfolding read-end
 end-good B xs r e = go (ltb (length xs) 8) (all-zero xs) e
   where

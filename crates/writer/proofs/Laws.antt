@@ -1,0 +1,120 @@
+-- The writer's answers, and what a caller has of them: a book that was written reads as the one that was given, and a refusal leaves the output
+-- as it was. Assumes nothing.
+use mathlib.Core.Bool.{Bool, true, false}
+use mathlib.Core.List.{List, _++_}
+use mathlib.Core.Path.{_≡_, refl, sym, ap, _∙_}
+use Prim.Native.Nat.{ℕ, _≤_, _<_}
+use native.Mathlib.Omega.{arith}
+use borrow.Author.Tests.{ltb-false as not-below}
+use lib.Dec.{ltb}
+use lib.ListN.{length, take, drop}
+use lib.Seq.{take-at, drop-at}
+use Rattle.paper.specs.Result.{Result, refused, accepted, then}
+use Rattle.paper.specs.Book.{Book}
+use Rattle.paper.specs.Reader.{readBook}
+use Rattle.paper.specs.Writer.{writeBook}
+use Rattle.paper.specs.Page.{writtenOf}
+use Rattle.paper.proofs.Tests.{ltb-true, ltb-false}
+use Rattle.paper.proofs.Books.{read-book-good, round-trip}
+use Rattle.paper.proofs.Prefix.{read-prefix}
+use Rattle.book.specs.Answer.{BookAt}
+use Rattle.book.specs.declared.Book as B
+use Rattle.writer.specs.declared.Written as D
+use Rattle.writer.specs.Writing.{Outcome, writing, Answers, Accepted}
+
+-- what is written for a reading
+abbrev of : Result Book → Result (List ℕ)
+of x = then x (λ B. accepted (writeBook B))
+
+writing-of : (bytes output : List ℕ) (x : Result Book) → readBook bytes ≡ x → writing (writtenOf bytes) output ≡ writing (of x) output
+unfolding writtenOf
+writing-of bytes output x e = ap (λ (y : Result Book). writing (of y) output) e
+
+module _ (bytes output : List ℕ) where
+  pub answers-refused : (k : ℕ) → readBook bytes ≡ refused k → Answers bytes output output (D.Written.Refused k)
+  unfolding writing then
+  answers-refused k e = record { is = writing-of bytes output (refused k) e }
+
+  module _ (B : Book) (e : readBook bytes ≡ accepted B) (size : ℕ) (s : size ≡ length (writeBook B)) where
+    pub answers-short : length output < size → Answers bytes output output (D.Written.Refused 16)
+    unfolding writing then
+    answers-short h = record { is = writing-of bytes output (accepted B) e ∙ rw (ltb-true (length output) (length (writeBook B)) (omega arith)) }
+
+    pub answers-written : (output′ : List ℕ) (r : ℕ) → r ≡ length (writeBook B) → size ≤ length output → output′ ≡ writeBook B ++ drop r output →
+        Answers bytes output output′ (D.Written.Length r)
+    unfolding writing then
+    answers-written output′ r f h g = record {
+      is = writing-of bytes output (accepted B) e ∙ rw (ltb-false (length output) (length (writeBook B)) (omega arith), g, f);
+    }
+
+-- what stands behind a book's first 65,536 bytes is not looked at
+pub answers-prefix : (bytes output output′ : List ℕ) (r : D.Written) → 65536 ≤ length bytes → Answers (take 65536 bytes) output output′ r →
+    Answers bytes output output′ r
+unfolding writtenOf
+answers-prefix bytes output output′ r h a = record { is = writing-of bytes output (readBook (take 65536 bytes)) (read-prefix bytes h) ∙ a .is }
+
+-- what the book's reader gives
+pub accepted-of : {bytes arities laid lefts rights roots : List ℕ} {n m : ℕ} → BookAt bytes arities laid lefts rights roots (B.Book.Read n m) →
+    Accepted bytes n arities
+accepted-of h =
+    let t = h .is .tables .operators in
+    record { book = h .is .book; is = h .is .is; table = record { count = t .count; says = λ o l. t .each o l .arity-is } }
+
+pub few : {bytes arities : List ℕ} {n : ℕ} → Accepted bytes n arities → n < 256
+few {bytes} a = let c = a .table .count in let g = read-book-good bytes (a .book) (a .is) .few-operators in omega arith
+
+-- The caller's laws
+
+-- the first n bytes of the output read as the book does, and the others are as they were
+pub record Returned (book output output′ : List ℕ) (n : ℕ) : Type 0 where
+  pub read : Book
+  pub book-is : readBook book ≡ accepted read
+  pub written-is : readBook (take n output′) ≡ accepted read
+  pub others : drop n output′ ≡ drop n output
+  pub fits : n ≤ length output
+
+module _ {book output output′ : List ℕ} where
+  pub returned : {n : ℕ} → Answers book output output′ (D.Written.Length n) → Returned book output output′ n
+  unfolding writing then
+  returned {n} a = go (readBook book) refl
+    where
+      sized : (B : Book) → readBook book ≡ accepted B → (b : Bool) → ltb (length output) (length (writeBook B)) ≡ b → Returned book output output′ n
+      sized B e true f =
+          let z : _≡_ {A = ℕ} 0 1 =
+          let h = rw f at (sym (writing-of book output (accepted B) e) ∙ a .is) in let i = ap (λ (o : Outcome). o .answer) h in cc in
+          absurd (omega arith)
+      sized B e false f =
+          let h = rw f at (sym (writing-of book output (accepted B) e) ∙ a .is) in
+          let i = ap (λ (o : Outcome). o .answer) h in
+          let l : length (writeBook B) ≡ n = cc in
+          let g : writeBook B ++ drop n output ≡ output′ = ap (λ (k : ℕ). writeBook B ++ drop k output) (sym l) ∙ ap (λ (o : Outcome). o .output) h in
+          record {
+            read = B;
+            book-is = e;
+            written-is = ap readBook (ap (take n) (sym g) ∙ take-at (writeBook B) (drop n output) n l) ∙ round-trip book B e;
+            others = ap (drop n) (sym g) ∙ drop-at (writeBook B) (drop n output) n l;
+            fits = omega (arith, not-below (length output) (length (writeBook B)) f);
+          }
+
+      go : (x : Result Book) → readBook book ≡ x → Returned book output output′ n
+      go (refused k) e =
+          let i = ap (λ (o : Outcome). o .answer) (sym (writing-of book output (refused k) e) ∙ a .is) in
+          let z : _≡_ {A = ℕ} 0 1 = cc in
+          absurd (omega arith)
+      go (accepted B) e = sized B e (ltb (length output) (length (writeBook B))) refl
+
+  pub untouched : {k : ℕ} → Answers book output output′ (D.Written.Refused k) → output′ ≡ output
+  unfolding writing then
+  untouched {k} a = go (readBook book) refl
+    where
+      go : (x : Result Book) → readBook book ≡ x → output′ ≡ output
+      go (refused j) e = sym (ap (λ (o : Outcome). o .output) (sym (writing-of book output (refused j) e) ∙ a .is))
+      go (accepted B) e = sized (ltb (length output) (length (writeBook B))) refl
+        where
+          sized : (b : Bool) → ltb (length output) (length (writeBook B)) ≡ b → output′ ≡ output
+          sized true f = sym (ap (λ (o : Outcome). o .output) (rw f at (sym (writing-of book output (accepted B) e) ∙ a .is)))
+          sized false f =
+              let h = rw f at (sym (writing-of book output (accepted B) e) ∙ a .is) in
+              let i = ap (λ (o : Outcome). o .answer) h in
+              let z : _≡_ {A = ℕ} 0 1 = cc in
+              absurd (omega arith)

@@ -1,0 +1,6 @@
+pub mod Puts
+pub mod Lists
+pub mod Operators
+pub mod Rules
+pub mod Books
+pub mod Laws

@@ -1,0 +1,290 @@
+// The book's writer (document 01, 'The program and its page'; refusals 1 to 9 and 16): operators with their settled lists, rules as they stand.
+use bits::Bits;
+use book::Book;
+use side::Rule;
+use strategy::Strategy;
+ghost use mathlib.Core.Path.{_≡_};
+ghost use Prim.Native.Nat.{_+_, _-_, _*_, _%_, _^_, _<_, _≤_};
+ghost use lib.ListN.{length, take};
+ghost use Rattle.paper.specs.Bits.{toBits};
+ghost use Rattle.paper.specs.Writer.{concat, same, numbers};
+ghost use Rattle.paper.specs.Strategy.{default};
+ghost use Rattle.side.specs.Side.{bitsAt};
+ghost use Rattle.writer.specs.Put.{Put, list-bits, OperatorAt, OperatorsAt, RulesEnd, RulesAt, BookAt};
+ghost use Rattle.writer.specs.Writing.{Accepted, Answers};
+
+// How many bytes are written, or a refusal.
+pub enum Written {
+    Length(usize),
+    Refused(u8),
+}
+
+// The positions behind what is read and behind what is written.
+struct Places {
+    from: usize,
+    to: usize,
+}
+
+fn wide(x: u8) -> usize
+    ensures { λ r. ⌜ (r ≡ x) × (r < 256) ⌝ }
+{
+    x as usize
+}
+
+fn count(x: u16) -> usize
+    ensures { λ r. ⌜ r ≡ x ⌝ }
+{
+    x as usize
+}
+
+fn narrow(x: u16) -> u8
+    requires { ⌜ x < 256 ⌝ }
+    ensures { λ r. ⌜ r ≡ x ⌝ }
+{
+    x as u8
+}
+
+fn short(x: usize) -> u16
+    requires { ⌜ x < 65536 ⌝ }
+    ensures { λ r. ⌜ r ≡ x ⌝ }
+{
+    x as u16
+}
+
+// The 4 low bits: all of an item's.
+fn low(x: u8) -> u16
+    ensures { λ r. ⌜ (r ≡ x % 16) × (r < 16) ⌝ }
+{
+    (x % 16) as u16
+}
+
+fn less(x: usize, y: usize) -> usize
+    ensures { λ r. ⌜ r ≡ x - y ⌝ }
+{
+    if y < x { x - y } else { 0 }
+}
+
+// Up to 16 of the bits that are left.
+fn some_of(left: usize) -> usize
+    requires { ⌜ 0 < left ⌝ }
+    ensures { λ r. ⌜ (0 < r) × (r ≤ 16) × (r ≤ left) ⌝ }
+{
+    if left < 16 { left } else { 16 }
+}
+
+// Writes a field where it fits, and answers the position behind it.
+fn emit(out: &mut [u8], at: usize, n: usize, v: u16) -> usize
+    requires { ⌜ (n ≤ 16) × (v < 2 ^ n) × (at ≤ 2 ^ 40) ⌝ }
+    ensures { λ r. ⌜ Put at (toBits n v) (now (out .entry)) (now (out .exit)) r × (r ≡ at + n) ⌝ }
+{
+    let end = at + n;
+    if (end + 7) / 8 <= out.len() {
+        bits::put(out, at, n, v);
+        return end;
+    }
+    end
+}
+
+// Are the first len numbers the default list: 1 2 .. arity 0?
+fn is_default(arity: u8, items: &[u8; 32], len: usize) -> bool
+    requires { ⌜ (arity < 8) × (length (now items) ≡ 32) × (len ≤ 31) ⌝ }
+    ensures { λ r. ⌜ r ≡ same (take len (now (items .entry))) (numbers (default arity)) ⌝ }
+{
+    let n = wide(arity);
+    if len != n + 1 {
+        return false;
+    }
+    let mut i = 0;
+    while i < n {
+        if wide(items[i]) != i + 1 {
+            return false;
+        }
+        i += 1;
+    }
+    items[n] == 0
+}
+
+// Writes the first len numbers, 4 bits each.
+fn write_items(items: &[u8; 32], len: usize, out: &mut [u8], at: usize) -> usize
+    requires { ⌜ (length (now items) ≡ 32) × (len ≤ 31) × (at ≤ 2 ^ 39) ⌝ }
+    ensures { λ r. ⌜ Put at (concat (toBits 4) (take len (now (items .entry)))) (now (out .entry)) (now (out .exit)) r × (r ≤ at + 124) ⌝ }
+{
+    let mut to = at;
+    let mut i = 0;
+    while i < len {
+        to = emit(out, to, 4, low(items[i]));
+        i += 1;
+    }
+    to
+}
+
+// Writes a settled list: the bit 0 for the default, else the bit 1, its length and its numbers.
+fn write_strategy(arity: u8, items: &[u8; 32], len: usize, out: &mut [u8], at: usize) -> usize
+    requires { ⌜ (arity < 8) × (length (now items) ≡ 32) × (len ≤ 31) × (at ≤ 2 ^ 38) ⌝ }
+    ensures { λ r. ⌜ Put at (list-bits arity (take len (now (items .entry)))) (now (out .entry)) (now (out .exit)) r × (r ≤ at + 130) ⌝ }
+{
+    if is_default(arity, items, len) {
+        return emit(out, at, 1, 0);
+    }
+    let p = emit(out, at, 1, 1);
+    let q = emit(out, p, 5, short(len));
+    write_items(items, len, out, q)
+}
+
+// Writes the operator that is read at position at.
+fn write_operator(book: &[u8], at: usize, out: &mut [u8], to: usize) -> Places
+    requires { ⌜ (length (now book) ≤ 65536) × (to ≤ 2 ^ 37) ⌝ }
+    ensures { λ r. ⌜ OperatorAt (now (book .entry)) at to (now (out .entry)) (now (out .exit)) (r .from) (r .to) × (r .to ≤ to + 133) ⌝ }
+{
+    let Bits::Value(a, p) = bits::field(book, at, 3) else {
+        return Places { from: at, to };
+    };
+    let arity = narrow(a);
+    let mut items = [0u8; 32];
+    match strategy::read_strategy(book, p, arity, &mut items) {
+        Strategy::Refused(_) => Places { from: at, to },
+        Strategy::Read(len, next) => {
+            let q = emit(out, to, 3, a);
+            let end = write_strategy(arity, &items, len, out, q);
+            Places {
+                from: next,
+                to: end,
+            }
+        }
+    }
+}
+
+// Writes the n operators from position at on.
+fn write_operators(book: &[u8], at: usize, n: usize, out: &mut [u8], to: usize) -> Places
+    requires { ⌜ (length (now book) ≤ 65536) × (n < 256) × (to ≤ 2 ^ 36) ⌝ }
+    ensures { λ r. ⌜ OperatorsAt (now (book .entry)) at n to (now (out .entry)) (now (out .exit)) (r .from) (r .to) × (r .to ≤ to + 133 * 255) ⌝ }
+{
+    let mut p = at;
+    let mut q = to;
+    let mut o = 0;
+    while o < n {
+        let next = write_operator(book, p, out, q);
+        p = next.from;
+        q = next.to;
+        o += 1;
+    }
+    Places { from: p, to: q }
+}
+
+// The position behind the m rules from position at on.
+fn rules_end(book: &[u8], at: usize, n: usize, arities: &[u8; 256], m: usize) -> usize
+    requires { ⌜ length (now book) ≤ 65536 ⌝ }
+    ensures { λ r. ⌜ RulesEnd (now (book .entry)) at n (now (arities .entry)) m r ⌝ }
+{
+    let mut p = at;
+    let mut i = 0;
+    while i < m {
+        let Rule::Read(_, _, next) = side::read_rule(book, p, n, arities) else {
+            return p;
+        };
+        p = next;
+        i += 1;
+    }
+    p
+}
+
+// Writes k bits of the book as they stand.
+fn copy(book: &[u8], from: usize, k: usize, out: &mut [u8], to: usize) -> usize
+    requires { ⌜ (length (now book) ≤ 65536) × (k ≤ 8 * length (now book) - from) × (to ≤ 2 ^ 37) ⌝ }
+    ensures { λ r. ⌜ Put to (take k (bitsAt (now (book .entry)) from)) (now (out .entry)) (now (out .exit)) r × (r ≤ to + k) ⌝ }
+{
+    let mut p = from;
+    let mut q = to;
+    let mut left = k;
+    while 0 < left {
+        let n = some_of(left);
+        let Bits::Value(v, next) = bits::field(book, p, n) else {
+            return q;
+        };
+        q = emit(out, q, n, v);
+        p = next;
+        left -= n;
+    }
+    q
+}
+
+// Writes the rules that are read at position at: their count and their sides, as they stand.
+fn write_rules(
+    book: &[u8],
+    at: usize,
+    n: usize,
+    arities: &[u8; 256],
+    out: &mut [u8],
+    to: usize,
+) -> usize
+    requires { ⌜ (length (now book) ≤ 65536) × (to ≤ 2 ^ 37) ⌝ }
+    ensures { λ r. ⌜ RulesAt (now (book .entry)) at n (now (arities .entry)) to (now (out .entry)) (now (out .exit)) r × (r ≤ to + 524288) ⌝ }
+{
+    let Bits::Value(m, p) = bits::field(book, at, 8) else {
+        return to;
+    };
+    let end = rules_end(book, p, n, arities, count(m));
+    let k = less(bits::left(book, at), bits::left(book, end));
+    copy(book, at, k, out, to)
+}
+
+// Writes an accepted book of n operators, and answers how many bytes it takes.
+fn write_accepted(book: &[u8], n: usize, arities: &[u8; 256], out: &mut [u8]) -> usize
+    requires { ⌜ (length (now book) ≤ 65536) × (n < 256) ⌝ }
+    ensures { λ r. ⌜ BookAt (now (book .entry)) n (now (arities .entry)) (now (out .entry)) (now (out .exit)) r ⌝ }
+{
+    let at = emit(out, 0, 8, short(n));
+    let places = write_operators(book, 8, n, out, at);
+    let from = places.from;
+    let to = places.to;
+    let end = write_rules(book, from, n, arities, out, to);
+    let all = emit(out, end, (8 - end % 8) % 8, 0);
+    all / 8
+}
+
+// The written book where it fits: its length is found by writing it nowhere.
+fn write_fitting(book: &[u8], n: usize, arities: &[u8; 256], output: &mut [u8]) -> Written
+    requires { ⌜ (length (now book) ≤ 65536) × Accepted (now book) n (now arities) ⌝ }
+    ensures { λ r. ⌜ Answers (now (book .entry)) (now (output .entry)) (now (output .exit)) r ⌝ }
+{
+    let mut nowhere = [0u8; 1];
+    let size = write_accepted(book, n, arities, &mut nowhere);
+    if output.len() < size {
+        return Written::Refused(16);
+    }
+    let length = write_accepted(book, n, arities, output);
+    Written::Length(length)
+}
+
+// A book of at most 65,536 bytes.
+fn write_short(book: &[u8], output: &mut [u8]) -> Written
+    requires { ⌜ length (now book) ≤ 65536 ⌝ }
+    ensures { λ r. ⌜ Answers (now (book .entry)) (now (output .entry)) (now (output .exit)) r ⌝ }
+{
+    let mut arities = [0u8; 256];
+    let mut laid = [0u8; 4096];
+    let mut lefts = [0u32; 256];
+    let mut rights = [0u32; 256];
+    let mut roots = [0u8; 256];
+    match book::read_book(
+        book,
+        &mut arities,
+        &mut laid,
+        &mut lefts,
+        &mut rights,
+        &mut roots,
+    ) {
+        Book::Refused(k) => Written::Refused(k),
+        Book::Read(n, _) => write_fitting(book, n, &arities, output),
+    }
+}
+
+// Any book and any output. What stands behind a book's first 65,536 bytes does not change what it reads as.
+pub fn write_book(book: &[u8], output: &mut [u8]) -> Written
+    ensures { λ r. ⌜ Answers (now (book .entry)) (now (output .entry)) (now (output .exit)) r ⌝ }
+{
+    if 65536 < book.len() {
+        return write_short(&book[0..65536], output);
+    }
+    write_short(book, output)
+}
