@@ -1,0 +1,190 @@
+// The library's rewrite against an unverified one, on the same packed rules and the same term of 1,000 symbols.
+#include "packer.h"
+#include "reader.h"
+#include "timing.h"
+#include <string.h>
+
+enum { RULES = 32, TERM = 1000, TURNS = 301, INNER = 256 };
+enum { END, TICK, BOTH, PAIR, OPERATORS };
+
+uint8_t bench_book_read(const uint8_t *book, size_t len, uint8_t *arities, uint8_t *laid, uint32_t *lefts, uint32_t *rights, uint8_t *roots);
+size_t bench_rule_rewrite(const uint8_t *book, size_t len, size_t n, size_t m, const uint8_t *arities, const uint32_t *lefts, const uint32_t *rights,
+    const uint8_t *roots, uint8_t *symbols, size_t size, size_t offset, uint8_t *scratch);
+
+// The unverified rewrite.
+
+typedef struct {
+    const uint8_t *bytes;
+    size_t bits;
+    size_t at;
+} side;
+
+// The bits behind a book that was read are there; the last window may reach past its end.
+static inline unsigned field(side *s, unsigned n) {
+    size_t i = s->at >> 3, last = (s->bits >> 3) - 1;
+    uint32_t w = (uint32_t)s->bytes[i] << 16;
+    if (i + 1 <= last) w |= (uint32_t)s->bytes[i + 1] << 8;
+    if (i + 2 <= last) w |= s->bytes[i + 2];
+    unsigned v = (w >> (24 - (s->at & 7) - n)) & ((1u << n) - 1);
+    s->at += n;
+    return v;
+}
+
+// The size of the term at an offset.
+static size_t term_size(const uint8_t *symbols, const uint8_t *arities, size_t at) {
+    size_t p = at, due = 1;
+    while (due) due = due - 1 + arities[symbols[p++]];
+    return p - at;
+}
+
+// The offset behind the term that a left side agrees with, or 0.
+static size_t match(side s, const tables *t, const uint8_t *symbols, size_t size, size_t offset, uint16_t *starts, uint16_t *sizes) {
+    size_t q = offset, due = 1;
+    while (due) {
+        due--;
+        if (field(&s, 1)) {
+            unsigned v = field(&s, 4);
+            starts[v] = (uint16_t)q;
+            sizes[v] = (uint16_t)term_size(symbols, t->arities, q);
+            q += sizes[v];
+        } else {
+            unsigned o = field(&s, 8);
+            if (q >= size || symbols[q] != o) return 0;
+            due += t->arities[o];
+            q++;
+        }
+    }
+    return q;
+}
+
+static size_t filled_size(side s, const tables *t, const uint16_t *sizes) {
+    size_t size = 0, due = 1;
+    while (due) {
+        due--;
+        if (field(&s, 1)) size += sizes[field(&s, 4)];
+        else {
+            due += t->arities[field(&s, 8)];
+            size++;
+        }
+    }
+    return size;
+}
+
+static size_t fill(side s, const tables *t, const uint8_t *symbols, const uint16_t *starts, const uint16_t *sizes, uint8_t *out) {
+    size_t k = 0, due = 1;
+    while (due) {
+        due--;
+        if (field(&s, 1)) {
+            unsigned v = field(&s, 4);
+            memcpy(out + k, symbols + starts[v], sizes[v]);
+            k += sizes[v];
+        } else {
+            unsigned o = field(&s, 8);
+            out[k++] = (uint8_t)o;
+            due += t->arities[o];
+        }
+    }
+    return k;
+}
+
+static size_t c_rewrite(const uint8_t *book, size_t len, unsigned m, const tables *t, uint8_t *symbols, size_t size, size_t offset, uint8_t *scratch) {
+    uint16_t starts[16], sizes[16];
+    for (unsigned i = 0; i < m; i++) {
+        if (offset >= size || symbols[offset] != t->roots[i]) continue;
+        size_t end = match((side){book, 8 * len, t->lefts[i]}, t, symbols, size, offset, starts, sizes);
+        if (!end) continue;
+        side right = {book, 8 * len, t->rights[i]};
+        if (offset + filled_size(right, t, sizes) + (size - end) > 1024) return 0;
+        size_t k = fill(right, t, symbols, starts, sizes, scratch);
+        memmove(symbols + offset + k, symbols + end, size - end);
+        memcpy(symbols + offset, scratch, k);
+        return offset + k + (size - end);
+    }
+    return 0;
+}
+
+// The book and the term.
+
+static packer book;
+
+static void put_operator(unsigned arity) { put(&book, arity << 1, 4); }
+
+static void put_symbols(const unsigned *symbols, unsigned count) {
+    for (unsigned i = 0; i < count; i++) symbols[i] & 0x100 ? put(&book, symbols[i] & 31, 5) : put(&book, symbols[i], 9);
+}
+
+// A variable: a bit 1 and its number.
+#define VAR(v) (0x100 | 16 | (v))
+
+// Rules that agree on the root and differ below it, then both(tick(X), pair(Y, Z)) gives both(pair(Z, X), tick(tick(Y))).
+static void make_book(void) {
+    const unsigned arities[OPERATORS] = {0, 1, 2, 2};
+    const unsigned other[] = {BOTH, TICK, VAR(0), TICK, VAR(1)}, end[] = {END};
+    const unsigned left[] = {BOTH, TICK, VAR(0), PAIR, VAR(1), VAR(2)};
+    const unsigned right[] = {BOTH, PAIR, VAR(2), VAR(0), TICK, TICK, VAR(1)};
+    put(&book, OPERATORS, 8);
+    for (unsigned o = 0; o < OPERATORS; o++) put_operator(arities[o]);
+    put(&book, RULES, 8);
+    for (unsigned i = 1; i < RULES; i++) put_symbols(other, 5), put_symbols(end, 1);
+    put_symbols(left, 6), put_symbols(right, 7);
+}
+
+static size_t put_ticks(uint8_t *term, size_t at, size_t count) {
+    memset(term + at, TICK, count - 1);
+    term[at + count - 1] = END;
+    return at + count;
+}
+
+// pair(A, pair(both(tick(X), pair(Y, Z)), B)): all parts of some size, and one of them behind what is rewritten.
+static size_t make_term(uint8_t *term) {
+    size_t at = 0;
+    term[at++] = PAIR;
+    at = put_ticks(term, at, 200);
+    term[at++] = PAIR;
+    term[at++] = BOTH;
+    term[at++] = TICK;
+    at = put_ticks(term, at, 20);
+    term[at++] = PAIR;
+    at = put_ticks(term, at, 200);
+    at = put_ticks(term, at, 200);
+    return put_ticks(term, at, TERM - at);
+}
+
+static const size_t OFFSET = 202;
+
+static size_t rattle_rewrite(const uint8_t *bytes, size_t len, unsigned m, const tables *t, uint8_t *symbols, size_t size, size_t offset, uint8_t *scratch) {
+    return bench_rule_rewrite(bytes, len, OPERATORS, m, t->arities, t->lefts, t->rights, t->roots, symbols, size, offset, scratch);
+}
+
+typedef size_t rewriter(const uint8_t *, size_t, unsigned, const tables *, uint8_t *, size_t, size_t, uint8_t *);
+
+// Nanoseconds for one rewrite. The term is set back each time, for both alike.
+static double timed(rewriter *rewrite, const tables *t, const uint8_t *term, uint8_t *symbols) {
+    static uint8_t scratch[1024];
+    size_t len = packed_length(&book);
+    double start = now();
+    for (int i = 0; i < INNER; i++) {
+        memcpy(symbols, term, 1024);
+        if (!rewrite(book.bytes, len, RULES, t, symbols, TERM, OFFSET, scratch)) abort();
+    }
+    return (now() - start) / INNER;
+}
+
+int main(void) {
+    static tables t;
+    static uint8_t term[1024], ours[1024], theirs[1024];
+    static double rattle[TURNS], c[TURNS];
+    make_book();
+    if (bench_book_read(book.bytes, packed_length(&book), t.arities, t.laid, t.lefts, t.rights, t.roots) || make_term(term) != TERM) return 1;
+    for (int i = 0; i < TURNS; i++) {
+        rattle[i] = timed(rattle_rewrite, &t, term, ours);
+        c[i] = timed(c_rewrite, &t, term, theirs);
+        if (memcmp(ours, theirs, 1024) || !memcmp(ours, term, 1024)) {
+            printf("the rewrites differ\n");
+            return 1;
+        }
+    }
+    printf("a rewrite of a term of %d symbols, by the last of %d rules; the same term\n", TERM, RULES);
+    compare(rattle, c, TURNS);
+    return 0;
+}

@@ -1,0 +1,130 @@
+// An unverified reader of books, as a yardstick: the same layout, checks and tables as the library's, written the way C programmers write it.
+#include "reader.h"
+#include <stdint.h>
+#include <stddef.h>
+
+typedef struct {
+    const uint8_t *bytes;
+    size_t bits; // how many there are
+    size_t at;
+    int fault;
+} reader;
+
+static inline unsigned field(reader *r, unsigned n) {
+    if (r->bits - r->at < n) {
+        if (!r->fault) r->fault = 1;
+        return 0;
+    }
+    size_t i = r->at >> 3, last = (r->bits >> 3) - 1;
+    uint32_t w = (uint32_t)r->bytes[i] << 16;
+    if (i + 1 <= last) w |= (uint32_t)r->bytes[i + 1] << 8;
+    if (i + 2 <= last) w |= r->bytes[i + 2];
+    unsigned v = (w >> (24 - (r->at & 7) - n)) & ((1u << n) - 1);
+    r->at += n;
+    return v;
+}
+
+// Reads the items of a given strategy, settles them and answers how many numbers are kept.
+static unsigned strategy(reader *r, unsigned arity, uint8_t *kept) {
+    unsigned count = field(r, 5), len = 0, seen = 0, group = 0;
+    int open = 0;
+    if (r->fault) return 0;
+    for (unsigned i = 0; i < count; i++) {
+        unsigned v = field(r, 4), last = i + 1 == count;
+        if (r->fault) return 0;
+        if (v > 9 || (v == 0 && open) || (v >= 1 && v <= 7 && v > arity) || (v == 8 && open) || (v == 9 && !open) || (last && v != 0)) {
+            r->fault = 3;
+            return 0;
+        }
+        if (v == 0) {
+            if (!len || kept[len - 1] != 0) kept[len++] = 0;
+        } else if (v <= 7) {
+            if (!(seen >> v & 1)) { seen |= 1u << v; kept[len++] = (uint8_t)v; }
+        } else if (v == 8) {
+            open = 1; group = len; kept[len++] = 8;
+        } else {
+            open = 0;
+            if (len == group + 1) len = group;
+            else if (len == group + 2) { kept[group] = kept[group + 1]; len = group + 1; }
+            else kept[len++] = 9;
+        }
+    }
+    return len;
+}
+
+static void lay_out(const uint8_t *items, unsigned len, uint8_t *row) {
+    unsigned k = 0, group = 0;
+    for (unsigned i = 0; i < len; i++) {
+        unsigned v = items[i];
+        if (v == 0) row[k++] = 1;
+        else if (v <= 7) {
+            if (!group || items[i + 1] == 9) row[k++] = (uint8_t)(7 + v);
+            else { row[k++] = (uint8_t)(15 + v); group++; }
+        } else if (v == 8) group = 1;
+        else { row[k++] = (uint8_t)(23 + group); group = 0; }
+    }
+    while (k < 16) row[k++] = 0;
+}
+
+static void operators(reader *r, unsigned n, tables *t) {
+    for (unsigned o = 0; o < n && !r->fault; o++) {
+        uint8_t items[32];
+        unsigned len = 0, arity = field(r, 3), given = field(r, 1);
+        if (r->fault) return;
+        t->arities[o] = (uint8_t)arity;
+        if (given) len = strategy(r, arity, items);
+        else {
+            for (unsigned i = 1; i <= arity; i++) items[len++] = (uint8_t)i;
+            items[len++] = 0;
+        }
+        if (!r->fault) lay_out(items, len, t->laid + 16 * o);
+    }
+}
+
+// A side from the reader's position on; vars is the mask of its variables, or of those allowed.
+static unsigned side(reader *r, unsigned n, const tables *t, unsigned *vars, int left) {
+    unsigned due = 1, root = 0;
+    for (unsigned i = 0; due; i++) {
+        if (i == 64) { r->fault = 8; return 0; }
+        unsigned kind = field(r, 1), x = field(r, kind ? 4 : 8);
+        if (r->fault) return 0;
+        due--;
+        if (!kind) {
+            if (x >= n) { r->fault = 4; return 0; }
+            if (!i) root = x;
+            due += t->arities[x];
+        } else if (left) {
+            if (!i) { r->fault = 5; return 0; }
+            if (*vars >> x & 1) { r->fault = 6; return 0; }
+            *vars |= 1u << x;
+        } else if (!(*vars >> x & 1)) { r->fault = 7; return 0; }
+    }
+    return root;
+}
+
+static void rules(reader *r, unsigned n, unsigned m, tables *t) {
+    for (unsigned i = 0; i < m && !r->fault; i++) {
+        unsigned vars = 0;
+        t->lefts[i] = (uint32_t)r->at;
+        t->roots[i] = (uint8_t)side(r, n, t, &vars, 1);
+        if (r->fault) return;
+        t->rights[i] = (uint32_t)r->at;
+        side(r, n, t, &vars, 0);
+    }
+}
+
+int c_read_book(const uint8_t *book, size_t len, tables *t) {
+    reader r = {book, 8 * len, 0, 0};
+    unsigned n = field(&r, 8);
+    if (r.fault) return 1;
+    if (!n) return 2;
+    operators(&r, n, t);
+    if (r.fault) return r.fault;
+    unsigned m = field(&r, 8);
+    if (r.fault) return 1;
+    rules(&r, n, m, t);
+    if (r.fault) return r.fault;
+    size_t left = r.bits - r.at;
+    if (left >= 8 || (left && field(&r, (unsigned)left))) return 9;
+    return 0;
+}

@@ -1,0 +1,16 @@
+#ifndef READER_H
+#define READER_H
+#include <stdint.h>
+#include <stddef.h>
+
+typedef struct {
+    uint8_t arities[256];
+    uint8_t laid[4096];
+    uint32_t lefts[256];
+    uint32_t rights[256];
+    uint8_t roots[256];
+} tables;
+
+// 0, or the number of the refusal.
+int c_read_book(const uint8_t *book, size_t len, tables *t);
+#endif

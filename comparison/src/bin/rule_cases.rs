@@ -1,0 +1,264 @@
+//! Makes the cases of the program `rule_cases` and what it is to print: the files `stdin` and `stdout` of a folder.
+//!
+//! A case is 2 bytes book length, 2 bytes line length, 2 bytes offset, the book and the line. It asks for the rewrite, by the first rule that
+//! matches, of the line's part at the offset.
+
+use std::path::Path;
+use std::{env, fs, io};
+
+use comparison::draft::{Draft, OperatorDraft, RuleDraft, Symbol};
+use comparison::model::{self, Book, Pattern, Term, TERM_LIMIT};
+use comparison::random::{self, Random};
+
+const SEED: u64 = 2;
+const RANDOM_CASES: usize = 60;
+/// Longer books and lines are passed over, so that the files stay small.
+const LONGEST: usize = 300;
+
+struct Case {
+    book: Vec<u8>,
+    line: Vec<u8>,
+    offset: usize,
+}
+
+fn main() -> io::Result<()> {
+    let folder = env::args().nth(1).expect("usage: rule_cases FOLDER");
+    let folder = Path::new(&folder);
+    let cases: Vec<Case> = picked_cases().into_iter().chain(random_cases()).collect();
+    let lines: Vec<String> = cases.iter().map(line).collect();
+    for answer in ["none", "full", "outside", "refused", " 00"] {
+        assert!(
+            lines.iter().any(|line| line.contains(answer)),
+            "no case answers {answer}"
+        );
+    }
+    fs::write(
+        folder.join("stdin"),
+        cases.iter().flat_map(input).collect::<Vec<u8>>(),
+    )?;
+    fs::write(folder.join("stdout"), lines.concat())
+}
+
+fn input(case: &Case) -> Vec<u8> {
+    let mut bytes = Vec::new();
+    for number in [case.book.len(), case.line.len(), case.offset] {
+        bytes.extend(
+            u16::try_from(number)
+                .expect("cases are small")
+                .to_be_bytes(),
+        );
+    }
+    bytes.extend(&case.book);
+    bytes.extend(&case.line);
+    bytes
+}
+
+fn line(case: &Case) -> String {
+    let answer = match read(case) {
+        Err(number) => format!("refused {number}"),
+        Ok(_) if case.offset > case.line.len() => String::from("outside"),
+        Ok((book, term)) => rewritten(&book, &term, case.offset),
+    };
+    format!("{answer}\n")
+}
+
+fn read(case: &Case) -> Result<(Book, Term), u8> {
+    let book = model::read_book(&case.book)?;
+    let term = model::read_line(&book, &case.line)?;
+    Ok((book, term))
+}
+
+fn rewritten(book: &Book, term: &Term, offset: usize) -> String {
+    let Some(part) = part_at(term, offset) else {
+        return String::from("none");
+    };
+    let Some((rule, filling)) = book.first_match(part) else {
+        return String::from("none");
+    };
+    // Equal rules can stand at two places; the first one acts.
+    let number = book
+        .rules
+        .iter()
+        .position(|other| other == rule)
+        .expect("the rule is the book's");
+    let end = offset + part.size();
+    let size = rule.right.filled_size(&filling);
+    let found = format!("rule {number} end {end} size {size}");
+    if term.size() - part.size() + size > TERM_LIMIT {
+        return format!("{found} full");
+    }
+    let filled = filled(&rule.right, &filling);
+    let symbols = term.preorder();
+    let new_term = [&symbols[..offset], &filled[..], &symbols[end..]].concat();
+    format!(
+        "{found} {} {}",
+        hexadecimal(&filled),
+        hexadecimal(&new_term)
+    )
+}
+
+/// The part that starts at an offset of the preorder.
+fn part_at(term: &Term, offset: usize) -> Option<&Term> {
+    if offset == 0 {
+        return Some(term);
+    }
+    let mut before = 1;
+    for argument in &term.arguments {
+        if offset < before + argument.size() {
+            return part_at(argument, offset - before);
+        }
+        before += argument.size();
+    }
+    None
+}
+
+fn filled(side: &Pattern, filling: &model::Filling) -> Vec<u8> {
+    match side {
+        Pattern::Variable(variable) => filling[usize::from(*variable)]
+            .expect("a right variable stands on the left")
+            .preorder(),
+        Pattern::Operator(operator, arguments) => {
+            let parts = arguments
+                .iter()
+                .flat_map(|argument| filled(argument, filling));
+            [*operator].into_iter().chain(parts).collect()
+        }
+    }
+}
+
+fn hexadecimal(bytes: &[u8]) -> String {
+    bytes.iter().map(|byte| format!("{byte:02x}")).collect()
+}
+
+// ---------------------------------------------------------------------------
+// Cases picked by hand
+
+fn picked_cases() -> Vec<Case> {
+    let p = book_p();
+    let copying = copying_book();
+    let case = |book: &[u8], line: &[u8], offset| Case {
+        book: book.to_vec(),
+        line: line.to_vec(),
+        offset,
+    };
+    vec![
+        // P: both rules, inside and at the root, and terms that no rule matches.
+        case(&p, &[2, 0, 1, 0], 0),
+        case(&p, &[2, 1, 0, 1, 0], 0),
+        case(&p, &[2, 1, 2, 0, 0, 1, 0], 2),
+        case(&p, &[2, 2, 1, 0, 0, 0], 1),
+        case(&p, &[2, 1, 0, 1, 0], 1),
+        case(&p, &[2, 1, 0, 1, 0], 5),
+        case(&p, &[2, 1, 0, 1, 0], 6),
+        // Refused before anything is matched.
+        case(&[0], &[0], 0),
+        case(&p, &[], 0),
+        case(&p, &[2, 0], 0),
+        case(&p, &[3], 0),
+        case(&p, &[0; TERM_LIMIT + 1], 0),
+        // A variable copied three times: to the limit, and one symbol past it.
+        case(&copying, &ticks(4, &[]), 0),
+        case(&copying, &ticks(341, &[]), 0),
+        case(&copying, &ticks(342, &[]), 0),
+        case(&copying, &ticks(341, &[2]), 1),
+        // A term of 1,024 symbols that shrinks at its end.
+        case(
+            &p,
+            &[&[1; TERM_LIMIT - 4][..], &[2, 0, 1, 0]].concat(),
+            TERM_LIMIT - 4,
+        ),
+    ]
+}
+
+fn operator(arity: u8) -> OperatorDraft {
+    OperatorDraft {
+        arity,
+        strategy: None,
+    }
+}
+
+fn book_p() -> Vec<u8> {
+    let (end, tick, both) = (
+        Symbol::Operator(0),
+        Symbol::Operator(1),
+        Symbol::Operator(2),
+    );
+    let (x, y) = (Symbol::Variable(0), Symbol::Variable(1));
+    let rules = vec![
+        RuleDraft {
+            left: vec![both, end, y],
+            right: vec![y],
+        },
+        RuleDraft {
+            left: vec![both, tick, x, y],
+            right: vec![tick, both, x, y],
+        },
+    ];
+    Draft {
+        operators: vec![operator(0), operator(1), operator(2)],
+        rules,
+    }
+    .encode()
+}
+
+/// tick(X) gives three(X, X, X), and a second rule for tick that never acts.
+fn copying_book() -> Vec<u8> {
+    let (tick, three) = (Symbol::Operator(1), Symbol::Operator(3));
+    let x = Symbol::Variable(9);
+    let rules = vec![
+        RuleDraft {
+            left: vec![tick, x],
+            right: vec![three, x, x, x],
+        },
+        RuleDraft {
+            left: vec![tick, x],
+            right: vec![x],
+        },
+    ];
+    Draft {
+        operators: vec![operator(0), operator(1), operator(1), operator(3)],
+        rules,
+    }
+    .encode()
+}
+
+/// The symbols before, then so many `tick`s and an `end`.
+fn ticks(count: usize, before: &[u8]) -> Vec<u8> {
+    let mut line = before.to_vec();
+    line.extend(vec![1; count]);
+    line.push(0);
+    line
+}
+
+// ---------------------------------------------------------------------------
+// Random cases
+
+/// Of each line an offset where a rule matches, if one of 20 tries finds it, so that most cases have a rewrite.
+fn random_cases() -> impl Iterator<Item = Case> {
+    (0..)
+        .map(|number| {
+            let mut random = Random::for_case(SEED, number);
+            let case = random::case(&mut random);
+            let (book, line) = (case.book(), case.line);
+            let offset = some_offset(&mut random, &book, &line);
+            Case { book, line, offset }
+        })
+        .filter(|case| case.book.len().max(case.line.len()) <= LONGEST)
+        .take(RANDOM_CASES)
+}
+
+fn some_offset(random: &mut Random, book: &[u8], line: &[u8]) -> usize {
+    let mut offset = random.below(line.len() + 1);
+    for _ in 0..20 {
+        let case = Case {
+            book: book.to_vec(),
+            line: line.to_vec(),
+            offset,
+        };
+        if self::line(&case).starts_with("rule") {
+            break;
+        }
+        offset = random.below(line.len() + 1);
+    }
+    offset
+}
