@@ -10,8 +10,7 @@ use Rattle.flat.specs.Symbols.{Binding, fill}
 use Rattle.book.specs.Tables.{ruleAt}
 use Rattle.book.specs.Answer.{BookAt}
 use Rattle.book.specs.declared.Book as D
-use Rattle.rule.specs.Packed.{SideAt, binding, Within, Sized, Fillable, Filled, Chosen}
-use Rattle.rule.specs.declared.Hit as H
+use Rattle.rule.specs.Packed.{SideAt, binding, Within, Sized, Fillable, Filled}
 use Rattle.rule.proofs.Tables.{right-stands}
 use Rattle.rewrite.specs.Ready.{Ready, Stands}
 
@@ -39,16 +38,6 @@ pub filled-size : (bytes : List ℕ) (at n : ℕ) (arities xs : List ℕ) (b : B
 filled-size bytes at n arities xs b scratch size k s e f =
     let m = f .most in let l = f .long in
     sym (length-take-le k scratch (omega arith)) ∙ ap (λ (ys : List ℕ). length ys) (f .is (s .side) (s .is)) ∙ sym e
-
--- a rule that is found, by number, with the offset behind the term
-pub record Rule-found (m len : ℕ) (starts sizes : List ℕ) (i e : ℕ) : Type 0 where
-  pub index : i < m
-  pub end : e ≤ len
-  pub within : Within (binding starts sizes) len
-
-pub found-by : {bytes arities lefts roots xs starts sizes : List ℕ} {n m a len : ℕ} {r : H.Hit} {i e : ℕ} →
-    Chosen bytes n arities lefts roots m xs a len starts sizes r → r ≡ H.Hit.Rule i e → Rule-found m len starts sizes i e
-found-by c q = let x = rw q at (c .is) in record { index = x .0; end = x .2; within = x .1 }
 
 pub ready : {bytes arities laid lefts rights roots : List ℕ} {n m : ℕ} {r : D.Book} →
     BookAt bytes arities laid lefts rights roots r → r ≡ D.Book.Read n m → Ready bytes arities lefts rights roots n m

@@ -1,7 +1,7 @@
 -- `rewrite::rewrite` meets its contract: a rule that is found is one of the book's. Assumes nothing.
 use Prim.Native.Nat.{_<_}
 use native.Mathlib.Omega.{arith}
-use Rattle.rewrite.proofs.Laws.{found-by, few-rules, right-side}
+use Rattle.rewrite.proofs.Laws.{few-rules, right-side}
 use borrow.Author.Needs.{needs}
 use Rattle.rewrite.proofs.rewrite.Statement.{statement}
 use Rattle.rewrite.proofs.rewrite.Tie as tie
@@ -9,7 +9,8 @@ use Rattle.rewrite.proofs.rewrite.Tie as tie
 index : (c : tie.After-i) → c .i .given .0 .0 < 256
 index c =
     let f = c .before .before in
-    let h = found-by (f .find .ensures) (c .i .given .1) .index in
+    let x = rw (c .i .given .1) at (f .find .ensures) in
+    let h = x .below in
     let m = few-rules (f .before .before .before .before .before .pre .1) in
     omega arith
 
@@ -25,8 +26,8 @@ apply-requires c κs =
     let i = p .before .before .before in
     let f = i .before .before in
     let h = f .before .before .before .before .before .pre in
-    let t = found-by (f .find .ensures) (i .i .given .1) in
-    (h .0, right-side (h .1) (i .i .given .0 .0) _ (t .index) (p .place .ensures), h .2, h .3, h .4, t .end, t .within, h .5)
+    let t = rw (i .i .given .1) at (f .find .ensures) in
+    (h .0, right-side (h .1) (i .i .given .0 .0) _ (t .below) (p .place .ensures), h .2, h .3, h .4, t .ends, t .within, h .5)
 
 returns-3 : tie.Need-returns-3
 returns-3 c =
