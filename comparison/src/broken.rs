@@ -20,17 +20,19 @@ pub enum Slip {
     Copies,
     /// The schedule is checked before the line.
     Order,
-    /// One byte after the term is cleared.
+    /// One byte after the term is changed.
     Spill,
     /// The work area is cleared before the checks.
     Work,
+    /// The work area's last byte is not left zero.
+    Trace,
     /// A further byte 0 after the book is let through.
     Padding,
     /// Lists are written as they were given.
     Given,
 }
 
-pub const SLIPS: [(&str, Slip); 10] = [
+pub const SLIPS: [(&str, Slip); 11] = [
     ("join", Slip::Join),
     ("list", Slip::List),
     ("zeros", Slip::Zeros),
@@ -39,6 +41,7 @@ pub const SLIPS: [(&str, Slip); 10] = [
     ("order", Slip::Order),
     ("spill", Slip::Spill),
     ("work", Slip::Work),
+    ("trace", Slip::Trace),
     ("padding", Slip::Padding),
     ("given", Slip::Given),
 ];
@@ -57,9 +60,9 @@ impl Subject for BrokenModel {
             work.fill(0);
         }
         let answer = self.broken_answer(question, work.len(), output.len());
-        let told = hand_over(answer, output);
-        if self.slip == Slip::Spill && told.refusal == 0 && told.length < output.len() {
-            output[told.length] = 0;
+        let told = hand_over(answer, work, output);
+        if told.refusal == 0 {
+            self.slip_in_buffers(told.length as usize, work, output);
         }
         told
     }
@@ -73,6 +76,17 @@ impl Subject for BrokenModel {
 }
 
 impl BrokenModel {
+    fn slip_in_buffers(&self, length: usize, work: &mut [u8], output: &mut [u8]) {
+        let slipped = match self.slip {
+            Slip::Spill => output.get_mut(length),
+            Slip::Trace => work.last_mut(),
+            _ => None,
+        };
+        if let Some(byte) = slipped {
+            *byte = !*byte;
+        }
+    }
+
     fn broken_answer(&self, question: &Question, work: usize, output: usize) -> Result<Answer, u8> {
         model::check_frame(question.units, work, output, MODEL_PUBLISHED)?;
         let book = self.broken_book(question.book)?;
@@ -259,7 +273,7 @@ fn write_given(mut book: Book, output: &mut [u8]) -> Written {
             front.copy_from_slice(&bytes);
             Written {
                 refusal: 0,
-                length: bytes.len(),
+                length: bytes.len() as u64,
             }
         }
     }

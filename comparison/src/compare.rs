@@ -20,6 +20,23 @@ pub struct Tally {
 }
 
 impl Tally {
+    /// What was never met, though enough random cases meet all of it. Refusal
+    /// 17 is about the program's input, which a subject never sees.
+    pub fn missing(&self) -> Vec<String> {
+        let unmet = |name: &str, numbers: &[usize], counts: &[u64]| -> Vec<String> {
+            let numbers = numbers.iter().filter(|&&number| counts[number] == 0);
+            numbers.map(|number| format!("{name} {number}")).collect()
+        };
+        let all: Vec<usize> = (1..=16).collect();
+        [
+            unmet("ending", &[0, 1, 2, 3], &self.endings),
+            unmet("refusal", &all, &self.refusals),
+            unmet("writer's refusal", &all[..9], &self.writer_refusals),
+            unmet("writer's refusal", &[16], &self.writer_refusals),
+        ]
+        .concat()
+    }
+
     fn count_run(&mut self, expected: &Result<Answer, u8>) {
         self.cases += 1;
         match expected {
@@ -51,111 +68,149 @@ pub fn compare(
     seed: u64,
     numbers: Range<u64>,
 ) -> (Tally, Option<Difference>) {
-    let mut tally = Tally::default();
+    let mut comparison = Comparison::new(subject);
     for number in numbers {
-        let case = random::case(&mut Random::for_case(seed, number));
-        if check(subject, &case, &mut tally).is_some() {
-            let difference = make_small(subject, number, case);
-            return (tally, Some(difference));
+        let mut random = Random::for_case(seed, number);
+        let mut case = random::case(&mut random);
+        case.junk = random.draw();
+        if comparison.check(&case).is_some() {
+            // What is asked to make the case small is not counted.
+            let tally = comparison.tally.clone();
+            return (tally, Some(comparison.make_small(number, case)));
         }
     }
-    (tally, None)
+    (comparison.tally, None)
 }
 
-fn make_small(subject: &mut dyn Subject, number: u64, met: Case) -> Difference {
-    let mut unused = Tally::default();
-    let small = shrink(met.clone(), &mut |case| {
-        check(subject, case, &mut unused).is_some()
-    });
-    let what = check(subject, &small, &mut unused)
-        .unwrap_or_else(|| "the subject answered differently when asked again".to_string());
-    Difference {
-        number,
-        met,
-        small,
-        what,
+/// Lends a subject the same buffers for case after case.
+pub struct Comparison<'a> {
+    subject: &'a mut dyn Subject,
+    work: Lender,
+    output: Lender,
+    pub tally: Tally,
+}
+
+impl<'a> Comparison<'a> {
+    pub fn new(subject: &'a mut dyn Subject) -> Comparison<'a> {
+        Comparison {
+            subject,
+            work: Lender::default(),
+            output: Lender::default(),
+            tally: Tally::default(),
+        }
+    }
+
+    /// Puts one case to both; answers what differs, if anything does.
+    pub fn check(&mut self, case: &Case) -> Option<String> {
+        let book = case.book();
+        let run = self.check_run(case, &book);
+        let writer = self.check_writer(case, &book);
+        run.or(writer)
+    }
+
+    fn make_small(&mut self, number: u64, met: Case) -> Difference {
+        let small = shrink(met.clone(), &mut |case| self.check(case).is_some());
+        let what = self
+            .check(&small)
+            .unwrap_or_else(|| "the subject answered differently when asked again".to_string());
+        Difference {
+            number,
+            met,
+            small,
+            what,
+        }
+    }
+
+    fn check_run(&mut self, case: &Case, book: &[u8]) -> Option<String> {
+        let published = self.subject.published();
+        let work_len = case.work_len(published);
+        let expected = model::answer(
+            book,
+            &case.line,
+            case.units,
+            case.budget,
+            &case.schedule,
+            work_len,
+            case.output_len,
+            published,
+        );
+        self.tally.count_run(&expected);
+        let question = Question {
+            book,
+            line: &case.line,
+            units: case.units,
+            budget: case.budget,
+            schedule: &case.schedule,
+        };
+        let work = self.work.lend(work_len, case.junk);
+        let output = self.output.lend(case.output_len, !case.junk);
+        let found = self.subject.answer(&question, work, output);
+        let cleared = vec![0; work_len];
+        let (due, term, work): (Told, &[u8], &[u8]) = match &expected {
+            Ok(answer) => (Told::answered(answer), &answer.term, &cleared),
+            Err(number) => (Told::refused(*number), &[], &[]),
+        };
+        compare_values(due, &found)
+            .or_else(|| self.output.difference("output", term))
+            .or_else(|| self.work.difference("work area", work))
+    }
+
+    fn check_writer(&mut self, case: &Case, book: &[u8]) -> Option<String> {
+        let full = model::written(book, usize::MAX).map_or(0, |bytes| bytes.len());
+        let room = full.saturating_add_signed(case.writer_offset);
+        let expected = model::written(book, room);
+        self.tally.count_writer(&expected);
+        let output = self.output.lend(room, case.junk);
+        let found = self.subject.written(book, output);
+        let refusal = expected.as_ref().err().copied().unwrap_or(0);
+        let bytes = expected.unwrap_or_default();
+        let length = bytes.len() as u64;
+        let due = Written { refusal, length };
+        if due != found {
+            return Some(format!(
+                "writer's values, output of {room} bytes\n  due   {due:?}\n  found {found:?}"
+            ));
+        }
+        self.output.difference("writer's output", &bytes)
     }
 }
 
-/// Puts one case to both; answers what differs, if anything does.
-pub fn check(subject: &mut dyn Subject, case: &Case, tally: &mut Tally) -> Option<String> {
-    let book = case.book();
-    let run = check_run(subject, case, &book, tally);
-    let writer = check_writer(subject, case, &book, tally);
-    run.or(writer)
-}
-
-/// A lent buffer is never all zeros, so that a write of zeros shows too.
-fn lent(length: usize) -> Vec<u8> {
-    (0..length)
-        .map(|place| (place as u8).wrapping_mul(31) ^ 0x5A)
-        .collect()
-}
-
-/// What a lent buffer holds after these bytes were written at its front.
-fn lent_with(length: usize, front: &[u8]) -> Vec<u8> {
-    let mut buffer = lent(length);
-    buffer[..front.len()].copy_from_slice(front);
-    buffer
-}
-
-fn check_run(
-    subject: &mut dyn Subject,
-    case: &Case,
-    book: &[u8],
-    tally: &mut Tally,
-) -> Option<String> {
-    let published = subject.published();
-    let mut work = lent(case.work_len(published));
-    let mut output = lent(case.output_len);
-    let expected = model::answer(
-        book,
-        &case.line,
-        case.units,
-        case.budget,
-        &case.schedule,
-        work.len(),
-        output.len(),
-        published,
-    );
-    tally.count_run(&expected);
-    let question = Question {
-        book,
-        line: &case.line,
-        units: case.units,
-        budget: case.budget,
-        schedule: &case.schedule,
-    };
-    let found = subject.answer(&question, &mut work, &mut output);
-    compare_run(&expected, &found, &work, &output)
-}
-
-fn compare_run(
-    expected: &Result<Answer, u8>,
-    found: &Told,
-    work: &[u8],
-    output: &[u8],
-) -> Option<String> {
-    let (mut due, term): (Told, &[u8]) = match expected {
-        Ok(answer) => (Told::answered(answer), &answer.term),
-        Err(number) => (Told::refused(*number), &[]),
-    };
+fn compare_values(mut due: Told, found: &Told) -> Option<String> {
     if found.kept.is_none() {
         due.kept = None;
     }
-    if due != *found {
-        return Some(format!("values\n  due   {due:?}\n  found {found:?}"));
+    (due != *found).then(|| format!("values\n  due   {due:?}\n  found {found:?}"))
+}
+
+/// A buffer whose front is lent again and again, full of junk each time.
+#[derive(Default)]
+struct Lender {
+    bytes: Vec<u8>,
+    /// What the bytes were when they were lent.
+    junk: Vec<u8>,
+}
+
+/// Bytes behind the lent ones, where a write past the end shows.
+const BEHIND: usize = 64;
+
+impl Lender {
+    /// No byte of junk is 0, so that a write of zeros shows too.
+    fn lend(&mut self, length: usize, seed: u64) -> &mut [u8] {
+        let factor = seed | 1;
+        self.junk = (0..length + BEHIND)
+            .map(|place| (factor.wrapping_mul(place as u64) >> 56).max(1) as u8)
+            .collect();
+        self.bytes.resize(self.junk.len().max(self.bytes.len()), 0);
+        self.bytes[..self.junk.len()].copy_from_slice(&self.junk);
+        &mut self.bytes[..length]
     }
-    let due_output = lent_with(output.len(), term);
-    if output != due_output {
-        return Some(buffer_difference("output", &due_output, output));
+
+    /// What differs, if the front is not as given or the rest not as it was.
+    fn difference(&self, name: &str, front: &[u8]) -> Option<String> {
+        let due = [front, &self.junk[front.len()..]].concat();
+        let found = &self.bytes[..due.len()];
+        (found != due).then(|| buffer_difference(name, &due, found))
     }
-    // What a run leaves in its work area is free; a refusal leaves it alone.
-    let due_work = lent(work.len());
-    if expected.is_err() && work != due_work {
-        return Some(buffer_difference("work area", &due_work, work));
-    }
-    None
 }
 
 fn buffer_difference(name: &str, due: &[u8], found: &[u8]) -> String {
@@ -168,37 +223,6 @@ fn buffer_difference(name: &str, due: &[u8], found: &[u8]) -> String {
         hexadecimal(&due[place..end]),
         hexadecimal(&found[place..end])
     )
-}
-
-fn check_writer(
-    subject: &mut dyn Subject,
-    case: &Case,
-    book: &[u8],
-    tally: &mut Tally,
-) -> Option<String> {
-    let full = model::written(book, usize::MAX).map_or(0, |bytes| bytes.len());
-    let length = full.saturating_add_signed(case.writer_offset);
-    let expected = model::written(book, length);
-    tally.count_writer(&expected);
-    let (due, bytes) = match expected {
-        Ok(bytes) => (
-            Written {
-                refusal: 0,
-                length: bytes.len(),
-            },
-            bytes,
-        ),
-        Err(refusal) => (Written { refusal, length: 0 }, Vec::new()),
-    };
-    let mut output = lent(length);
-    let found = subject.written(book, &mut output);
-    if due != found {
-        return Some(format!(
-            "writer's values, output of {length} bytes\n  due   {due:?}\n  found {found:?}"
-        ));
-    }
-    let due_output = lent_with(length, &bytes);
-    (output != due_output).then(|| buffer_difference("writer's output", &due_output, &output))
 }
 
 fn hexadecimal(bytes: &[u8]) -> String {
@@ -245,6 +269,7 @@ fn write_case(text: &mut Formatter, case: &Case) -> fmt::Result {
         "writer   length of the written book {:+}",
         case.writer_offset
     )?;
+    writeln!(text, "junk     from seed {}", case.junk)?;
     if let Some(input) = case.input() {
         writeln!(text, "input    {}", hexadecimal(&input))?;
     }
@@ -257,7 +282,6 @@ impl Display for Tally {
         for (ending, count) in self.endings.iter().enumerate() {
             writeln!(text, "ending {ending:2}   {count}")?;
         }
-        // 17 is about the program's input, which a subject never sees.
         for (number, count) in self.refusals.iter().enumerate().take(17).skip(1) {
             writeln!(text, "refused {number:2}  {count}")?;
         }

@@ -141,6 +141,8 @@ pub struct Case {
     pub output_len: usize,
     /// The room lent to the book writer less the length of the written book.
     pub writer_offset: isize,
+    /// Seeds what the lent buffers hold before.
+    pub junk: u64,
 }
 
 impl Case {
@@ -156,6 +158,7 @@ impl Case {
             work_offset: 0,
             output_len: OUTPUT_LEN,
             writer_offset: 0,
+            junk: 0,
         }
     }
 

@@ -7,7 +7,7 @@
 //! - `subject`: what an implementation under comparison must offer.
 //! - `compare`, `shrink`: the comparison, and how a difference is made small.
 //! - `broken`: the model with one slip, to show that slips are found.
-//! - `library`: the place of the implementation that is compared.
+//! - `library`: the static library as a subject, under the feature `library`.
 
 pub mod books;
 pub mod broken;
@@ -15,6 +15,7 @@ pub mod compare;
 pub mod draft;
 pub mod faults;
 pub mod grow;
+#[cfg(feature = "library")]
 pub mod library;
 pub mod model;
 pub mod random;

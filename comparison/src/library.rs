@@ -1,19 +1,44 @@
-//! The place of the implementation that is compared.
-//!
-//! It will come as a static library with C functions. Then this file gets
-//! - an `extern "C"` block with the library's two entry points, the run and
-//!   the book writer,
-//! - a `Library` with `impl Subject`: it passes each slice on as pointer and
-//!   length and puts the values that come back, unchanged, into `Told` and
-//!   `Written` (`kept` is `None` until the library reports it),
-//! - `published` answering the library's published length of the work area,
-//!
-//! and a `build.rs` names the folder and the library to link. Nothing else
-//! changes: the comparison lends the buffers and looks at them afterwards.
+//! The static library as a subject. Its values are passed on as they come.
 
-use crate::subject::Subject;
+use kurvneist::{raw, Request};
 
-/// The library as a subject, or `None` while there is none.
-pub fn library() -> Option<Box<dyn Subject>> {
-    None
+use crate::subject::{Question, Subject, Told, Written};
+
+/// What a value holds before the call, so that a zero that is due must be written.
+const JUNK: u64 = 0x5A5A_5A5A_5A5A_5A5A;
+
+pub struct Library;
+
+impl Subject for Library {
+    fn published(&self) -> usize {
+        raw::work_length()
+    }
+
+    fn answer(&mut self, question: &Question, work: &mut [u8], output: &mut [u8]) -> Told {
+        let request = Request {
+            book: question.book,
+            line: question.line,
+            units: question.units,
+            budget: question.budget,
+            schedule: question.schedule,
+        };
+        let mut values = [JUNK; 5];
+        let refusal = raw::reduce(&request, work, output, &mut values);
+        let [ending, rewrites, entries, granted, length] = values;
+        Told {
+            refusal,
+            ending,
+            rewrites,
+            entries,
+            granted,
+            kept: None,
+            length,
+        }
+    }
+
+    fn written(&mut self, book: &[u8], output: &mut [u8]) -> Written {
+        let mut length = JUNK;
+        let refusal = raw::write_book(book, output, &mut length);
+        Written { refusal, length }
+    }
 }

@@ -188,6 +188,7 @@ impl Shrinker<'_> {
         self.try_change(|case| case.work_offset = 0);
         self.try_change(|case| case.output_len = OUTPUT_LEN);
         self.try_change(|case| case.writer_offset = 0);
+        self.try_change(|case| case.junk = 0);
     }
 
     fn smaller_budget(&mut self) {

@@ -17,14 +17,14 @@ pub struct Question<'a> {
 pub struct Told {
     /// 0 if nothing is refused.
     pub refusal: u8,
-    pub ending: u8,
+    pub ending: u64,
     pub rewrites: u64,
     pub entries: u64,
     pub granted: u64,
     /// `None` from a subject that doesn't report it.
     pub kept: Option<u64>,
     /// The symbols written at the front of the output.
-    pub length: usize,
+    pub length: u64,
 }
 
 impl Told {
@@ -39,12 +39,12 @@ impl Told {
     pub fn answered(answer: &Answer) -> Told {
         Told {
             refusal: 0,
-            ending: answer.ending,
+            ending: answer.ending.into(),
             rewrites: answer.rewrites,
             entries: answer.entries,
             granted: answer.granted,
             kept: Some(answer.kept),
-            length: answer.term.len(),
+            length: answer.term.len() as u64,
         }
     }
 }
@@ -53,7 +53,7 @@ impl Told {
 #[derive(Clone, Copy, Debug, Default, PartialEq, Eq)]
 pub struct Written {
     pub refusal: u8,
-    pub length: usize,
+    pub length: u64,
 }
 
 /// Buffers are lent by the comparison, which also looks at what became of
@@ -62,6 +62,7 @@ pub trait Subject {
     /// The published length of the work area, at most 65,536.
     fn published(&self) -> usize;
 
+    /// Leaves the work area all zero unless it refuses.
     fn answer(&mut self, question: &Question, work: &mut [u8], output: &mut [u8]) -> Told;
 
     fn written(&mut self, book: &[u8], output: &mut [u8]) -> Written;
@@ -90,7 +91,7 @@ impl Subject for ModelSubject {
             output.len(),
             MODEL_PUBLISHED,
         );
-        hand_over(answer, output)
+        hand_over(answer, work, output)
     }
 
     fn written(&mut self, book: &[u8], output: &mut [u8]) -> Written {
@@ -100,19 +101,20 @@ impl Subject for ModelSubject {
                 output[..bytes.len()].copy_from_slice(&bytes);
                 Written {
                     refusal: 0,
-                    length: bytes.len(),
+                    length: bytes.len() as u64,
                 }
             }
         }
     }
 }
 
-/// Writes the term at the output's front and answers the values. Only a
-/// broken model's term can be longer than the output.
-pub fn hand_over(answer: Result<Answer, u8>, output: &mut [u8]) -> Told {
+/// Clears the work area, writes the term at the output's front and answers
+/// the values. Only a broken model's term can be longer than the output.
+pub fn hand_over(answer: Result<Answer, u8>, work: &mut [u8], output: &mut [u8]) -> Told {
     match answer {
         Err(number) => Told::refused(number),
         Ok(answer) => {
+            work.fill(0);
             for (place, operator) in output.iter_mut().zip(&answer.term) {
                 *place = *operator;
             }

@@ -1,7 +1,7 @@
 //! The comparison finds no difference in the model, and every slip.
 
 use comparison::broken::{BrokenModel, Slip, SLIPS};
-use comparison::compare::{check, compare, Tally};
+use comparison::compare::{compare, Comparison};
 use comparison::subject::{ModelSubject, Question, Subject, Told, Written};
 
 #[test]
@@ -9,19 +9,8 @@ fn the_model_agrees_with_itself_and_everything_is_met() {
     let (tally, difference) = compare(&mut ModelSubject, 31, 0..6000);
     assert!(difference.is_none());
     assert_eq!(tally.cases, 6000);
-    assert!(tally.endings.iter().all(|&count| count > 0), "{tally}");
-    assert!(
-        tally.refusals[1..=16].iter().all(|&count| count > 0),
-        "{tally}"
-    );
-    assert!(
-        tally.writer_refusals[1..=9].iter().all(|&count| count > 0),
-        "{tally}"
-    );
-    assert!(
-        tally.books_written > 0 && tally.writer_refusals[16] > 0,
-        "{tally}"
-    );
+    assert!(tally.missing().is_empty(), "{tally}");
+    assert!(tally.books_written > 0, "{tally}");
 }
 
 #[test]
@@ -32,7 +21,7 @@ fn every_slip_is_found_and_made_small() {
         let difference = difference.unwrap_or_else(|| panic!("{name} is not found"));
         let small = &difference.small;
         assert!(
-            check(&mut subject, small, &mut Tally::default()).is_some(),
+            Comparison::new(&mut subject).check(small).is_some(),
             "{name}"
         );
         assert!(small.draft.rules.len() <= 3, "{name}: {difference}");
@@ -69,4 +58,16 @@ impl Subject for WithoutKept {
 fn a_subject_may_leave_kept_out() {
     let (_, difference) = compare(&mut WithoutKept, 33, 0..500);
     assert!(difference.is_none());
+}
+
+#[test]
+fn what_was_not_met_is_named() {
+    let (tally, _) = compare(&mut ModelSubject, 31, 0..0);
+    assert_eq!(tally.missing().len(), 4 + 16 + 10);
+    assert_eq!(
+        tally.missing()[..5].join(", "),
+        "ending 0, ending 1, ending 2, ending 3, refusal 1"
+    );
+    let (tally, _) = compare(&mut ModelSubject, 31, 0..2000);
+    assert!(tally.missing().is_empty(), "{tally}");
 }

@@ -13,5 +13,8 @@ pub mod Bounds
 pub mod Counts
 pub mod Heights
 pub mod Lengths
+pub mod Lenders
+pub mod Placing
 pub mod Rules
 pub mod Indices
+pub mod Inside

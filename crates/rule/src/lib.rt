@@ -2,7 +2,7 @@
 // (document 01, 'Reduction one after the other').
 use side::Symbol;
 ghost use mathlib.Core.Path.{_≡_};
-ghost use Prim.Native.Nat.{_+_, _<_, _≤_, _^_};
+ghost use Prim.Native.Nat.{_+_, _-_, _<_, _≤_, _^_};
 ghost use lib.ListN.{length, getD, take, drop};
 ghost use Rattle.flat.specs.Symbols as flat;
 ghost use Rattle.rule.specs.Packed.{binding, Within, Holds, head-is, MatchStep, Bounded, Answers, Matched, SizeStep, Sized, ToFill, FillStep, Fillable, Filled, Tried, Chosen};
@@ -80,13 +80,21 @@ fn clear(starts: &mut [u16; 16], sizes: &mut [u16; 16])
     *sizes = [0; 16];
 }
 
-// The variable v is bound to the size symbols from offset at on.
-fn bind(starts: &mut [u16; 16], sizes: &mut [u16; 16], v: u8, at: usize, size: usize)
-    requires { ⌜ (length (now starts) ≡ 16) × (length (now sizes) ≡ 16) × (v < 16) × (at ≤ 1024) × (size ≤ 1024) ⌝ }
-    ensures { λ _. ⌜ Holds (now (starts .exit)) (now (sizes .exit)) (flat.bind v (flat.segment at size) (binding (now (starts .entry)) (now (sizes .entry)))) ⌝ }
+// How many symbols stand from offset at up to offset end.
+fn span(at: usize, end: usize) -> u16
+    requires { ⌜ (at ≤ end) × (end ≤ 1024) ⌝ }
+    ensures { λ r. ⌜ r ≡ end - at ⌝ }
+{
+    short(end - at)
+}
+
+// The variable v is bound to the symbols from offset at up to offset end.
+fn bind(starts: &mut [u16; 16], sizes: &mut [u16; 16], v: u8, at: usize, end: usize)
+    requires { ⌜ (length (now starts) ≡ 16) × (length (now sizes) ≡ 16) × (v < 16) × (at ≤ end) × (end ≤ 1024) ⌝ }
+    ensures { λ _. ⌜ Holds (now (starts .exit)) (now (sizes .exit)) (flat.bind v (flat.segment at (end - at)) (binding (now (starts .entry)) (now (sizes .entry)))) ⌝ }
 {
     starts[wide(v)] = short(at);
-    sizes[wide(v)] = short(size);
+    sizes[wide(v)] = span(at, end);
 }
 
 // The symbol at position at of a left side, against the term at an offset.
@@ -114,9 +122,9 @@ fn match_one(
             }
         }
         Symbol::Variable(v, next) => {
-            let size = term::skip(symbols, len, arities, offset, 1) - offset;
-            bind(starts, sizes, v, offset, size);
-            Step::Took(0, next, size)
+            let end = term::skip(symbols, len, arities, offset, 1);
+            bind(starts, sizes, v, offset, end);
+            Step::Took(0, next, end - offset)
         }
     }
 }

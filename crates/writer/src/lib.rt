@@ -242,13 +242,18 @@ fn write_accepted(book: &[u8], n: usize, arities: &[u8; 256], out: &mut [u8]) ->
     all / 8
 }
 
-// The written book where it fits: its length is found by writing it nowhere.
-fn write_fitting(book: &[u8], n: usize, arities: &[u8; 256], output: &mut [u8]) -> Written
+// The written book where it fits: its length is found by writing it nowhere, to bytes of no use.
+fn write_fitting(
+    book: &[u8],
+    n: usize,
+    arities: &[u8; 256],
+    nowhere: &mut [u8],
+    output: &mut [u8],
+) -> Written
     requires { ⌜ (length (now book) ≤ 65536) × Accepted (now book) n (now arities) ⌝ }
     ensures { λ r. ⌜ Answers (now (book .entry)) (now (output .entry)) (now (output .exit)) r ⌝ }
 {
-    let mut nowhere = [0u8; 1];
-    let size = write_accepted(book, n, arities, &mut nowhere);
+    let size = write_accepted(book, n, arities, nowhere);
     if output.len() < size {
         return Written::Refused(16);
     }
@@ -266,6 +271,7 @@ fn write_short(book: &[u8], output: &mut [u8]) -> Written
     let mut lefts = [0u32; 256];
     let mut rights = [0u32; 256];
     let mut roots = [0u8; 256];
+    let mut nowhere = [0u8; 1];
     match book::read_book(
         book,
         &mut arities,
@@ -275,7 +281,7 @@ fn write_short(book: &[u8], output: &mut [u8]) -> Written
         &mut roots,
     ) {
         Book::Refused(k) => Written::Refused(k),
-        Book::Read(n, _) => write_fitting(book, n, &arities, output),
+        Book::Read(n, _) => write_fitting(book, n, &arities, &mut nowhere, output),
     }
 }
 

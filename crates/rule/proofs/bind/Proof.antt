@@ -8,8 +8,8 @@ returns : tie.Need-returns
 returns c =
     let a = c .before .before .before .before .args in
     let start = c .before .before .before .short .ensures in
-    let size = c .before .short2 .ensures in
-    holds-bind (a .starts .now) (a .sizes .now) (a .v) (a .at) (a .size) (search needs) (search needs) (search needs) _ _
+    let size = c .before .span .ensures in
+    holds-bind (a .starts .now) (a .sizes .now) (a .v) (a .at) _ (search needs) (search needs) (search needs) _ _
     (rw (c .before .before .wide .ensures .0, start)) (rw (c .wide2 .ensures .0, size))
 
 pub bind-spec : {M : Type 1} → statement M

@@ -11,7 +11,7 @@ bind-requires : tie.Need-bind-requires
 bind-requires c κs =
     let v = c .before .before .before .before in
     let small = rw (v .v .given .1) at (v .before .before .read-symbol .ensures .small) in
-    (search needs, search needs, small, search needs, omega arith)
+    (search needs, search needs, small, omega arith, omega arith)
 
 returns : tie.Need-returns
 returns c =
@@ -47,4 +47,4 @@ returns-4 c =
 
 pub match-one-spec : {M : Type 1} → statement M
 match-one-spec =
-    tie.close (tie.spec (λ c κs. search needs) (λ c. search needs) (λ c. search needs) (λ c κs. search needs) (λ c κs. search needs) (λ c. search needs) (λ c κs. search needs) (λ c. search needs) bind-requires returns returns-2 returns-3 returns-4)
+    tie.close (tie.spec (λ c κs. search needs) (λ c. search needs) (λ c. search needs) (λ c κs. search needs) (λ c κs. search needs) (λ c. search needs) (λ c κs. search needs) bind-requires (λ c. search needs) returns returns-2 returns-3 returns-4)

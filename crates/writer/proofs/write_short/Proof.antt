@@ -6,7 +6,7 @@ use Rattle.writer.proofs.write_short.Tie as tie
 
 write-fitting-requires : tie.Need-write-fitting-requires
 write-fitting-requires c κs =
-    let n = c .before .before .before in
+    let n = c .before .before .before .before in
     let q = n .before .before in
     (q .before .before .before .before .before .before .before .before .pre, accepted-of (rw (n .n .given .1) at (q .read-book .ensures)))
 
@@ -16,5 +16,5 @@ returns c = answers-refused _ _ _ ((rw (c .before .k .given .1) at (c .before .b
 pub write-short-spec : {M : Type 1} → statement M
 write-short-spec =
     tie.close
-    (tie.spec (λ c κs. search needs) (λ c. search needs) (λ c. search needs) write-fitting-requires returns (λ c. search needs)
+    (tie.spec (λ c κs. search needs) (λ c. search needs) (λ c. search needs) (λ c. search needs) write-fitting-requires returns (λ c. search needs)
     (λ c. search needs))

@@ -1,0 +1,109 @@
+/*
+ * Kurvneist: reduces lines by rule books on one to eight simulated units.
+ *
+ * The functions of libkurvneist.a (x86-64), which `rt staticlib kurvneist` writes. What a book, a line, a schedule, a
+ * refusal and an ending are is said in document 01.
+ *
+ * Buffers. Each is lent as a pointer and its length in bytes. A pointer is never null, not even for a length of 0. What
+ * is written to (work, output, answer, length) overlaps nothing else that is lent. Any bytes, lengths and numbers are
+ * fine: what can't be used is refused by number.
+ *
+ * The functions keep nothing between calls, so several threads may call them, each with buffers of its own.
+ */
+#ifndef KURVNEIST_H
+#define KURVNEIST_H
+
+#include <stddef.h>
+#include <stdint.h>
+
+#ifdef __cplusplus
+extern "C" {
+#endif
+
+/* Bytes of work area and of output that a run asks for; more is fine. */
+#define KURVNEIST_WORK_LENGTH 24624
+#define KURVNEIST_OUTPUT_LENGTH 1024
+
+/* No book is longer, and so no written one. */
+#define KURVNEIST_LONGEST_BOOK 40962
+
+/* The elements of an answer. */
+enum kurvneist_answer {
+    KURVNEIST_ENDING = 0,   /* an ending's number */
+    KURVNEIST_REWRITES = 1, /* rewrites made, at most the budget */
+    KURVNEIST_ENTRIES = 2,  /* schedule entries used */
+    KURVNEIST_GRANTED = 3,  /* FORKs that found an idle unit */
+    KURVNEIST_LENGTH = 4,   /* symbols of the present term, 1 to 1,024 */
+    KURVNEIST_ANSWER_LENGTH = 5
+};
+
+/* How a run ends. Only a finished run's term is a posting. */
+enum kurvneist_ending {
+    KURVNEIST_FINISHED = 0, /* nothing is left to do */
+    KURVNEIST_SPENT = 1,    /* a rewrite is due and the budget is used up */
+    KURVNEIST_FULL = 2,     /* a rewrite is due that would make over 1,024 symbols */
+    KURVNEIST_CUT = 3       /* the schedule has no further entry */
+};
+
+/*
+ * The refusals. Places are checked in this order: 13, 15, 16; the book, 1 to 9; the line, 12, 11, 10; the schedule, 14.
+ *
+ *    1  the book's bits run out
+ *    2  the book has no operator
+ *    3  a strategy has an item above 9, a group in a group, a close without an open, a 0 in a group, an argument above
+ *       the arity, or a last item that is not 0
+ *    4  a rule names an operator that the book does not have
+ *    5  a left side is a variable
+ *    6  a left side names a variable twice
+ *    7  a right side names a variable that its left side does not
+ *    8  a side is still incomplete after 64 symbols
+ *    9  a padding bit of the book is 1, or a further byte follows
+ *   10  the line is empty or incomplete, or has bytes left over
+ *   11  the line names an operator that the book does not have
+ *   12  the line has over 1,024 bytes
+ *   13  the units are not 1 to 8
+ *   14  a schedule entry names a unit that is not there
+ *   15  the work area is shorter than kurvneist_work_length()
+ *   16  the output is shorter than kurvneist_output_length() or, of the writer, than the written book
+ */
+
+/* KURVNEIST_WORK_LENGTH. */
+size_t kurvneist_work_length(void);
+
+/* KURVNEIST_OUTPUT_LENGTH. */
+size_t kurvneist_output_length(void);
+
+/*
+ * Reduces a line by a book on `units` units, with at most `budget` rewrites, as the schedule says: each of its bytes is
+ * the number of the unit that acts next.
+ *
+ * The result is 0, or the number of a refusal. `answer` has KURVNEIST_ANSWER_LENGTH elements.
+ *
+ * After 0 the present term stands at the front of `output`, one byte a symbol, and the output's other bytes are as they
+ * were; `work` is all zero, whatever it held before. After a refusal `answer` is all zero, and `work` and `output` are
+ * as they were.
+ */
+uint8_t kurvneist_reduce(const uint8_t *book, size_t book_length,
+                         const uint8_t *line, size_t line_length,
+                         uint8_t units, uint32_t budget,
+                         const uint8_t *schedule, size_t schedule_length,
+                         uint8_t *work, size_t work_length,
+                         uint8_t *output, size_t output_length,
+                         uint64_t *answer);
+
+/*
+ * Writes a book with its strategies settled to the front of `output`; the output's other bytes are as they were. A
+ * written book is never longer than the book given.
+ *
+ * The result is 0, or the number of a refusal: 1 to 9, or 16. `length` has one element: the bytes written, or 0 after a
+ * refusal, which leaves `output` as it was.
+ */
+uint8_t kurvneist_write_book(const uint8_t *book, size_t book_length,
+                             uint8_t *output, size_t output_length,
+                             uint64_t *length);
+
+#ifdef __cplusplus
+}
+#endif
+
+#endif

@@ -1,0 +1,129 @@
+//! Reduces lines by rule books, on one to eight simulated units that share the work under a schedule.
+//!
+//! A safe face of the proved static library `libkurvneist.a`: this crate lends it buffers, gives its numbers names, and
+//! decides nothing. What a book, a line, a schedule, a refusal and an ending are is said in document 01.
+//!
+//! ```
+//! use kurvneist::{round_robin, Ending, Engine, Request};
+//!
+//! // Three operators: end, tick(_) and both(_, _), whose arguments may be reduced at the same time.
+//! // Two rules: both(end, Y) gives Y, and both(tick(X), Y) gives tick(both(X, Y)).
+//! let book = b"\x03\x02\x52\xc0\x94\x80\x10\x08\x01\x18\x80\x80\x30\x88\x04\x05\x08\x80";
+//! let mut engine = Engine::new();
+//! let posting = engine.post(&Request {
+//!     book,
+//!     line: &[2, 1, 0, 1, 0], // both(tick(end), tick(end))
+//!     units: 2,
+//!     budget: 9,
+//!     schedule: &round_robin(2, 100),
+//! })?;
+//! assert_eq!(posting.answer.ending, Ending::Finished);
+//! assert_eq!(posting.answer.rewrites, 2);
+//! assert_eq!(posting.term, [1, 1, 0]); // tick(tick(end))
+//! # Ok::<(), kurvneist::Refusal>(())
+//! ```
+//!
+//! A refusal tells its number and its condition, and leaves every buffer as it was:
+//!
+//! ```
+//! # use kurvneist::{Engine, Request};
+//! let request = Request { book: &[1, 0, 0], line: &[7], units: 1, budget: 0, schedule: &[] };
+//! let refusal = Engine::new().post(&request).unwrap_err();
+//! assert_eq!(refusal.number(), 11);
+//! assert_eq!(refusal.to_string(), "refused 11: the line names an operator that the book does not have");
+//! ```
+#![deny(unsafe_code)]
+#![warn(missing_docs)]
+
+mod answer;
+mod engine;
+pub mod raw;
+mod refusal;
+
+pub use answer::{Answer, Ending};
+pub use engine::{Engine, Posting};
+pub use refusal::Refusal;
+
+/// Bytes of work area that a run asks for.
+pub const WORK_LENGTH: usize = 24_624;
+
+/// Bytes of output that a run asks for: a term has at most 1,024 symbols.
+pub const OUTPUT_LENGTH: usize = 1024;
+
+/// No book has more bytes than one of 255 operators, each with a list of 31 items, and 255 rules whose sides have 64
+/// operators each.
+pub const LONGEST_BOOK: usize = {
+    let operator = 3 + 1 + 5 + 31 * 4;
+    let rule = 2 * 64 * 9;
+    usize::div_ceil(8 + 255 * operator + 8 + 255 * rule, 8)
+};
+
+/// What a run is asked.
+#[derive(Clone, Copy, Debug)]
+pub struct Request<'a> {
+    /// The rule book, packed.
+    pub book: &'a [u8],
+    /// The term to reduce, one byte a symbol, in preorder.
+    pub line: &'a [u8],
+    /// How many units there are, 1 to 8.
+    pub units: u8,
+    /// The most rewrites that may be made.
+    pub budget: u32,
+    /// The number of the unit that acts, entry by entry.
+    pub schedule: &'a [u8],
+}
+
+/// Carries out one run in lent buffers of at least [`WORK_LENGTH`] and [`OUTPUT_LENGTH`] bytes.
+///
+/// The present term is then at the front of the output, whose other bytes stay, and the work area is all zero, whatever
+/// it held before. After a refusal both are as they were.
+///
+/// ```
+/// use kurvneist::{reduce, Request, OUTPUT_LENGTH, WORK_LENGTH};
+///
+/// let request = Request { book: &[1, 0, 0], line: &[0], units: 1, budget: 0, schedule: &[0; 5] };
+/// let (mut work, mut output) = (vec![7; WORK_LENGTH], [7; OUTPUT_LENGTH]);
+/// let answer = reduce(&request, &mut work, &mut output)?;
+/// assert_eq!((answer.entries, answer.length), (3, 1));
+/// assert_eq!(output[..3], [0, 7, 7]);
+/// # Ok::<(), kurvneist::Refusal>(())
+/// ```
+pub fn reduce(request: &Request, work: &mut [u8], output: &mut [u8]) -> Result<Answer, Refusal> {
+    let mut values = [0; 5];
+    Refusal::check(raw::reduce(request, work, output, &mut values))?;
+    Ok(Answer::of(values))
+}
+
+/// Writes a book with its strategies settled to the front of the output and answers the written length. The output's
+/// other bytes stay, and after a refusal all do.
+pub fn write_book(book: &[u8], output: &mut [u8]) -> Result<usize, Refusal> {
+    let mut length = 0;
+    Refusal::check(raw::write_book(book, output, &mut length))?;
+    Ok(usize::try_from(length).expect("what is written fits the output"))
+}
+
+/// The book with its strategies settled. The refusal 16 can't come.
+///
+/// One buffer of the given book's length is enough: settling only shortens lists, and rules are written as they stand.
+/// What is longer than [`LONGEST_BOOK`] is no book and is refused, so no more than that is set aside.
+///
+/// ```
+/// // Two constants, the second with the list (0), which is the default.
+/// assert_eq!(kurvneist::written_book(&[0x02, 0x03, 0x10, 0x80, 0x00])?, [0x02, 0x02, 0x00]);
+/// # Ok::<(), kurvneist::Refusal>(())
+/// ```
+pub fn written_book(book: &[u8]) -> Result<Vec<u8>, Refusal> {
+    let mut output = vec![0; book.len().min(LONGEST_BOOK)];
+    let length = write_book(book, &mut output)?;
+    output.truncate(length);
+    Ok(output)
+}
+
+/// A schedule in which the units take turns: 0, 1 and so on, then 0 again. No units count as one.
+///
+/// ```
+/// assert_eq!(kurvneist::round_robin(3, 7), [0, 1, 2, 0, 1, 2, 0]);
+/// ```
+pub fn round_robin(units: u8, entries: usize) -> Vec<u8> {
+    (0..units.max(1)).cycle().take(entries).collect()
+}

@@ -1,0 +1,91 @@
+//! The C functions, with slices in the place of pointers. Their values come back as they are; [`crate::reduce`] and
+//! [`crate::write_book`] give them names.
+//!
+//! This is the only module with `unsafe`. For each call it suffices that
+//! - the functions are proved safe for any bytes, lengths and numbers, and use a pointer only for the bytes that they
+//!   are lent with it,
+//! - a slice's pointer is never null and is good for the slice's length, also where that is 0,
+//! - `&mut` is exclusive, so what is written to overlaps nothing else,
+//! - nothing is kept after the call returns.
+#![allow(unsafe_code)]
+
+use crate::Request;
+
+/// Declared as in `include/kurvneist.h`.
+mod c {
+    extern "C" {
+        pub fn kurvneist_work_length() -> usize;
+        pub fn kurvneist_output_length() -> usize;
+        pub fn kurvneist_reduce(
+            book: *const u8,
+            book_length: usize,
+            line: *const u8,
+            line_length: usize,
+            units: u8,
+            budget: u32,
+            schedule: *const u8,
+            schedule_length: usize,
+            work: *mut u8,
+            work_length: usize,
+            output: *mut u8,
+            output_length: usize,
+            answer: *mut u64,
+        ) -> u8;
+        pub fn kurvneist_write_book(
+            book: *const u8,
+            book_length: usize,
+            output: *mut u8,
+            output_length: usize,
+            length: *mut u64,
+        ) -> u8;
+    }
+}
+
+/// The bytes of work area that a run asks for, by the linked library.
+pub fn work_length() -> usize {
+    // SAFETY: no pointer is passed.
+    unsafe { c::kurvneist_work_length() }
+}
+
+/// The bytes of output that a run asks for, by the linked library.
+pub fn output_length() -> usize {
+    // SAFETY: no pointer is passed.
+    unsafe { c::kurvneist_output_length() }
+}
+
+/// A refusal's number, or 0. The answer is ending, rewrites, entries, granted FORKs and the term's length; five zeros
+/// after a refusal.
+pub fn reduce(request: &Request, work: &mut [u8], output: &mut [u8], answer: &mut [u64; 5]) -> u8 {
+    // SAFETY: every pointer and length are those of one slice, and `answer` has the five elements that are written.
+    unsafe {
+        c::kurvneist_reduce(
+            request.book.as_ptr(),
+            request.book.len(),
+            request.line.as_ptr(),
+            request.line.len(),
+            request.units,
+            request.budget,
+            request.schedule.as_ptr(),
+            request.schedule.len(),
+            work.as_mut_ptr(),
+            work.len(),
+            output.as_mut_ptr(),
+            output.len(),
+            answer.as_mut_ptr(),
+        )
+    }
+}
+
+/// A refusal's number, or 0. The length is that of the written book; 0 after a refusal.
+pub fn write_book(book: &[u8], output: &mut [u8], length: &mut u64) -> u8 {
+    // SAFETY: every pointer and length are those of one slice, and `length` is the one element that is written.
+    unsafe {
+        c::kurvneist_write_book(
+            book.as_ptr(),
+            book.len(),
+            output.as_mut_ptr(),
+            output.len(),
+            length,
+        )
+    }
+}

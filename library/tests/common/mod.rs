@@ -1,0 +1,109 @@
+//! Books for the tests.
+
+#![allow(dead_code)]
+
+use kurvneist::Request;
+
+#[derive(Clone, Copy)]
+pub enum Symbol {
+    Operator(u8),
+    Variable(u8),
+}
+
+pub const X: Symbol = Symbol::Variable(0);
+pub const Y: Symbol = Symbol::Variable(1);
+
+pub fn op(number: u8) -> Symbol {
+    Symbol::Operator(number)
+}
+
+/// An arity, and the items of a list if one is given.
+pub type Operator<'a> = (u8, Option<&'a [u8]>);
+
+/// A left and a right side.
+pub type Rule<'a> = (&'a [Symbol], &'a [Symbol]);
+
+pub fn book(operators: &[Operator], rules: &[Rule]) -> Vec<u8> {
+    let mut bits = Bits::default();
+    bits.put(operators.len() as u8, 8);
+    for (arity, list) in operators {
+        bits.put(*arity, 3);
+        bits.put(list.is_some().into(), 1);
+        if let Some(items) = list {
+            bits.put(items.len() as u8, 5);
+            items.iter().for_each(|item| bits.put(*item, 4));
+        }
+    }
+    bits.put(rules.len() as u8, 8);
+    for (left, right) in rules {
+        left.iter()
+            .chain(*right)
+            .for_each(|symbol| bits.symbol(*symbol));
+    }
+    bits.bytes
+}
+
+/// Fields packed most significant bit first, with zero bits up to a whole byte.
+#[derive(Default)]
+struct Bits {
+    bytes: Vec<u8>,
+    used: usize,
+}
+
+impl Bits {
+    fn put(&mut self, value: u8, width: u32) {
+        for place in (0..width).rev() {
+            if self.used == self.bytes.len() * 8 {
+                self.bytes.push(0);
+            }
+            self.bytes[self.used / 8] |= (value >> place & 1) << (7 - self.used % 8);
+            self.used += 1;
+        }
+    }
+
+    fn symbol(&mut self, symbol: Symbol) {
+        match symbol {
+            Symbol::Operator(number) => {
+                self.put(0, 1);
+                self.put(number, 8);
+            }
+            Symbol::Variable(number) => {
+                self.put(1, 1);
+                self.put(number, 4);
+            }
+        }
+    }
+}
+
+/// Book P of document 01: `end`, `tick` and `both`.
+pub fn book_p() -> Vec<u8> {
+    let (end, tick, both) = (op(0), op(1), op(2));
+    book(
+        &[(0, None), (1, None), (2, Some(&[8, 1, 2, 9, 0]))],
+        &[
+            (&[both, end, Y], &[Y]),
+            (&[both, tick, X, Y], &[tick, both, X, Y]),
+        ],
+    )
+}
+
+/// The line of the page.
+pub const LINE_P: [u8; 5] = [2, 1, 0, 1, 0];
+
+/// The page's request but for its schedule.
+pub fn page<'a>(book: &'a [u8], schedule: &'a [u8]) -> Request<'a> {
+    Request {
+        book,
+        line: &LINE_P,
+        units: 1,
+        budget: 9,
+        schedule,
+    }
+}
+
+/// Bytes that no function would write by chance.
+pub fn junk(length: usize) -> Vec<u8> {
+    (0..length)
+        .map(|place| (place as u8).wrapping_mul(31) ^ 0x5A)
+        .collect()
+}

@@ -1,0 +1,190 @@
+//! Every refusal that the library gives, by number. All buffers keep their bytes and all values are 0.
+
+mod common;
+
+use common::*;
+use kurvneist::{raw, reduce, write_book, Refusal, Request, OUTPUT_LENGTH, WORK_LENGTH};
+
+/// A book for each refusal of the book's places.
+fn faulty_books() -> Vec<(u8, Vec<u8>)> {
+    let operators: [Operator; 3] = [(0, None), (1, None), (2, None)];
+    let rule = |left: &[Symbol], right: &[Symbol]| book(&operators, &[(left, right)]);
+    let list = |items: &[u8]| book(&[(2, Some(items))], &[]);
+    let mut cut = book_p();
+    cut.pop();
+    vec![
+        (1, vec![]),
+        (1, vec![1]),
+        (1, cut),
+        (2, vec![0]),
+        (2, vec![0, 255]),
+        (3, list(&[10, 0])),
+        (3, list(&[8, 8, 9, 9, 0])),
+        (3, list(&[9, 0])),
+        (3, list(&[8, 0, 9, 0])),
+        (3, list(&[3, 0])),
+        (3, list(&[1])),
+        (4, rule(&[op(3)], &[op(0)])),
+        (4, rule(&[op(1), op(255)], &[op(0)])),
+        (5, rule(&[X], &[op(0)])),
+        (6, rule(&[op(2), X, X], &[op(0)])),
+        (7, rule(&[op(1), X], &[Y])),
+        (8, rule(&[op(1); 64], &[])),
+        (8, rule(&[op(1), X], &[op(1); 64])),
+        (9, vec![1, 0, 8]),
+        (9, vec![1, 0, 0, 0]),
+    ]
+}
+
+/// Puts a request in buffers of these lengths and sees that it is refused and nothing changes.
+fn check_refused(due: u8, request: &Request, work_length: usize, output_length: usize) {
+    let (mut work, mut output) = (junk(work_length), junk(output_length));
+    let mut values = [u64::MAX; 5];
+    let number = raw::reduce(request, &mut work, &mut output, &mut values);
+    assert_eq!((number, values), (due, [0; 5]));
+    assert_eq!(
+        reduce(request, &mut work, &mut output).map_err(Refusal::number),
+        Err(due)
+    );
+    assert!(work == junk(work_length), "the work area of refusal {due}");
+    assert!(output == junk(output_length), "the output of refusal {due}");
+}
+
+fn check_refused_in_sound_frame(due: u8, request: &Request) {
+    check_refused(due, request, WORK_LENGTH, OUTPUT_LENGTH);
+}
+
+fn check_writer_refused(due: u8, book: &[u8], output_length: usize) {
+    let mut output = junk(output_length);
+    let mut length = u64::MAX;
+    let number = raw::write_book(book, &mut output, &mut length);
+    assert_eq!((number, length), (due, 0));
+    assert_eq!(
+        write_book(book, &mut output).map_err(Refusal::number),
+        Err(due)
+    );
+    assert!(output == junk(output_length), "the output of refusal {due}");
+}
+
+#[test]
+fn books_1_to_9() {
+    let books = faulty_books();
+    for number in 1..=9 {
+        assert!(books.iter().any(|(due, _)| *due == number));
+    }
+    for (due, book) in &books {
+        check_refused_in_sound_frame(*due, &page(book, &[0; 29]));
+        check_writer_refused(*due, book, 100);
+    }
+}
+
+#[test]
+fn lines_10_to_12() {
+    let book = book_p();
+    let lines: [(u8, &[u8]); 9] = [
+        (10, &[]),
+        (10, &[2, 0]),
+        (10, &[0, 0]),
+        (10, &[0, 255]),
+        (11, &[3]),
+        (11, &[2, 255]),
+        (11, &[255; 1024]),
+        (12, &[255; 1025]),
+        (12, &[0; 5000]),
+    ];
+    for (due, line) in lines {
+        let request = Request {
+            line,
+            ..page(&book, &[0; 29])
+        };
+        check_refused_in_sound_frame(due, &request);
+    }
+}
+
+#[test]
+fn units_13() {
+    let book = book_p();
+    for units in [0, 9, 255] {
+        let request = Request {
+            units,
+            ..page(&book, &[0; 29])
+        };
+        check_refused_in_sound_frame(13, &request);
+    }
+}
+
+#[test]
+fn schedules_14() {
+    let book = book_p();
+    check_refused_in_sound_frame(14, &page(&book, &[1]));
+    // An entry that the run would never reach.
+    let late = [vec![0; 400], vec![255]].concat();
+    check_refused_in_sound_frame(14, &page(&book, &late));
+}
+
+#[test]
+fn work_areas_15() {
+    let book = book_p();
+    for length in [0, 1, WORK_LENGTH - 1] {
+        check_refused(15, &page(&book, &[0; 29]), length, OUTPUT_LENGTH);
+    }
+}
+
+#[test]
+fn outputs_16() {
+    let book = book_p();
+    for length in [0, 1, OUTPUT_LENGTH - 1] {
+        check_refused(16, &page(&book, &[0; 29]), WORK_LENGTH, length);
+    }
+    for length in 0..book.len() {
+        check_writer_refused(16, &book, length);
+    }
+}
+
+#[test]
+fn places_from_top_to_bottom() {
+    let (book, empty) = (book_p(), []);
+    let request = |units, book, line, schedule| Request {
+        book,
+        line,
+        units,
+        budget: 9,
+        schedule,
+    };
+    let (long, short) = ([255; 1025], [0, 255]);
+    check_refused(13, &request(0, &empty, &long, &[9]), 0, 0);
+    check_refused(15, &request(1, &empty, &long, &[9]), WORK_LENGTH - 1, 0);
+    check_refused(16, &request(1, &empty, &long, &[9]), WORK_LENGTH, 1023);
+    check_refused_in_sound_frame(1, &request(1, &empty, &long, &[9]));
+    check_refused_in_sound_frame(12, &request(1, &book, &long, &[9]));
+    check_refused_in_sound_frame(10, &request(1, &book, &short, &[9]));
+    check_refused_in_sound_frame(14, &request(1, &book, &LINE_P, &[9]));
+    // The writer tells the book's faults first.
+    check_writer_refused(9, &[1, 0, 8], 0);
+}
+
+#[test]
+fn refusals_in_words() {
+    for number in 1..=17 {
+        let refusal = Refusal::new(number).expect("1 to 17 are refusals");
+        assert_eq!(refusal.number(), number);
+        assert_eq!(
+            refusal.to_string(),
+            format!("refused {number}: {}", refusal.condition())
+        );
+        // Each number has words of its own.
+        for other in (1..number).filter_map(Refusal::new) {
+            assert_ne!(refusal.condition(), other.condition());
+        }
+    }
+    assert_eq!(
+        [0, 18, 255].map(Refusal::new),
+        [None; 3],
+        "other numbers are none"
+    );
+    let error: Box<dyn std::error::Error> = Refusal::new(12).unwrap().into();
+    assert_eq!(
+        error.to_string(),
+        "refused 12: the line has over 1,024 bytes"
+    );
+}

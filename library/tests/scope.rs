@@ -1,0 +1,177 @@
+//! The cases of document 01, starred ones first.
+
+mod common;
+
+use common::*;
+use kurvneist::{round_robin, written_book, Answer, Ending, Engine, Refusal, Request};
+
+fn posted(request: &Request) -> (Answer, Vec<u8>) {
+    let mut engine = Engine::new();
+    let posting = engine.post(request).expect("nothing to refuse");
+    (posting.answer, posting.term.to_vec())
+}
+
+fn refused<T>(result: Result<T, Refusal>) -> Option<u8> {
+    result.err().map(Refusal::number)
+}
+
+#[test]
+fn page_of_the_document() {
+    let due = Answer {
+        ending: Ending::Finished,
+        rewrites: 2,
+        entries: 29,
+        granted: 0,
+        length: 3,
+    };
+    assert_eq!(posted(&page(&book_p(), &[0; 29])), (due, vec![1, 1, 0]));
+}
+
+#[test]
+fn one_entry_less_is_cut() {
+    let (answer, term) = posted(&page(&book_p(), &[0; 28]));
+    assert_eq!((answer.ending, answer.entries), (Ending::Cut, 28));
+    assert_eq!((answer.rewrites, answer.granted), (2, 0));
+    assert_eq!(term, [1, 1, 0]);
+}
+
+#[test]
+fn budget_of_one_is_spent() {
+    let book = book_p();
+    let (answer, term) = posted(&Request {
+        budget: 1,
+        ..page(&book, &[0; 29])
+    });
+    assert_eq!(answer.ending, Ending::Spent);
+    assert_eq!((answer.rewrites, answer.entries), (1, 23));
+    assert_eq!(term, [1, 2, 0, 1, 0]);
+}
+
+#[test]
+fn main_unit_waits_for_a_unit_that_never_acts() {
+    let book = book_p();
+    let (answer, term) = posted(&Request {
+        units: 2,
+        ..page(&book, &[0; 100])
+    });
+    assert_eq!((answer.ending, answer.entries), (Ending::Cut, 100));
+    assert_eq!((answer.rewrites, answer.granted), (0, 1));
+    assert_eq!(term, LINE_P);
+}
+
+#[test]
+fn join_passes_at_entry_thirteen() {
+    let book = book_p();
+    let schedule = [round_robin(2, 13), vec![0]].concat();
+    let up_to = |entries: usize| {
+        let request = Request {
+            units: 2,
+            ..page(&book, &schedule[..entries])
+        };
+        posted(&request).0
+    };
+    let thirteen = up_to(13);
+    assert_eq!((thirteen.ending, thirteen.entries), (Ending::Cut, 13));
+    assert_eq!((thirteen.granted, thirteen.rewrites), (1, 0));
+    // Unit 0 had the JOIN on top at entry 13, and has the WHOLE under it at the next.
+    assert_eq!(up_to(14).rewrites, 1);
+}
+
+#[test]
+fn the_two_settled_lists() {
+    let written = |arity, list: &[u8]| written_book(&book(&[(arity, Some(list))], &[]));
+    // Both settle to the default.
+    assert_eq!(written(1, &[1, 0, 1, 0]), Ok(book(&[(1, None)], &[])));
+    assert_eq!(
+        written(2, &[8, 1, 1, 9, 8, 9, 2, 0]),
+        Ok(book(&[(2, None)], &[]))
+    );
+    // And where the default differs, the settled list is written.
+    assert_eq!(
+        written(3, &[8, 1, 1, 9, 8, 9, 2, 0]),
+        Ok(book(&[(3, Some(&[1, 2, 0]))], &[]))
+    );
+}
+
+#[test]
+fn small_books_byte_by_byte() {
+    let constant = [0x01, 0x00, 0x00];
+    assert_eq!(written_book(&constant), Ok(constant.to_vec()));
+    let (answer, term) = posted(&Request {
+        line: &[0],
+        ..page(&constant, &[0; 9])
+    });
+    assert_eq!((answer.ending, answer.rewrites), (Ending::Finished, 0));
+    assert_eq!((answer.entries, term), (3, vec![0]));
+    assert_eq!(
+        written_book(&[0x02, 0x03, 0x10, 0x80, 0x00]),
+        Ok(vec![0x02, 0x02, 0x00])
+    );
+    assert_eq!(refused(written_book(&[0x00])), Some(2));
+}
+
+#[test]
+fn lines_of_1024_and_1025_symbols() {
+    let book = book_p();
+    let line = |length: usize| [vec![1; length - 1], vec![0]].concat();
+    let request = Request {
+        line: &line(1024),
+        ..page(&book, &[0; 32_768])
+    };
+    let (answer, term) = posted(&request);
+    assert_eq!((answer.ending, answer.length), (Ending::Finished, 1024));
+    assert_eq!(term, line(1024));
+    let longer = Request {
+        line: &line(1025),
+        ..request
+    };
+    assert_eq!(refused(Engine::new().post(&longer)), Some(12));
+}
+
+#[test]
+fn sides_of_64_and_65_symbols() {
+    let chain = |length: usize| [vec![op(1); length - 1], vec![op(0)]].concat();
+    let read = |left: usize, right: usize| {
+        let rule = (&chain(left)[..], &chain(right)[..]);
+        refused(written_book(&book(&[(0, None), (1, None)], &[rule])))
+    };
+    assert_eq!(read(64, 64), None);
+    assert_eq!(read(65, 64), Some(8));
+    assert_eq!(read(64, 65), Some(8));
+}
+
+#[test]
+fn units_of_0_and_9() {
+    let book = book_p();
+    let with = |units| {
+        let request = Request {
+            units,
+            ..page(&book, &[0; 29])
+        };
+        refused(Engine::new().post(&request))
+    };
+    assert_eq!([0, 1, 8, 9].map(with), [Some(13), None, None, Some(13)]);
+}
+
+/// f(X) gives g(X, X): the copy counts in the new size.
+#[test]
+fn full_counts_every_copy() {
+    let book = book(
+        &[(0, None), (1, Some(&[0])), (2, Some(&[0])), (1, None)],
+        &[(&[op(1), X], &[op(2), X, X])],
+    );
+    let line = |part: usize| [vec![1], vec![3; part - 1], vec![0]].concat();
+    // 1 + 2 * 511 = 1023 symbols fit, 1 + 2 * 512 = 1025 do not.
+    let (fits, _) = posted(&Request {
+        line: &line(511),
+        ..page(&book, &[0; 9])
+    });
+    assert_eq!((fits.ending, fits.rewrites), (Ending::Finished, 1));
+    assert_eq!(fits.length, 1023);
+    let (full, term) = posted(&Request {
+        line: &line(512),
+        ..page(&book, &[0; 9])
+    });
+    assert_eq!((full.ending, full.rewrites), (Ending::Full, 0));
+    assert_eq!((full.entries, term), (2, line(512)));
+}
