@@ -1,0 +1,25 @@
+-- For callers: an entry leads from a state that runs reach to one. Assumes nothing.
+use mathlib.Core.Path.{_≡_, sym, subst}
+use mathlib.Core.List.{List}
+use Prim.Native.Nat.{ℕ, _<_}
+use Rattle.paper.specs.Book.{Book}
+use Rattle.paper.specs.Sound.{All}
+use Rattle.paper.proofs.Books.{good-book-sound}
+use Rattle.flat.specs.Machine.{FlatState, going, flat-entry}
+use Rattle.flat.proofs.Steps.{good-settled}
+use Rattle.flat.proofs.Run.{reached-next}
+use Rattle.flat.proofs.Inside.{known-entry}
+use Rattle.entry.specs.Entry.{limits, Reaches}
+
+pub reaches-next : {bytes arities laid lefts rights roots : List ℕ} {n m budget : ℕ} {s s′ : FlatState} {B : Book} →
+    Reaches bytes arities laid lefts rights roots n m budget s B → (u : ℕ) → flat-entry B (limits budget) u s ≡ going s′ →
+    Reaches bytes arities laid lefts rights roots n m budget s′ B
+reaches-next {budget = budget} {s = s} {s′ = s′} {B = B} r u e =
+    let g = r .tables .good in
+    let k = r .tables .operators .count in
+    record {
+      tables = r .tables;
+      reached = reached-next B (limits budget) (good-book-sound B g) (good-settled B g) s s′ u (r .reached) e;
+      known = subst (λ (x : ℕ). All (λ o. o < x) (s′ .symbols)) k
+          (known-entry B g (limits budget) u s s′ (subst (λ (x : ℕ). All (λ o. o < x) (s .symbols)) (sym k) (r .known)) e);
+    }
