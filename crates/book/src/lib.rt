@@ -51,7 +51,7 @@ fn read_operator(
     requires { ⌜ (length (now book) ≤ 65536) × (o < 256) × (length (now laid) ≡ 4096) ⌝ }
     ensures { λ r. ⌜ OperatorAt (now (book .entry)) at o (now (arities .entry)) (now (laid .entry)) (now (arities .exit)) (now (laid .exit)) r ⌝ }
 {
-    let Bits::Value(a, p) = bits::field(book, at, 3) else {
+    let Bits::Value(a, p) = reader::field(book, at, 3) else {
         return Part::Refused(1);
     };
     let arity = narrow(a);
@@ -158,7 +158,7 @@ fn ends(book: &[u8], at: usize) -> bool
     if 8 <= k {
         return false;
     }
-    let Bits::Value(v, _) = bits::field(book, at, k) else {
+    let Bits::Value(v, _) = reader::field(book, at, k) else {
         return false;
     };
     v == 0
@@ -177,7 +177,7 @@ fn read_tail(
     requires { ⌜ (length (now book) ≤ 65536) × Tabled n (now arities) × Lent (now lefts) (now rights) (now roots) ⌝ }
     ensures { λ r. ⌜ TailAt (now (book .entry)) at n (now (arities .entry)) (now (lefts .exit)) (now (rights .exit)) (now (roots .exit)) r ⌝ }
 {
-    let Bits::Value(count, p) = bits::field(book, at, 8) else {
+    let Bits::Value(count, p) = reader::field(book, at, 8) else {
         return Book::Refused(1);
     };
     let m = wide(count);
@@ -204,7 +204,7 @@ pub fn read_book(
     requires { ⌜ (length (now book) ≤ 65536) × (length (now arities) ≡ 256) × (length (now laid) ≡ 4096) × Lent (now lefts) (now rights) (now roots) ⌝ }
     ensures { λ r. ⌜ BookAt (now (book .entry)) (now (arities .exit)) (now (laid .exit)) (now (lefts .exit)) (now (rights .exit)) (now (roots .exit)) r ⌝ }
 {
-    let Bits::Value(count, p) = bits::field(book, 0, 8) else {
+    let Bits::Value(count, p) = reader::field(book, 0, 8) else {
         return Book::Refused(1);
     };
     let n = wide(count);

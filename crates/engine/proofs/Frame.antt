@@ -1,0 +1,95 @@
+-- Laws of the run's frame: the number of its refusal, case by case, and that 0 is none. Assumes nothing.
+use mathlib.Core.Bool.{Bool, true, false}
+use mathlib.Core.Logic.{_⊎_, inl, inr}
+use mathlib.Core.Option.{none, some, Option·some-ne-none}
+use mathlib.Core.Path.{_≡_, refl, sym, ap, _∙_}
+use Prim.Native.Nat.{ℕ, zero, suc, _≤_, _<_}
+use native.Mathlib.Omega.{arith}
+use lib.Dec.{eqb, ltb}
+use borrow.Author.Tests.{lt-ltb, le-ltb, eq-eqb, ne-eqb, eqb-false, ltb-false}
+use Rattle.paper.specs.Page.{Request, frame-fault}
+use Rattle.engine.specs.Reduce.{published, fault-number, fault}
+
+module _ (units work output : ℕ) where
+  pub fault-none : units ≡ 0 → 13 ≡ fault units work output
+  unfolding frame-fault
+  fault-none h = rw (eq-eqb units 0 h)
+
+  pub fault-many : 8 < units → 13 ≡ fault units work output
+  unfolding frame-fault
+  fault-many h = rw (ne-eqb units 0 (λ e. omega arith), lt-ltb 8 units h)
+
+  module _ (some-units : 1 ≤ units) (few : units ≤ 8) where
+    pub fault-work : work < published → 15 ≡ fault units work output
+    unfolding frame-fault
+    fault-work h = rw (ne-eqb units 0 (λ e. omega arith), le-ltb 8 units few, lt-ltb work published h)
+
+    pub fault-output : published ≤ work → output < 1024 → 16 ≡ fault units work output
+    unfolding frame-fault
+    fault-output h k = rw (ne-eqb units 0 (λ e. omega arith), le-ltb 8 units few, le-ltb work published h, lt-ltb output 1024 k)
+
+    pub faultless : published ≤ work → 1024 ≤ output → 0 ≡ fault units work output
+    unfolding frame-fault
+    faultless h k = rw (ne-eqb units 0 (λ e. omega arith), le-ltb 8 units few, le-ltb work published h, le-ltb output 1024 k)
+
+pub positive : (n : ℕ) → (n ≡ 0 → ⊥) → 1 ≤ n
+positive zero h = absurd (h refl)
+positive (suc n) h = omega arith
+
+-- what a frame without fault has
+pub record Frame (units work output : ℕ) : Type 0 where
+  pub some-units : 1 ≤ units
+  pub few : units ≤ 8
+  pub work-long : published ≤ work
+  pub output-long : 1024 ≤ output
+
+module _ (q : Request) where
+  abbrev Fits : Type 0
+  Fits = Frame (q .units) (q .work) (q .output)
+
+  -- there is no fault, or a refusal, whose number is not 0
+  abbrev Outcome : Type 0
+  Outcome = ((frame-fault published q ≡ none) × Fits) ⊎ ((k : ℕ) × (0 < k) × (frame-fault published q ≡ some k))
+
+  outcome : Outcome
+  unfolding frame-fault
+  outcome = go (eqb (q .units) 0) refl (ltb 8 (q .units)) refl (ltb (q .work) published) refl (ltb (q .output) 1024) refl
+    where
+      go : (a : Bool) → eqb (q .units) 0 ≡ a → (b : Bool) → ltb 8 (q .units) ≡ b → (c : Bool) → ltb (q .work) published ≡ c → (d : Bool) →
+          ltb (q .output) 1024 ≡ d → Outcome
+      go true e b f c g d h = inr (13, omega arith, rw e)
+      go false e true f c g d h = inr (13, omega arith, rw (e, f))
+      go false e false f true g d h = inr (15, omega arith, rw (e, f, g))
+      go false e false f false g true h = inr (16, omega arith, rw (e, f, g, h))
+      go false e false f false g false h = inl (
+        rw (e, f, g, h),
+        record {
+          some-units = positive (q .units) (eqb-false (q .units) 0 e);
+          few = ltb-false 8 (q .units) f;
+          work-long = ltb-false (q .work) published g;
+          output-long = ltb-false (q .output) 1024 h;
+        },
+      )
+
+  by-number : fault (q .units) (q .work) (q .output) ≡ fault-number (frame-fault published q)
+  unfolding frame-fault
+  by-number = refl
+
+  -- the number 0 says that there is none
+  pub framed : fault (q .units) (q .work) (q .output) ≡ 0 → frame-fault published q ≡ none
+  framed e = elim outcome [
+    | inl p ↦ p .0
+    | inr p ↦ let k = p .1 in let h = ap fault-number (p .2) in absurd (omega (arith, by-number))
+  ]
+
+  pub faulty : (k : ℕ) → k ≡ fault (q .units) (q .work) (q .output) → (k ≡ 0 → ⊥) → frame-fault published q ≡ some k
+  faulty k e n = elim outcome [
+    | inl p ↦ absurd (n (e ∙ by-number ∙ ap fault-number (p .0)))
+    | inr p ↦ p .2 ∙ ap some (sym (e ∙ by-number ∙ ap fault-number (p .2)))
+  ]
+
+  pub frame-of : frame-fault published q ≡ none → Fits
+  frame-of e = elim outcome [
+    | inl p ↦ p .1
+    | inr p ↦ absurd (Option·some-ne-none (p .0) (sym (p .2) ∙ e))
+  ]

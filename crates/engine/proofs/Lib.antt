@@ -1,0 +1,6 @@
+pub mod Copying
+pub mod Schedule
+pub mod Frame
+pub mod Answers
+pub mod Runs
+pub mod Laws

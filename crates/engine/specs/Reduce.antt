@@ -1,0 +1,127 @@
+-- The entry point of a run: which definition its answer equals, and what becomes of the lent buffers (document 01, 'What is checked where', 'How a
+-- run ends', 'What a reviewer will try, in order'). Assumes nothing.
+use mathlib.Core.Bool.{true}
+use mathlib.Core.List.{List, [], _++_}
+use mathlib.Core.Option.{Option, none, some}
+use mathlib.Core.Path.{_≡_}
+use Prim.Native.Nat.{ℕ, _≤_}
+use lib.ListN.{length, drop, replicate}
+use Rattle.paper.specs.Result.{Result, refused, accepted}
+use Rattle.paper.specs.Tree.{preorder}
+use Rattle.paper.specs.Book.{Term, Book}
+use Rattle.paper.specs.Reader.{readBook}
+use Rattle.paper.specs.Line.{readLine}
+use Rattle.paper.specs.Reduction.{rewrites, forks, Reduces}
+use Rattle.paper.specs.Machine.{Ending}
+use Rattle.paper.specs.Run.{Answer, run}
+use Rattle.paper.specs.Demand3.{Demand3}
+use Rattle.paper.specs.Page.{Request, all-below, frame-fault, answerOf}
+use Rattle.book.specs.Tables.{Tables}
+use Rattle.entry.specs.Entry.{limits}
+use Rattle.run.specs.Run.{ending}
+use Rattle.engine.specs.declared.Answer as D
+
+-- the published length of the work area: eight stacks of 1,026 frames of three bytes
+abbrev pub published : ℕ
+published = 24624
+
+-- ANSWERS
+
+-- what an accepted run answers: ending (its number is ending-number of the paper's page), rewrites made, entries used, FORKs granted, the
+-- present term's length
+pub record Values : Type 0 where
+  pub ending : Ending
+  pub rewrites : ℕ
+  pub entries : ℕ
+  pub granted : ℕ
+  pub length : ℕ
+
+-- document 01's number or values for each case of the code's answer
+abbrev pub values : D.Answer → Result Values
+values (D.Answer.Refused k) = refused k
+values (D.Answer.Ran r) =
+    accepted (record { ending = ending (r .ending); rewrites = r .rewrites; entries = r .entries; granted = r .granted; length = r .length })
+
+-- and of the definition's
+abbrev pub values-of : Result Answer → Result Values
+values-of (refused k) = refused k
+values-of (accepted A) =
+    accepted (record { ending = A .ending; rewrites = A .rewrites; entries = A .entries; granted = A .granted; length = length (preorder (A .term)) })
+
+-- THE ENTRY POINT
+
+module _ (book line : List ℕ) (units budget : ℕ) (schedule work output : List ℕ) where
+  -- of the two buffers that are lent to be written, only their lengths are asked with
+  abbrev pub request : Request
+  request = record {
+    book = book;
+    line = line;
+    units = units;
+    budget = budget;
+    schedule = schedule;
+    work = length work;
+    output = length output;
+  }
+
+  abbrev pub answered : Result Answer
+  answered = answerOf published request
+
+  -- A is the answer of a run by the book that was read, from the term that the line is
+  pub record RunOf (A : Answer) : Type 0 where
+    pub rules : Book
+    pub term : Term
+    pub book-read : readBook book ≡ accepted rules
+    pub line-read : readLine rules line ≡ accepted term
+    pub units-named : all-below units schedule ≡ true
+    pub is : A ≡ run rules (limits budget) units schedule term
+    -- demand 3 of this run, whole
+    pub demand-3 : Demand3 rules (limits budget) units schedule term
+    -- a posting: term and rewrites of a finished run are those of reduction one after the other
+    pub posting : A .ending ≡ Ending.finished → Reduces rules rewrites term (A .rewrites) (A .term)
+    -- FORKs granted in a finished run are at most the FORKs of that reduction
+    pub grants : A .ending ≡ Ending.finished → (f : ℕ) × (A .granted ≤ f) × Reduces rules forks term f (A .term)
+    -- The papers leave free which ending comes where one order of units ends full and another finishes: it is that of this schedule. Whichever
+    -- comes, these hold.
+    pub allowed : A .rewrites ≤ budget
+    pub used : A .entries ≤ length schedule
+    pub fits : length (preorder (A .term)) ≤ 1024
+
+  pub record Reduced (work′ output′ : List ℕ) (r : D.Answer) : Type 0 where
+    -- the answer is the definition's
+    pub answer : values r ≡ values-of answered
+    -- on a refusal every lent buffer is unchanged
+    pub unchanged : (k : ℕ) → answered ≡ refused k → (work′ ≡ work) × (output′ ≡ output)
+    -- after an accepted run the work area is all zero, at its full length
+    pub cleared : (A : Answer) → answered ≡ accepted A → work′ ≡ replicate (length work) 0
+    -- the output has the present term in front, and its other bytes as they were
+    pub written : (A : Answer) → answered ≡ accepted A → output′ ≡ preorder (A .term) ++ drop (length (preorder (A .term))) output
+    -- the answer is that of a run, of which demand 3 holds
+    pub run-of : (A : Answer) → answered ≡ accepted A → RunOf A
+
+  -- PARTS
+
+  -- the run's frame is without fault
+  abbrev pub Framed : Type 0
+  Framed = frame-fault published request ≡ none
+
+  -- the book is read, and these are its tables
+  pub record Opened (arities laid lefts rights roots : List ℕ) (n m : ℕ) : Type 0 where
+    pub rules : Book
+    pub book-read : readBook book ≡ accepted rules
+    pub tables : Tables book arities laid lefts rights roots n m rules
+
+  -- the line is a term of that book, and the schedule names the units
+  pub record Sounds (arities laid lefts rights roots : List ℕ) (n m : ℕ) : Type 0 where
+    pub opened : Opened arities laid lefts rights roots n m
+    pub term : Term
+    pub line-read : readLine (opened .rules) line ≡ accepted term
+    pub units-named : all-below units schedule ≡ true
+
+-- the number of the frame's refusal, by the numbers that are looked at, or 0
+abbrev pub fault-number : Option ℕ → ℕ
+fault-number none = 0
+fault-number (some k) = k
+
+abbrev pub fault : ℕ → ℕ → ℕ → ℕ
+fault units work output =
+    fault-number (frame-fault published (record { book = []; line = []; units = units; budget = 0; schedule = []; work = work; output = output }))

@@ -1,0 +1,269 @@
+// The entry point of a run: any book, line, units, budget, schedule, work area and output are taken. What is asked is checked in the order of
+// document 01's table, then the run is made; nothing lent is written before the last check has passed.
+use book::Book;
+use run::Run;
+use term::Line;
+ghost use mathlib.Core.List.{_++_};
+ghost use mathlib.Core.Path.{_≡_};
+ghost use Prim.Native.Nat.{ℕ, _≤_, _<_};
+ghost use lib.ListN.{length, take, drop};
+ghost use Rattle.paper.specs.Page.{all-below};
+ghost use Rattle.engine.specs.Reduce as R;
+ghost use Rattle.engine.specs.declared.Answer as D;
+
+// The published length of the work area, and the length that an output must have; published in specs/Reduce is the same number.
+pub const WORK: usize = 24624;
+
+pub const OUTPUT: usize = 1024;
+
+// A run's values, or the number of the refusal.
+pub enum Answer {
+    Ran(Run),
+    Refused(u8),
+}
+
+// The term's working record: its symbols, of which the first length are in use.
+struct Term {
+    symbols: [u8; 1024],
+    length: usize,
+}
+
+fn wide(x: u8) -> usize
+    ensures { λ r. ⌜ (r ≡ x) × (r < 256) ⌝ }
+{
+    x as usize
+}
+
+fn larger(x: u8, y: u8) -> u8
+    ensures { λ r. ⌜ (x ≤ r) × (y ≤ r) × ((u : ℕ) → x < u → y < u → r < u) ⌝ }
+{
+    if x < y { y } else { x }
+}
+
+// Does every entry name one of the units? The largest is looked for, which takes no early leave, so that many are compared at a time.
+fn names_units(schedule: &[u8], units: u8) -> bool
+    requires { ⌜ 0 < units ⌝ }
+    ensures { λ r. ⌜ r ≡ all-below units (now (schedule .entry)) ⌝ }
+{
+    let mut most = 0;
+    let mut i = 0;
+    while i < schedule.len() {
+        most = larger(most, schedule[i]);
+        i += 1;
+    }
+    most < units
+}
+
+// The line's symbols, into the working record.
+fn load(symbols: &mut [u8; 1024], line: &[u8])
+    requires { ⌜ (length (now symbols) ≡ 1024) × (length (now line) ≤ 1024) ⌝ }
+    ensures { λ _. ⌜ now (symbols .exit) ≡ now (line .entry) ++ drop (length (now (line .entry))) (now (symbols .entry)) ⌝ }
+{
+    let mut i = 0;
+    while i < line.len() {
+        symbols[i] = line[i];
+        i += 1;
+    }
+}
+
+// The first n symbols, to the front of the output.
+fn hand_out(symbols: &[u8; 1024], n: usize, output: &mut [u8])
+    requires { ⌜ (length (now symbols) ≡ 1024) × (n ≤ 1024) × (1024 ≤ length (now output)) ⌝ }
+    ensures { λ _. ⌜ now (output .exit) ≡ take n (now (symbols .entry)) ++ drop n (now (output .entry)) ⌝ }
+{
+    let mut i = 0;
+    while i < n {
+        output[i] = symbols[i];
+        i += 1;
+    }
+}
+
+// The run of a line that is sound. The work area is cleared whole behind it.
+fn post(
+    book: &[u8],
+    n: usize,
+    arities: &[u8; 256],
+    laid: &[u8; 4096],
+    lefts: &[u32; 256],
+    rights: &[u32; 256],
+    roots: &[u8; 256],
+    m: usize,
+    line: &[u8],
+    units: u8,
+    budget: u32,
+    schedule: &[u8],
+    work: &mut [u8],
+    output: &mut [u8],
+) -> Run
+    requires { ⌜ (length (now book) ≤ 65536) × R.Framed (now book) (now line) units budget (now schedule) (now work) (now output) × R.Sounds (now book) (now line) units budget (now schedule) (now work) (now output) (now arities) (now laid) (now lefts) (now rights) (now roots) n m ⌝ }
+    ensures { λ r. ⌜ R.Reduced (now (book .entry)) (now (line .entry)) units budget (now (schedule .entry)) (now (work .entry)) (now (output .entry)) (now (work .exit)) (now (output .exit)) (D.Answer.Ran r) ⌝ }
+{
+    let mut term = Term {
+        symbols: [0; 1024],
+        length: line.len(),
+    };
+    let mut scratch = [0; 1024];
+    let mut busy = [0; 8];
+    let mut heights = [0; 8];
+    load(&mut term.symbols, line);
+    let length = term.length;
+    units::start(work, &mut busy, &mut heights);
+    let run = run::run_schedule(
+        book,
+        n,
+        arities,
+        laid,
+        lefts,
+        rights,
+        roots,
+        m,
+        &mut term.symbols,
+        length,
+        &mut scratch,
+        work,
+        &mut busy,
+        &mut heights,
+        wide(units),
+        budget,
+        schedule,
+    );
+    term.length = run.length;
+    let left = term.length;
+    hand_out(&term.symbols, left, output);
+    stack::clear(work);
+    run
+}
+
+// A line, by the tables of a book that was read.
+fn reduce_line(
+    book: &[u8],
+    n: usize,
+    arities: &[u8; 256],
+    laid: &[u8; 4096],
+    lefts: &[u32; 256],
+    rights: &[u32; 256],
+    roots: &[u8; 256],
+    m: usize,
+    line: &[u8],
+    units: u8,
+    budget: u32,
+    schedule: &[u8],
+    work: &mut [u8],
+    output: &mut [u8],
+) -> Answer
+    requires { ⌜ (length (now book) ≤ 65536) × R.Framed (now book) (now line) units budget (now schedule) (now work) (now output) × R.Opened (now book) (now line) units budget (now schedule) (now work) (now output) (now arities) (now laid) (now lefts) (now rights) (now roots) n m ⌝ }
+    ensures { λ r. ⌜ R.Reduced (now (book .entry)) (now (line .entry)) units budget (now (schedule .entry)) (now (work .entry)) (now (output .entry)) (now (work .exit)) (now (output .exit)) r ⌝ }
+{
+    match term::check_line(line, n, arities) {
+        Line::Refused(k) => Answer::Refused(k),
+        Line::Sound => {
+            if !names_units(schedule, units) {
+                return Answer::Refused(14);
+            }
+            Answer::Ran(post(
+                book,
+                n,
+                arities,
+                laid,
+                lefts,
+                rights,
+                roots,
+                m,
+                line,
+                units,
+                budget,
+                schedule,
+                work,
+                output,
+            ))
+        }
+    }
+}
+
+// A book of at most 65,536 bytes.
+fn reduce_book(
+    book: &[u8],
+    line: &[u8],
+    units: u8,
+    budget: u32,
+    schedule: &[u8],
+    work: &mut [u8],
+    output: &mut [u8],
+) -> Answer
+    requires { ⌜ (length (now book) ≤ 65536) × R.Framed (now book) (now line) units budget (now schedule) (now work) (now output) ⌝ }
+    ensures { λ r. ⌜ R.Reduced (now (book .entry)) (now (line .entry)) units budget (now (schedule .entry)) (now (work .entry)) (now (output .entry)) (now (work .exit)) (now (output .exit)) r ⌝ }
+{
+    let mut arities = [0u8; 256];
+    let mut laid = [0u8; 4096];
+    let mut lefts = [0u32; 256];
+    let mut rights = [0u32; 256];
+    let mut roots = [0u8; 256];
+    match book::read_book(
+        book,
+        &mut arities,
+        &mut laid,
+        &mut lefts,
+        &mut rights,
+        &mut roots,
+    ) {
+        Book::Refused(k) => Answer::Refused(k),
+        Book::Read(n, m) => reduce_line(
+            book,
+            n,
+            &arities,
+            &laid,
+            &lefts,
+            &rights,
+            &roots,
+            m,
+            line,
+            units,
+            budget,
+            schedule,
+            work,
+            output,
+        ),
+    }
+}
+
+// The refusal's number of the run's frame, or 0: 13, units not 1 to 8; 15, work area too short; 16, output too short.
+fn frame_fault(units: u8, work: usize, output: usize) -> u8
+    ensures { λ r. ⌜ r ≡ R.fault units work output ⌝ }
+{
+    if units == 0 {
+        return 13;
+    }
+    if 8 < units {
+        return 13;
+    }
+    if work < WORK {
+        return 15;
+    }
+    if output < OUTPUT {
+        return 16;
+    }
+    0
+}
+
+// The run of a line by a book: `units` units share the work as the schedule says, and make at most `budget` rewrites.
+pub fn reduce(
+    book: &[u8],
+    line: &[u8],
+    units: u8,
+    budget: u32,
+    schedule: &[u8],
+    work: &mut [u8],
+    output: &mut [u8],
+) -> Answer
+    ensures { λ r. ⌜ R.Reduced (now (book .entry)) (now (line .entry)) units budget (now (schedule .entry)) (now (work .entry)) (now (output .entry)) (now (work .exit)) (now (output .exit)) r ⌝ }
+{
+    let fault = frame_fault(units, work.len(), output.len());
+    if fault != 0 {
+        return Answer::Refused(fault);
+    }
+    // What stands behind a book's first 65,536 bytes does not change what it reads as.
+    if 65536 < book.len() {
+        return reduce_book(&book[0..65536], line, units, budget, schedule, work, output);
+    }
+    reduce_book(book, line, units, budget, schedule, work, output)
+}

@@ -1,0 +1,44 @@
+-- The exported functions: a refusal's number or 0, and the values of an answer as numbers in an array (document 01, 'What is checked where': a
+-- refusal answers its number with zeros for all else). Assumes nothing.
+use mathlib.Core.List.{List, [], _∷_}
+use mathlib.Core.Path.{_≡_}
+use Prim.Native.Nat.{ℕ}
+use Rattle.paper.specs.Result.{Result, refused, accepted}
+use Rattle.paper.specs.Page.{ending-number}
+use Rattle.engine.specs.Reduce as R
+use Rattle.engine.specs.declared.Answer as A
+use Rattle.writer.specs.Writing.{Answers}
+use Rattle.writer.specs.declared.Written as W
+
+-- the refusal's number, 0 if there is none
+abbrev pub refusal : Result R.Values → ℕ
+refusal (refused k) = k
+refusal (accepted v) = 0
+
+-- ending, rewrites, entries, granted, length
+abbrev pub numbers : Result R.Values → List ℕ
+numbers (refused k) = 0 ∷ 0 ∷ 0 ∷ 0 ∷ 0 ∷ []
+numbers (accepted v) = ending-number (v .ending) ∷ v .rewrites ∷ v .entries ∷ v .granted ∷ v .length ∷ []
+
+pub record Reduced (book line : List ℕ) (units budget : ℕ) (schedule work output work′ output′ answer′ : List ℕ) (r : ℕ) : Type 0 where
+  -- the definition's number and values
+  pub number : r ≡ refusal (R.values-of (R.answered book line units budget schedule work output))
+  pub values : answer′ ≡ numbers (R.values-of (R.answered book line units budget schedule work output))
+  -- what becomes of the lent buffers, clause by clause
+  pub answer : A.Answer
+  pub buffers : R.Reduced book line units budget schedule work output work′ output′ answer
+
+-- the writer's answer
+abbrev pub written-refusal : W.Written → ℕ
+written-refusal (W.Written.Refused k) = k
+written-refusal (W.Written.Length n) = 0
+
+abbrev pub written-length : W.Written → ℕ
+written-length (W.Written.Refused k) = 0
+written-length (W.Written.Length n) = n
+
+pub record Wrote (book output output′ length′ : List ℕ) (r : ℕ) : Type 0 where
+  pub answer : W.Written
+  pub is : Answers book output output′ answer
+  pub number : r ≡ written-refusal answer
+  pub length : length′ ≡ written-length answer ∷ []

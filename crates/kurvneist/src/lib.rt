@@ -1,0 +1,104 @@
+// The library for C and Rust: a run, the book's writer, and the published lengths, on numbers and byte slices. A slice is passed as a pointer and a
+// length, an array as a pointer.
+use engine::Answer;
+use run::Ending;
+use run::Run;
+use writer::Written;
+ghost use mathlib.Core.Path.{_≡_};
+ghost use mathlib.Core.List.{_∷_, []};
+ghost use lib.ListN.{length};
+ghost use Rattle.paper.specs.Page.{ending-number};
+ghost use Rattle.run.specs.Run.{ending};
+ghost use Rattle.engine.specs.Reduce.{published};
+ghost use Rattle.kurvneist.specs.Exported as X;
+
+// The bytes of a work area.
+#[no_mangle]
+pub extern "C" fn kurvneist_work_length() -> usize
+    ensures { λ r. ⌜ r ≡ published ⌝ }
+{
+    engine::WORK
+}
+
+// The bytes that an output must have.
+#[no_mangle]
+pub extern "C" fn kurvneist_output_length() -> usize
+    ensures { λ r. ⌜ r ≡ 1024 ⌝ }
+{
+    engine::OUTPUT
+}
+
+fn number(e: Ending) -> u64
+    ensures { λ r. ⌜ r ≡ ending-number (ending e) ⌝ }
+{
+    match e {
+        Ending::Finished => 0,
+        Ending::Spent => 1,
+        Ending::Full => 2,
+        Ending::Cut => 3,
+    }
+}
+
+fn put(answer: &mut [u64; 5], ending: u64, rewrites: u64, entries: u64, granted: u64, size: u64)
+    requires { ⌜ length (now answer) ≡ 5 ⌝ }
+    ensures { λ _. ⌜ now (answer .exit) ≡ ending ∷ rewrites ∷ entries ∷ granted ∷ size ∷ [] ⌝ }
+{
+    answer[0] = ending;
+    answer[1] = rewrites;
+    answer[2] = entries;
+    answer[3] = granted;
+    answer[4] = size;
+}
+
+// A run: the refusal's number, or 0. The answer is ending, rewrites, entries, granted and length, or zeros.
+#[no_mangle]
+pub extern "C" fn kurvneist_reduce(
+    book: &[u8],
+    line: &[u8],
+    units: u8,
+    budget: u32,
+    schedule: &[u8],
+    work: &mut [u8],
+    output: &mut [u8],
+    answer: &mut [u64; 5],
+) -> u8
+    requires { ⌜ length (now answer) ≡ 5 ⌝ }
+    ensures { λ r. ⌜ X.Reduced (now (book .entry)) (now (line .entry)) units budget (now (schedule .entry)) (now (work .entry)) (now (output .entry)) (now (work .exit)) (now (output .exit)) (now (answer .exit)) r ⌝ }
+{
+    match engine::reduce(book, line, units, budget, schedule, work, output) {
+        Answer::Refused(k) => {
+            put(answer, 0, 0, 0, 0, 0);
+            k
+        }
+        Answer::Ran(run) => {
+            let e = run.ending;
+            put(
+                answer,
+                number(e),
+                run.rewrites as u64,
+                run.entries as u64,
+                run.granted as u64,
+                run.length as u64,
+            );
+            0
+        }
+    }
+}
+
+// The book's writer: the refusal's number, or 0 and how many bytes are written.
+#[no_mangle]
+pub extern "C" fn kurvneist_write_book(book: &[u8], output: &mut [u8], size: &mut [u64; 1]) -> u8
+    requires { ⌜ length (now size) ≡ 1 ⌝ }
+    ensures { λ r. ⌜ X.Wrote (now (book .entry)) (now (output .entry)) (now (output .exit)) (now (size .exit)) r ⌝ }
+{
+    match writer::write_book(book, output) {
+        Written::Refused(k) => {
+            size[0] = 0;
+            k
+        }
+        Written::Length(n) => {
+            size[0] = n as u64;
+            0
+        }
+    }
+}

@@ -1,0 +1,168 @@
+//! The help, made from the table of commands.
+
+use std::fmt::Write;
+
+use crate::cli::options::{Command, COMMANDS};
+use crate::schedule;
+
+const STATUS: &str = "\
+Exit status
+  0  done; in post, trace and batch: every run finished
+  1  a line was refused, mistyped, or its run didn't finish
+  2  the command line is wrong
+  3  a book is mistaken or refused, or a file can't be used
+  4  a trace differs from the engine, or a text from its book
+";
+
+const FORM: &str = "\
+The text form of a book
+
+  book      = { statement }
+  statement = 'op' operator { operator } '/' arity [ strategy ]
+            | 'var' name { name }
+            | 'rule' term '=' term
+  operator  = name | '\"' character '\"'
+  strategy  = '(' { item | '{' { item } '}' } ')'
+  term      = name [ ':' number ] | name '(' term { ',' term } ')'
+            | string [ '(' term ')' ]
+
+  # begins a comment, up to the end of the line; lines break anywhere between
+  words. For example:
+
+  op end/0
+  op tick/1
+  op both/2 ({1 2} 0)
+  var X Y
+  rule both(end, Y) = Y
+  rule both(tick(X), Y) = tick(both(X, Y))
+
+  op        declares operators, numbered from 0 as they come, at most 255.
+  arity     0 to 7.
+  strategy  item 0 is the whole term, 1 to 7 an argument, { } a group of
+            arguments. It is empty or ends in 0. Without one, the arguments
+            come from the left, then 0. At most 31 items; { and } count.
+  var       declares names that stand for variables in every rule.
+  rule      rules are tried in the order of the text, at most 255. A side has
+            1 to 64 symbols. A rule has at most 16 variables, each once on its
+            left side; they are numbered as they come there, and X:5 on the
+            left gives X the number 5.
+  name      letters and digits of any script, and _ ' - . & + in any order, as
+            in Müller, 24, rent-2.OG; but not op, var or rule. A letter with
+            its accent is one character. A name is declared once, before or
+            after its uses.
+  string    \"abc\"(t) is a(b(c(t))), and \"abc\" alone is a(b(c(end))). A space
+            in it is the operator _. A character that no name may have is
+            declared in quotes, with arity 1, as in op \",\" \"/\" / 1
+
+  A line is a term without variables.
+";
+
+pub const BOOK: &str = "\
+Each mistake is told once, with line, column, what was expected, and the number
+by which the book's reader would refuse it, if it has one. What is written is
+the settled book of the proved writer.
+";
+
+pub const TEXT: &str = "\
+The text gives that very book again, settled, byte for byte; this is tried before
+it is shown. Books keep no names: with --names the operators are called as in
+that text, which must declare as many, with the same arities.
+";
+
+pub const POST: &str = "\
+Shows how the run ended (finished, spent, full or cut), the rewrites, entries and
+granted FORKs, and the term. It is a posting if the run finished.
+";
+
+pub const TRACE: &str = "\
+Each entry is a row: the unit, its order, what changed, and the present term with
+the order's part in brackets. The orders come from a plain model; after every
+entry its term, counts and ending are compared with what the proved engine
+answers for the schedule cut there, and a difference stops the trace. The time
+for this grows with the square of the entries; --check 100 compares after every
+100th entry, and at the end.
+
+The picture has a lane for each unit: a box while it is busy, hatched while it
+waits at a JOIN, a thin line while it is idle, with arrows for FORKs and EXITs.
+Each cell says its entry when the pointer rests on it.
+";
+
+pub const BATCH: &str = "\
+Output line k belongs to input line k. It is the posting by names; a blank or
+comment line as it was; or ! and why there is no posting:
+  ! column 7: 'muller' is unknown; expected an operator that is declared
+  ! refused 12: the line has over 1,024 bytes
+  ! spent after 1000 rewrites at TERM     (also full, and cut after N entries)
+A line that can't be posted doesn't stop the others. A summary goes to standard
+error, and a progress bar if that is a terminal.
+";
+
+pub fn general() -> String {
+    let mut text = String::from(
+        "kurvneist reduces lines by rule books, with the proved engine.\n\n\
+         Usage: kurvneist COMMAND ARGUMENTS [OPTIONS]\n\nCommands\n",
+    );
+    for command in COMMANDS {
+        put(
+            &mut text,
+            &format!("  {:<7}{}\n", command.name, command.about),
+        );
+    }
+    put(
+        &mut text,
+        "  help   this text; 'help COMMAND' for one command\n",
+    );
+    for command in COMMANDS {
+        let arguments = arguments(command);
+        put(
+            &mut text,
+            &format!("\nkurvneist {} {arguments}\n", command.name),
+        );
+        put(&mut text, &options(command));
+    }
+    put(&mut text, &format!("\n{FORM}\n{}\n{STATUS}", schedules()));
+    text
+}
+
+/// The help of one command.
+pub fn of(command: &Command) -> String {
+    let mut text = format!("kurvneist {}: {}\n\n", command.name, command.about);
+    put(&mut text, &usage(command));
+    for (name, what) in command.arguments {
+        put(&mut text, &format!("  {name:<18}{what}\n"));
+    }
+    put(&mut text, &options(command));
+    put(&mut text, &format!("\n{}\n", command.more));
+    if command.flags.iter().any(|flag| flag.name == "--schedule") {
+        put(&mut text, &format!("{}\n", schedules()));
+    }
+    put(&mut text, &format!("{FORM}\n{STATUS}"));
+    text
+}
+
+pub fn usage(command: &Command) -> String {
+    let arguments = arguments(command);
+    format!("Usage: kurvneist {} {arguments} [OPTIONS]\n", command.name)
+}
+
+fn arguments(command: &Command) -> String {
+    let names: Vec<&str> = command.arguments.iter().map(|(name, _)| *name).collect();
+    names.join(" ")
+}
+
+fn options(command: &Command) -> String {
+    let mut text = String::new();
+    for flag in command.flags {
+        let written = format!("{} {}", flag.name, flag.value.unwrap_or(""));
+        put(&mut text, &format!("  {written:<18}{}\n", flag.help));
+    }
+    text
+}
+
+fn schedules() -> String {
+    format!("Forms of a schedule\n{}\n", schedule::FORMS)
+}
+
+fn put(text: &mut String, more: &str) {
+    write!(text, "{more}").expect("a string takes any text");
+}

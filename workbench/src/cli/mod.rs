@@ -1,0 +1,108 @@
+//! The program: commands, their options and help from one table.
+
+mod commands;
+mod files;
+pub mod help;
+pub mod options;
+
+use std::process::ExitCode;
+
+use options::{Command, Parsed};
+
+/// What the program's exit status tells.
+#[derive(Clone, Copy, Debug, PartialEq, Eq)]
+pub enum Status {
+    Done = 0,
+    /// A line was refused, mistyped, or its run didn't finish.
+    NotPosted = 1,
+    /// The command line is wrong.
+    Usage = 2,
+    /// A book is mistaken or refused, or a file can't be used.
+    Input = 3,
+    /// A trace differs from the engine.
+    Difference = 4,
+}
+
+/// Why a command stopped: its status and what is told on standard error.
+#[derive(Debug)]
+pub struct Stop {
+    pub status: Status,
+    pub message: String,
+}
+
+impl Stop {
+    pub fn new(status: Status, message: impl Into<String>) -> Stop {
+        Stop {
+            status,
+            message: message.into(),
+        }
+    }
+}
+
+pub fn main(arguments: Vec<String>) -> ExitCode {
+    let status = match run(&arguments) {
+        Ok(status) => status,
+        Err(stop) => {
+            eprintln!("{}", stop.message.trim_end());
+            stop.status
+        }
+    };
+    ExitCode::from(status as u8)
+}
+
+fn run(arguments: &[String]) -> Result<Status, Stop> {
+    let (first, rest) = match arguments.split_first() {
+        None => return print(&help::general()),
+        Some((first, rest)) => (first.as_str(), rest),
+    };
+    match first {
+        "help" | "--help" | "-h" => match rest.first() {
+            None => print(&help::general()),
+            Some(name) => print(&help::of(command(name)?)),
+        },
+        "--version" | "-V" => print(concat!("kurvneist ", env!("CARGO_PKG_VERSION"), "\n")),
+        _ => run_command(command(first)?, rest),
+    }
+}
+
+fn run_command(command: &Command, rest: &[String]) -> Result<Status, Stop> {
+    let mut options = rest.iter().take_while(|word| *word != "--");
+    if options.any(|word| word == "--help" || word == "-h") {
+        return print(&help::of(command));
+    }
+    let parsed = Parsed::read(command, rest).map_err(|wrong| {
+        let message = format!(
+            "kurvneist {}: {wrong}\n{}",
+            command.name,
+            help::usage(command)
+        );
+        Stop::new(Status::Usage, message)
+    })?;
+    let run = match command.name {
+        "book" => commands::book,
+        "text" => commands::text,
+        "post" => commands::post,
+        "trace" => commands::trace,
+        _ => commands::batch,
+    };
+    run(&parsed)
+}
+
+fn command(name: &str) -> Result<&'static Command, Stop> {
+    let found = options::COMMANDS
+        .iter()
+        .find(|command| command.name == name);
+    found.ok_or_else(|| {
+        let names: Vec<&str> = options::COMMANDS.iter().map(|known| known.name).collect();
+        let message = format!(
+            "kurvneist: '{name}' is no command; expected {} or help",
+            names.join(", ")
+        );
+        Stop::new(Status::Usage, message)
+    })
+}
+
+fn print(text: &str) -> Result<Status, Stop> {
+    files::print(text.as_bytes())?;
+    Ok(Status::Done)
+}

@@ -1,0 +1,241 @@
+//! The commands with their arguments and options, and the reading of a
+//! command line by them.
+
+use std::collections::HashMap;
+
+use crate::schedule;
+
+pub struct Flag {
+    pub name: &'static str,
+    /// What its value is called, or `None` if it has none.
+    pub value: Option<&'static str>,
+    pub help: &'static str,
+}
+
+pub struct Command {
+    pub name: &'static str,
+    pub about: &'static str,
+    /// Names of its arguments, and what they are.
+    pub arguments: &'static [(&'static str, &'static str)],
+    pub flags: &'static [Flag],
+    /// What else its help says.
+    pub more: &'static str,
+}
+
+const fn flag(name: &'static str, value: Option<&'static str>, help: &'static str) -> Flag {
+    Flag { name, value, help }
+}
+
+const PACKED: Flag = flag("--packed", None, "BOOK is a packed book and not a text");
+const NAMES: Flag = flag(
+    "--names",
+    Some("TEXT"),
+    "take the operators' names from this text (with --packed)",
+);
+const UNITS: Flag = flag("--units", Some("U"), "so many units, 1 to 8 (default 1)");
+const BUDGET: Flag = flag(
+    "--budget",
+    Some("N"),
+    "at most so many rewrites, up to 4294967295 (default 1000000)",
+);
+const SCHEDULE: Flag = flag(
+    "--schedule",
+    Some("FORM"),
+    "which unit acts when (default round-robin:32768)",
+);
+const OUTPUT: Flag = flag(
+    "-o",
+    Some("FILE"),
+    "write to this file (default -, standard output)",
+);
+
+const BOOK: (&str, &str) = ("BOOK", "a book in text form, or packed with --packed");
+
+pub const COMMANDS: &[Command] = &[
+    Command {
+        name: "book",
+        about: "turn a text into a packed book, or check a text",
+        arguments: &[("TEXT", "a book in text form; - is standard input")],
+        flags: &[flag(
+            "-o",
+            Some("FILE"),
+            "write the packed book to this file (default: only check)",
+        )],
+        more: super::help::BOOK,
+    },
+    Command {
+        name: "text",
+        about: "turn a packed book into a text",
+        arguments: &[("BOOK", "a packed book; - is standard input")],
+        flags: &[
+            flag(
+                "--names",
+                Some("TEXT"),
+                "take the operators' names from this text (default f0, f1, ..)",
+            ),
+            OUTPUT,
+        ],
+        more: super::help::TEXT,
+    },
+    Command {
+        name: "post",
+        about: "reduce one line and show its posting",
+        arguments: &[BOOK, ("LINE", "a term by the operators' names")],
+        flags: &[UNITS, BUDGET, SCHEDULE, PACKED, NAMES],
+        more: super::help::POST,
+    },
+    Command {
+        name: "trace",
+        about: "show a run entry by entry, as text and as a picture",
+        arguments: &[BOOK, ("LINE", "a term by the operators' names")],
+        flags: &[
+            flag(
+                "--svg",
+                Some("FILE"),
+                "write the units over time as a picture",
+            ),
+            flag("--no-text", None, "don't write the entries as text"),
+            flag(
+                "--width",
+                Some("N"),
+                "room for the present term; 0 for all of it (default 100)",
+            ),
+            flag(
+                "--check",
+                Some("N"),
+                "compare with the engine after every Nth entry (default 1)",
+            ),
+            OUTPUT,
+            UNITS,
+            BUDGET,
+            SCHEDULE,
+            PACKED,
+            NAMES,
+        ],
+        more: super::help::TRACE,
+    },
+    Command {
+        name: "batch",
+        about: "reduce many lines, each to a line of output",
+        arguments: &[
+            BOOK,
+            (
+                "LINES",
+                "a file with a term on each line; - is standard input",
+            ),
+        ],
+        flags: &[
+            OUTPUT,
+            flag(
+                "--counts",
+                None,
+                "say each run's counts, as a comment behind the posting",
+            ),
+            flag("--latin1", None, "LINES is ISO 8859-1 and not UTF-8"),
+            flag("--quiet", None, "no progress bar and no summary"),
+            UNITS,
+            BUDGET,
+            SCHEDULE,
+            PACKED,
+            NAMES,
+        ],
+        more: super::help::BATCH,
+    },
+];
+
+/// A command line that fits its command.
+pub struct Parsed {
+    pub arguments: Vec<String>,
+    values: HashMap<&'static str, String>,
+}
+
+impl Parsed {
+    pub fn read(command: &Command, words: &[String]) -> Result<Parsed, String> {
+        let mut parsed = Parsed {
+            arguments: Vec::new(),
+            values: HashMap::new(),
+        };
+        let mut words = words.iter();
+        while let Some(word) = words.next() {
+            match word.strip_prefix('-') {
+                Some("-") => parsed.arguments.extend(words.by_ref().cloned()),
+                Some(rest) if !rest.is_empty() => parsed.option(command, word, &mut words)?,
+                _ => parsed.arguments.push(word.clone()),
+            }
+        }
+        let due = command.arguments.len();
+        match parsed.arguments.get(due) {
+            Some(extra) => Err(format!("'{extra}' is one argument too many")),
+            None if parsed.arguments.len() < due => {
+                let missing = command.arguments[parsed.arguments.len()].0;
+                Err(format!("{missing} is missing"))
+            }
+            None => Ok(parsed),
+        }
+    }
+
+    /// `--name VALUE` or `--name=VALUE`.
+    fn option(
+        &mut self,
+        command: &Command,
+        word: &str,
+        words: &mut std::slice::Iter<String>,
+    ) -> Result<(), String> {
+        let (name, attached) = match word.split_once('=') {
+            Some((name, value)) => (name, Some(value.to_owned())),
+            None => (word, None),
+        };
+        let Some(flag) = command.flags.iter().find(|flag| flag.name == name) else {
+            return Err(format!("'{name}' is no option of this command"));
+        };
+        let value = match (flag.value, attached) {
+            (None, None) => String::new(),
+            (None, Some(_)) => return Err(format!("{name} has no value")),
+            (Some(_), Some(value)) => value,
+            (Some(what), None) => words
+                .next()
+                .cloned()
+                .ok_or_else(|| format!("{name} lacks its {what}"))?,
+        };
+        match self.values.insert(flag.name, value) {
+            Some(_) => Err(format!("{name} is given twice")),
+            None => Ok(()),
+        }
+    }
+
+    pub fn has(&self, name: &str) -> bool {
+        self.values.contains_key(name)
+    }
+
+    pub fn value(&self, name: &str) -> Option<&str> {
+        self.values.get(name).map(String::as_str)
+    }
+
+    pub fn number(&self, name: &str, least: u32, default: u32) -> Result<u32, String> {
+        let Some(written) = self.value(name) else {
+            return Ok(default);
+        };
+        match written.parse() {
+            Ok(number) if number >= least => Ok(number),
+            _ => Err(format!(
+                "{name} {written}: expected a number from {least} to {}",
+                u32::MAX
+            )),
+        }
+    }
+
+    pub fn units(&self) -> Result<u8, String> {
+        match self.value("--units").unwrap_or("1").parse() {
+            Ok(units @ 1..=8) => Ok(units),
+            _ => Err(format!(
+                "--units {}: expected a number of units from 1 to 8 (refusal 13)",
+                self.value("--units").unwrap_or_default()
+            )),
+        }
+    }
+
+    pub fn schedule(&self, units: u8) -> Result<Vec<u8>, String> {
+        let form = self.value("--schedule").unwrap_or("round-robin:32768");
+        schedule::read(form, units).map_err(|wrong| format!("--schedule {form}: {wrong}"))
+    }
+}

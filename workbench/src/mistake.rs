@@ -1,0 +1,102 @@
+//! Mistakes in what a person wrote, shown with line, column and a caret.
+
+use std::fmt::Write;
+
+/// Bytes `start..end` of a source.
+#[derive(Clone, Copy, Debug, PartialEq, Eq)]
+pub struct Span {
+    pub start: usize,
+    pub end: usize,
+}
+
+impl Span {
+    pub fn new(start: usize, end: usize) -> Span {
+        Span { start, end }
+    }
+}
+
+/// One mistake: what is wrong at a place, and what was expected there.
+#[derive(Clone, Debug, PartialEq, Eq)]
+pub struct Mistake {
+    pub span: Span,
+    pub wrong: String,
+    pub expected: String,
+    /// The number under which the proved reader refuses it, if it can be asked.
+    pub refusal: Option<u8>,
+}
+
+impl Mistake {
+    pub fn new(span: Span, wrong: impl Into<String>, expected: impl Into<String>) -> Mistake {
+        Mistake {
+            span,
+            wrong: wrong.into(),
+            expected: expected.into(),
+            refusal: None,
+        }
+    }
+
+    pub fn refused(self, number: u8) -> Mistake {
+        Mistake {
+            refusal: Some(number),
+            ..self
+        }
+    }
+
+    /// The message in one line, without the place.
+    pub fn message(&self) -> String {
+        let mut text = format!("{}; expected {}", self.wrong, self.expected);
+        if let Some(number) = self.refusal {
+            write!(text, " (refusal {number})").expect("a string takes any text");
+        }
+        text
+    }
+
+    /// Line and column, both from 1; columns count characters.
+    pub fn place(&self, source: &str) -> (usize, usize) {
+        place_of(source, self.span.start)
+    }
+
+    /// `NAME:LINE:COLUMN: MESSAGE`, the line itself and a caret under the place.
+    pub fn show(&self, name: &str, source: &str) -> String {
+        let (line, column) = self.place(source);
+        let written = source.lines().nth(line - 1).unwrap_or("");
+        let marked = source[self.span.start..self.span.end].chars().count();
+        let (shown, from) = window(written, column - 1);
+        let indent = column - 1 - from;
+        let carets = marked.clamp(1, (shown.chars().count() - indent).max(1));
+        let margin = line.to_string().len().max(4);
+        format!(
+            "{name}:{line}:{column}: {}\n{line:>margin$} | {shown}\n{:>margin$} | {}{}\n",
+            self.message(),
+            "",
+            " ".repeat(indent),
+            "^".repeat(carets),
+        )
+    }
+}
+
+/// Of a long line, so many characters are shown.
+const WIDEST: usize = 120;
+
+/// The characters of a line that are shown around a place, and which is first.
+fn window(line: &str, place: usize) -> (String, usize) {
+    let from = match line.chars().count() > WIDEST {
+        true => place.saturating_sub(WIDEST / 2),
+        false => 0,
+    };
+    let printable = |character: char| match character {
+        '\t' => ' ',
+        _ if character.is_control() => '\u{fffd}',
+        _ => character,
+    };
+    let shown = line.chars().skip(from).take(WIDEST).map(printable);
+    (shown.collect(), from)
+}
+
+/// The line and column of a byte.
+pub fn place_of(source: &str, offset: usize) -> (usize, usize) {
+    let before = &source[..offset];
+    let line = before.matches('\n').count() + 1;
+    let start = before.rfind('\n').map_or(0, |end| end + 1);
+    (line, before[start..].chars().count() + 1)
+}

@@ -1,0 +1,96 @@
+//! The operators' names and arities: what a packed book doesn't keep.
+
+use std::collections::HashMap;
+
+use comparison::model::Book;
+
+#[derive(Clone, Debug, Default)]
+pub struct Names {
+    operators: Vec<(String, u8)>,
+    numbers: HashMap<String, u8>,
+}
+
+impl Names {
+    /// The caller has seen to it that the name is new and a number is left.
+    pub fn add(&mut self, name: &str, arity: u8) {
+        let number = u8::try_from(self.operators.len()).expect("at most 255 operators");
+        self.numbers.insert(name.to_owned(), number);
+        self.operators.push((name.to_owned(), arity));
+    }
+
+    /// f0, f1 and so on, for a book that comes without names.
+    pub fn generated(book: &Book) -> Names {
+        let mut names = Names::default();
+        for (number, operator) in book.operators.iter().enumerate() {
+            names.add(&format!("f{number}"), operator.arity);
+        }
+        names
+    }
+
+    /// Whether these can be the names of that book's operators.
+    pub fn fit(&self, book: &Book) -> bool {
+        let arities = book.operators.iter().map(|operator| operator.arity);
+        self.operators.iter().map(|known| known.1).eq(arities)
+    }
+
+    pub fn len(&self) -> usize {
+        self.operators.len()
+    }
+
+    pub fn is_empty(&self) -> bool {
+        self.operators.is_empty()
+    }
+
+    pub fn number(&self, name: &str) -> Option<u8> {
+        self.numbers.get(name).copied()
+    }
+
+    pub fn name(&self, operator: u8) -> &str {
+        &self.operators[usize::from(operator)].0
+    }
+
+    pub fn arity(&self, operator: u8) -> usize {
+        usize::from(self.operators[usize::from(operator)].1)
+    }
+
+    /// The character that the operator is in a string, if it can stand in one.
+    pub fn character(&self, operator: u8) -> Option<char> {
+        let mut characters = self.name(operator).chars();
+        match (characters.next(), characters.next()) {
+            (Some('_'), None) if self.arity(operator) == 1 => Some(' '),
+            (Some(only), None) if self.arity(operator) == 1 => Some(only),
+            _ => None,
+        }
+    }
+
+    pub fn all(&self) -> impl Iterator<Item = &str> {
+        self.operators.iter().map(|(name, _)| name.as_str())
+    }
+}
+
+/// The known name that is nearest to a mistyped one, if any is near.
+pub fn nearest<'n>(known: impl Iterator<Item = &'n str>, mistyped: &str) -> Option<&'n str> {
+    let room = mistyped.chars().count().div_ceil(3);
+    known
+        .map(|name| (distance(name, mistyped), name))
+        .filter(|(changes, name)| *changes <= room && name.chars().count() > 1)
+        .min()
+        .map(|(_, name)| name)
+}
+
+/// Insertions, removals and replacements that lead from one name to the other;
+/// capitals are as small letters here.
+fn distance(one: &str, other: &str) -> usize {
+    let other: Vec<char> = other.to_lowercase().chars().collect();
+    let mut row: Vec<usize> = (0..=other.len()).collect();
+    for (above, character) in one.to_lowercase().chars().enumerate() {
+        let mut diagonal = row[0];
+        row[0] = above + 1;
+        for place in 0..other.len() {
+            let replaced = diagonal + usize::from(character != other[place]);
+            diagonal = row[place + 1];
+            row[place + 1] = replaced.min(diagonal + 1).min(row[place] + 1);
+        }
+    }
+    row[other.len()]
+}

@@ -1,0 +1,201 @@
+//! Statements as a book: names looked up, the layout's limits and the
+//! reader's conditions checked where a place can be told. The proved writer
+//! has the last word on the packed bytes.
+
+use comparison::draft::{Draft, OperatorDraft};
+
+use crate::mistake::{place_of, Mistake, Span};
+use crate::names::Names;
+use crate::text::lexer::is_name_character;
+use crate::text::parser::{parse, Name, Statement, Strategy};
+use crate::text::sides::{self, Meaning, Meanings};
+
+/// A book with the names that it was written with.
+#[derive(Clone, Debug)]
+pub struct Named {
+    /// The settled book, as the proved writer wrote it.
+    pub book: Vec<u8>,
+    pub names: Names,
+    /// The line of each rule in the text; none for a packed book.
+    pub rule_lines: Vec<usize>,
+}
+
+/// Reads a text; answers the book, or all mistakes in the order of the text.
+pub fn read(source: &str) -> Result<Named, Vec<Mistake>> {
+    let (statements, mut mistakes) = parse(source);
+    let mut reader = Reader::default();
+    for statement in &statements {
+        reader.declare(source, statement, &mut mistakes);
+    }
+    for statement in &statements {
+        if let Statement::Unclear(names) = statement {
+            reader.declare_unclear(names);
+        }
+    }
+    for statement in &statements {
+        if let Statement::Rule { left, right, .. } = statement {
+            match sides::rule(&mut reader.meanings, left, right) {
+                Ok(rule) => reader.draft.rules.push(rule),
+                Err(mistake) => mistakes.push(mistake),
+            }
+        }
+    }
+    if reader.operators == 0 && mistakes.is_empty() {
+        let start = Span::new(0, 0);
+        let no_operator = Mistake::new(start, "the book has no operator", "'op NAME/ARITY'");
+        mistakes.push(no_operator.refused(2));
+    }
+    if mistakes.is_empty() {
+        return reader.packed(source);
+    }
+    mistakes.sort_by_key(|mistake| mistake.span.start);
+    Err(mistakes)
+}
+
+#[derive(Default)]
+struct Reader {
+    meanings: Meanings,
+    names: Names,
+    draft: Draft,
+    operators: usize,
+    /// Where each rule begins.
+    rules: Vec<usize>,
+}
+
+impl Reader {
+    fn declare(&mut self, source: &str, statement: &Statement, mistakes: &mut Vec<Mistake>) {
+        match statement {
+            Statement::Operators {
+                names,
+                arity,
+                strategy,
+            } => {
+                let checked = match strategy {
+                    Some(given) => strategy_items(given, *arity).map(Some),
+                    None => Ok(None),
+                };
+                for name in names {
+                    let items = checked.as_ref().ok().cloned().flatten();
+                    mistakes.extend(self.operator(source, name, *arity, items).err());
+                }
+                mistakes.extend(checked.err());
+            }
+            Statement::Variables(names) => {
+                for name in names {
+                    let added = self.add_name(source, name, Meaning::Variable);
+                    mistakes.extend(added.err());
+                }
+            }
+            Statement::Rule { keyword, .. } => {
+                self.rules.push(keyword.start);
+                if self.rules.len() == 256 {
+                    let wrong = "this is the 256th rule";
+                    mistakes.push(Mistake::new(*keyword, wrong, "at most 255 rules"));
+                }
+            }
+            Statement::Unclear(_) => {}
+        }
+    }
+
+    fn operator(
+        &mut self,
+        source: &str,
+        name: &Name,
+        arity: u8,
+        strategy: Option<Vec<u8>>,
+    ) -> Result<(), Mistake> {
+        let meaning = match u8::try_from(self.operators) {
+            Ok(number) if number < 255 => Meaning::Operator { number, arity },
+            _ => Meaning::Unclear,
+        };
+        self.add_name(source, name, meaning)?;
+        if arity != 1 && !name.text.chars().all(is_name_character) {
+            let wrong = format!("'{}' can stand in strings only", name.text);
+            return Err(Mistake::new(name.span, wrong, "arity 1 for it"));
+        }
+        self.operators += 1;
+        if self.operators == 256 {
+            let wrong = "this is the 256th operator";
+            return Err(Mistake::new(name.span, wrong, "at most 255 operators"));
+        }
+        if self.operators < 256 {
+            self.names.add(&name.text, arity);
+            self.draft.operators.push(OperatorDraft { arity, strategy });
+        }
+        Ok(())
+    }
+
+    /// Only names that nothing else declares are unclear.
+    fn declare_unclear(&mut self, names: &[Name]) {
+        for name in names {
+            self.meanings
+                .entry(name.text.clone())
+                .or_insert((Meaning::Unclear, name.span));
+        }
+    }
+
+    fn add_name(&mut self, source: &str, name: &Name, meaning: Meaning) -> Result<(), Mistake> {
+        if let Some((before, first)) = self.meanings.get_mut(&name.text) {
+            *before = Meaning::Unclear;
+            let (line, _) = place_of(source, first.start);
+            let wrong = format!("'{}' is declared already on line {line}", name.text);
+            return Err(Mistake::new(name.span, wrong, "a new name"));
+        }
+        self.meanings
+            .insert(name.text.clone(), (meaning, name.span));
+        Ok(())
+    }
+
+    fn packed(self, source: &str) -> Result<Named, Vec<Mistake>> {
+        let line = |start: &usize| place_of(source, *start).0;
+        match kurvneist::written_book(&self.draft.encode()) {
+            Ok(book) => Ok(Named {
+                book,
+                names: self.names,
+                rule_lines: self.rules.iter().map(line).collect(),
+            }),
+            Err(refusal) => {
+                let wrong = format!("the book's reader refuses the book: {refusal}");
+                let mistake = Mistake::new(Span::new(0, 0), wrong, "a book that it reads");
+                Err(vec![mistake.refused(refusal.number())])
+            }
+        }
+    }
+}
+
+/// What the reader refuses by 3, and a list too long for its 5-bit length.
+fn strategy_items(given: &Strategy, arity: u8) -> Result<Vec<u8>, Mistake> {
+    let mut in_group = false;
+    for (place, &(item, span)) in given.items.iter().enumerate() {
+        if place == 31 {
+            let wrong = "the strategy has over 31 items";
+            let expected = "at most 31, counting each '{' and '}'";
+            return Err(Mistake::new(span, wrong, expected));
+        }
+        let fault = match item {
+            0 if in_group => Some(("'0' stands in a group", "arguments, then '}'".into())),
+            8 if in_group => Some(("a group opens in a group", "arguments, then '}'".into())),
+            9 if !in_group => Some(("no group is open here", "'{' before it".into())),
+            1..=7 if item > arity => Some(("there is no such argument", due_arguments(arity))),
+            _ => None,
+        };
+        if let Some((wrong, expected)) = fault {
+            return Err(Mistake::new(span, wrong, expected).refused(3));
+        }
+        in_group = item == 8 || in_group && item != 9;
+    }
+    match given.items.last() {
+        Some((item, _)) if *item != 0 => {
+            let wrong = "the strategy's last item is not '0'";
+            Err(Mistake::new(given.close, wrong, "'0' before it").refused(3))
+        }
+        _ => Ok(given.items.iter().map(|item| item.0).collect()),
+    }
+}
+
+fn due_arguments(arity: u8) -> String {
+    match arity {
+        0 => "no argument's number, the arity being 0".into(),
+        _ => format!("an argument from 1 to {arity}"),
+    }
+}

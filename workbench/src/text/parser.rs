@@ -1,0 +1,448 @@
+//! Tokens as statements. A statement with a mistake is told once, and reading
+//! goes on at the next word `op`, `var` or `rule`.
+
+use crate::mistake::{place_of, Mistake, Span};
+use crate::text::lexer::{is_loose_accent, tokens, Kind, Token};
+
+/// A name where it stands.
+#[derive(Clone, Debug)]
+pub struct Name {
+    pub text: String,
+    pub span: Span,
+}
+
+impl Name {
+    fn new(text: &str, span: Span) -> Name {
+        let text = text.to_owned();
+        Name { text, span }
+    }
+}
+
+/// A name inside a term, with what was written behind it.
+#[derive(Clone, Debug)]
+pub struct Word {
+    pub name: Name,
+    pub arguments: usize,
+    /// The number in `X:5`.
+    pub number: Option<(u8, Span)>,
+    /// It comes from a string, as one of its characters or as its `end`.
+    pub spelled: bool,
+}
+
+/// A term's names in preorder; how they nest is for the arities to say.
+pub type Words = Vec<Word>;
+
+/// A strategy's items in the book's numbers: 8 opens a group, 9 closes it.
+#[derive(Clone, Debug)]
+pub struct Strategy {
+    pub items: Vec<(u8, Span)>,
+    pub close: Span,
+}
+
+#[derive(Clone, Debug)]
+pub enum Statement {
+    Operators {
+        names: Vec<Name>,
+        arity: u8,
+        strategy: Option<Strategy>,
+    },
+    Variables(Vec<Name>),
+    /// What a mistaken declaration may have meant to declare.
+    Unclear(Vec<Name>),
+    Rule {
+        keyword: Span,
+        left: Words,
+        right: Words,
+    },
+}
+
+/// All statements that could be read, and a mistake for each that could not.
+pub fn parse(source: &str) -> (Vec<Statement>, Vec<Mistake>) {
+    let mut parser = Parser::new(source);
+    let mut statements = Vec::new();
+    let mut mistakes = Vec::new();
+    while parser.peek().kind != Kind::End {
+        let start = parser.at;
+        match parser.statement() {
+            Ok(statement) => statements.push(statement),
+            Err(mistake) => {
+                mistakes.push(mistake);
+                parser.skip_statement();
+                statements.push(parser.unclear(start));
+            }
+        }
+    }
+    (statements, mistakes)
+}
+
+/// A single term and nothing after it.
+pub fn parse_term(source: &str) -> Result<Words, Mistake> {
+    let mut parser = Parser::new(source);
+    let words = parser.term()?;
+    match parser.peek().kind {
+        Kind::End => Ok(words),
+        _ => Err(parser.unexpected("the end of the line after the term")),
+    }
+}
+
+/// An application whose parenthesis is still open.
+struct Opened {
+    word: usize,
+    parenthesis: Span,
+    arguments: usize,
+}
+
+struct Parser<'s> {
+    source: &'s str,
+    tokens: Vec<Token>,
+    at: usize,
+}
+
+impl<'s> Parser<'s> {
+    fn new(source: &'s str) -> Parser<'s> {
+        Parser {
+            source,
+            tokens: tokens(source),
+            at: 0,
+        }
+    }
+
+    fn peek(&self) -> Token {
+        self.tokens[self.at]
+    }
+
+    fn take(&mut self) -> Token {
+        let token = self.peek();
+        if token.kind != Kind::End {
+            self.at += 1;
+        }
+        token
+    }
+
+    fn take_if(&mut self, kind: Kind) -> Option<Token> {
+        (self.peek().kind == kind).then(|| self.take())
+    }
+
+    fn expect(&mut self, kind: Kind, what: &str) -> Result<Token, Mistake> {
+        self.take_if(kind).ok_or_else(|| self.unexpected(what))
+    }
+
+    fn written(&self, span: Span) -> &'s str {
+        &self.source[span.start..span.end]
+    }
+
+    fn unexpected(&self, what: &str) -> Mistake {
+        let Token { kind, span } = self.peek();
+        let (wrong, instead) = found(kind, self.written(span));
+        Mistake::new(span, wrong, instead.unwrap_or(what))
+    }
+
+    /// On the mistaken statement's own line, `op`, `var` and `rule` are taken
+    /// for names that can't be, and not for statements.
+    fn skip_statement(&mut self) {
+        let here = self.peek().span.start;
+        let before = self.at.checked_sub(1).map(|last| self.tokens[last].span);
+        if before.is_some_and(|before| !self.source[before.end..here].contains('\n')) {
+            self.take();
+        }
+        while !matches!(
+            self.peek().kind,
+            Kind::Op | Kind::Var | Kind::Rule | Kind::End
+        ) {
+            self.take();
+        }
+    }
+
+    /// All words and characters of the declaration that starts there and ends
+    /// here: their uses aren't to be told as mistakes too.
+    fn unclear(&self, start: usize) -> Statement {
+        let mut names = Vec::new();
+        if matches!(self.tokens[start].kind, Kind::Op | Kind::Var) {
+            for &Token { kind, span } in &self.tokens[start + 1..self.at] {
+                let written = self.written(span);
+                match kind {
+                    Kind::Word => names.push(Name::new(written, span)),
+                    _ => names.extend(written.chars().map(|one| Name::new(&spelled(one), span))),
+                }
+            }
+        }
+        Statement::Unclear(names)
+    }
+
+    fn statement(&mut self) -> Result<Statement, Mistake> {
+        let keyword = self.peek();
+        let (statement, next) = match keyword.kind {
+            Kind::Op => {
+                self.take();
+                let next = "a strategy in parentheses, 'op', 'var' or 'rule'";
+                (self.operators()?, next)
+            }
+            Kind::Var => {
+                self.take();
+                let names = self.names("a variable's name")?;
+                let next = "another name, 'op', 'var' or 'rule'";
+                (Statement::Variables(names), next)
+            }
+            Kind::Rule => {
+                self.take();
+                let next = "'op', 'var' or 'rule' after the rule";
+                (self.rule(keyword.span)?, next)
+            }
+            _ => return Err(self.unexpected("'op', 'var' or 'rule'")),
+        };
+        match self.peek().kind {
+            Kind::Op | Kind::Var | Kind::Rule | Kind::End => Ok(statement),
+            _ => Err(self.unexpected(next)),
+        }
+    }
+
+    fn operators(&mut self) -> Result<Statement, Mistake> {
+        let names = self.operator_names()?;
+        self.expect(Kind::Slash, "'/' and the arity, as in 'both/2'")?;
+        let (arity, _) = self.number("an arity from 0 to 7", 7)?;
+        let strategy = match self.take_if(Kind::Open) {
+            Some(_) => Some(self.strategy()?),
+            None => None,
+        };
+        Ok(Statement::Operators {
+            names,
+            arity,
+            strategy,
+        })
+    }
+
+    /// Names, and characters in quotes for use in strings.
+    fn operator_names(&mut self) -> Result<Vec<Name>, Mistake> {
+        let mut names = Vec::new();
+        loop {
+            let token = self.peek();
+            match token.kind {
+                Kind::String => names.push(self.character()?),
+                Kind::Word => names.push(self.name("an operator's name")?),
+                _ if names.is_empty() => return Err(self.unexpected("an operator's name")),
+                _ => return Ok(names),
+            }
+        }
+    }
+
+    fn character(&mut self) -> Result<Name, Mistake> {
+        let span = self.peek().span;
+        let mut inside = self.source[span.start + 1..span.end - 1].chars();
+        match (inside.next(), inside.next()) {
+            (Some(character), None) => {
+                self.take();
+                Ok(Name::new(&spelled(character), span))
+            }
+            _ => Err(self.unexpected("a single character in the quotes, or a name without quotes")),
+        }
+    }
+
+    fn names(&mut self, what: &str) -> Result<Vec<Name>, Mistake> {
+        let mut names = vec![self.name(what)?];
+        while self.peek().kind == Kind::Word {
+            names.push(self.name(what)?);
+        }
+        Ok(names)
+    }
+
+    fn name(&mut self, what: &str) -> Result<Name, Mistake> {
+        let span = self.expect(Kind::Word, what)?.span;
+        Ok(Name::new(self.written(span), span))
+    }
+
+    fn number(&mut self, what: &str, most: u8) -> Result<(u8, Span), Mistake> {
+        let token = self.peek();
+        let written = self.written(token.span);
+        let digits = written.bytes().all(|byte| byte.is_ascii_digit());
+        match written.parse::<u8>() {
+            Ok(number) if token.kind == Kind::Word && digits && number <= most => {
+                self.take();
+                Ok((number, token.span))
+            }
+            _ => Err(self.unexpected(what)),
+        }
+    }
+
+    /// Behind the opening parenthesis. That groups don't nest and the like is
+    /// checked later, where the arity is known.
+    fn strategy(&mut self) -> Result<Strategy, Mistake> {
+        let mut items = Vec::new();
+        loop {
+            let Token { kind, span } = self.peek();
+            match kind {
+                Kind::OpenGroup => items.push((8, span)),
+                Kind::CloseGroup => items.push((9, span)),
+                Kind::Close => {
+                    self.take();
+                    return Ok(Strategy { items, close: span });
+                }
+                _ => {
+                    items.push(self.number(STRATEGY_ITEM, 7)?);
+                    continue;
+                }
+            }
+            self.take();
+        }
+    }
+
+    fn rule(&mut self, keyword: Span) -> Result<Statement, Mistake> {
+        let left = self.term()?;
+        self.expect(Kind::Equals, "'=' between the sides of the rule")?;
+        let right = self.term()?;
+        Ok(Statement::Rule {
+            keyword,
+            left,
+            right,
+        })
+    }
+
+    /// The open applications are a list and not calls of this function, so
+    /// that no nesting is too deep.
+    fn term(&mut self) -> Result<Words, Mistake> {
+        let mut words = Vec::new();
+        let mut open: Vec<Opened> = Vec::new();
+        loop {
+            if !self.symbol(&mut words)? {
+                self.close(&mut words, &mut open)?;
+                if open.is_empty() {
+                    return Ok(words);
+                }
+                continue;
+            }
+            let parenthesis = self.take().span;
+            if self.peek().kind == Kind::Close {
+                return Err(self.unexpected("a term; a constant stands without parentheses"));
+            }
+            open.push(Opened {
+                word: words.len() - 1,
+                parenthesis,
+                arguments: 1,
+            });
+        }
+    }
+
+    /// Reads one symbol; answers whether its arguments follow.
+    fn symbol(&mut self, words: &mut Words) -> Result<bool, Mistake> {
+        if self.peek().kind == Kind::String {
+            return self.string(words);
+        }
+        let name = self.name("a term")?;
+        let number = match self.take_if(Kind::Colon) {
+            Some(_) => Some(self.number("a variable's number from 0 to 15", 15)?),
+            None => None,
+        };
+        words.push(Word {
+            name,
+            arguments: 0,
+            number,
+            spelled: false,
+        });
+        Ok(self.peek().kind == Kind::Open)
+    }
+
+    /// "abc" spells a(b(c(end))), and "abc"(t) spells a(b(c(t))).
+    fn string(&mut self, words: &mut Words) -> Result<bool, Mistake> {
+        let span = self.take().span;
+        let inside = Span::new(span.start + 1, span.end - 1);
+        let followed = self.peek().kind == Kind::Open;
+        for (offset, character) in self.written(inside).char_indices() {
+            let start = inside.start + offset;
+            let place = Span::new(start, start + character.len_utf8());
+            words.push(spelled_word(&spelled(character), place, 1));
+        }
+        if followed && inside.start == inside.end {
+            return Err(self.unexpected("at least one character in the string before it"));
+        }
+        if !followed {
+            let quote = Span::new(inside.end, span.end);
+            words.push(spelled_word("end", quote, 0));
+        }
+        Ok(followed)
+    }
+
+    /// An earlier place, as it is told from the token that is due.
+    fn place_from_here(&self, earlier: usize) -> String {
+        let (line, column) = place_of(self.source, earlier);
+        match place_of(self.source, self.peek().span.start).0 == line {
+            true => format!("in column {column}"),
+            false => format!("in line {line}, column {column},"),
+        }
+    }
+
+    /// After a whole part: closes what ends here, up to a comma or the end.
+    fn close(&mut self, words: &mut Words, open: &mut Vec<Opened>) -> Result<(), Mistake> {
+        while let Some(innermost) = open.last_mut() {
+            match self.peek().kind {
+                Kind::Comma => {
+                    innermost.arguments += 1;
+                    self.take();
+                    return Ok(());
+                }
+                Kind::Close => {
+                    words[innermost.word].arguments = innermost.arguments;
+                    self.take();
+                    open.pop();
+                }
+                _ => {
+                    let open = self.place_from_here(innermost.parenthesis.start);
+                    let what = format!("',' or ')': the '(' {open} is still open");
+                    return Err(self.unexpected(&what));
+                }
+            }
+        }
+        Ok(())
+    }
+}
+
+const STRATEGY_ITEM: &str = "'0' for the whole term, an argument's number, '{', '}' or ')'";
+
+fn spelled_word(text: &str, span: Span, arguments: usize) -> Word {
+    Word {
+        name: Name::new(text, span),
+        arguments,
+        number: None,
+        spelled: true,
+    }
+}
+
+/// The operator that a character of a string stands for.
+pub fn spelled(character: char) -> String {
+    match character {
+        ' ' => "_".into(),
+        _ => character.into(),
+    }
+}
+
+/// What is wrong about a token, and what is expected whatever was due there.
+fn found(kind: Kind, written: &str) -> (String, Option<&'static str>) {
+    match kind {
+        Kind::End => ("the text ends".into(), None),
+        Kind::UnclosedString => (
+            "a string isn't closed".into(),
+            Some("'\"' on the same line"),
+        ),
+        Kind::Op | Kind::Var | Kind::Rule => (format!("'{written}' begins a statement"), None),
+        Kind::Stray => stray(written.chars().next().unwrap_or(' ')),
+        _ => (format!("found '{written}'"), None),
+    }
+}
+
+fn stray(character: char) -> (String, Option<&'static str>) {
+    if is_loose_accent(character) {
+        let (wrong, expected) = loose_accent(character);
+        return (wrong, Some(expected));
+    }
+    if character.is_control() {
+        let expected = "a text; a packed book is read by 'kurvneist text' or with --packed";
+        let wrong = format!("found the byte {:02X}", u32::from(character));
+        return (wrong, Some(expected));
+    }
+    (format!("found '{character}'"), None)
+}
+
+/// Names that look the same must be the same, so accents don't stand apart.
+pub fn loose_accent(character: char) -> (String, &'static str) {
+    let code = u32::from(character);
+    let wrong = format!("an accent stands apart from its letter (U+{code:04X})");
+    (wrong, "letter and accent as one character")
+}

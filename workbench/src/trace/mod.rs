@@ -1,0 +1,344 @@
+//! A run entry by entry.
+//!
+//! The orders come from the literal lists of the model. After an entry, the
+//! model's term, counts and ending are compared with what the engine answers
+//! for the schedule cut there, so that what is shown is what the engine does.
+
+pub mod svg;
+pub mod text;
+
+use std::fmt;
+use std::rc::Rc;
+
+use comparison::model::{self, ending, Book, Machine, Order, Term};
+use kurvneist::{Ending, Engine, Refusal, Request};
+
+use crate::progress::Progress;
+
+/// What an entry did.
+#[derive(Clone, Debug, PartialEq, Eq)]
+pub enum Deed {
+    /// The unit is idle, or waits: nothing happened.
+    Nothing,
+    /// The orders that took the place of VISIT, the top one first.
+    Visit(Vec<Order>),
+    /// The unit that took the part, if one was idle.
+    Fork(Option<usize>),
+    /// The count for which the JOIN waits; 0 if it passed.
+    Join(usize),
+    Exit {
+        unit: usize,
+        count: usize,
+        woken: bool,
+    },
+    /// The rule, counted from 1, that replaced the term.
+    Rewrite(usize),
+    NoMatch,
+    /// A rule, counted from 1, that the budget or the room didn't allow.
+    Stopped(usize, Ending),
+    Sleep,
+    Bingo,
+}
+
+#[derive(Clone, Copy, Debug, PartialEq, Eq)]
+pub enum State {
+    Busy,
+    Waiting,
+    Idle,
+}
+
+#[derive(Clone, Debug)]
+pub struct Step {
+    pub unit: usize,
+    pub deed: Deed,
+    /// Where the part that the order speaks of starts in the present term.
+    pub place: Option<usize>,
+    /// The present term after the entry.
+    pub term: Rc<[u8]>,
+    /// Each unit's state after the entry.
+    pub states: Vec<State>,
+}
+
+#[derive(Clone, Debug)]
+pub struct Trace {
+    pub units: usize,
+    pub start: Rc<[u8]>,
+    pub steps: Vec<Step>,
+    pub ending: Ending,
+    pub rewrites: u64,
+    pub granted: u64,
+}
+
+#[derive(Clone, Debug)]
+pub enum Failure {
+    Refused(Refusal),
+    /// What the engine answers, and what the model has, after an entry.
+    Difference {
+        entry: usize,
+        engine: Told,
+        model: Told,
+    },
+}
+
+impl fmt::Display for Failure {
+    fn fmt(&self, f: &mut fmt::Formatter) -> fmt::Result {
+        match self {
+            Failure::Refused(refusal) => write!(f, "{refusal}"),
+            Failure::Difference {
+                entry,
+                engine,
+                model,
+            } => write!(
+                f,
+                "the trace differs from the engine after entry {entry}\n\
+                 engine: {engine}\ntrace:  {model}"
+            ),
+        }
+    }
+}
+
+/// What is compared after an entry.
+#[derive(Clone, Debug, PartialEq, Eq)]
+pub struct Told {
+    pub ending: Ending,
+    pub rewrites: u64,
+    pub entries: u64,
+    pub granted: u64,
+    pub term: Vec<u8>,
+}
+
+impl fmt::Display for Told {
+    fn fmt(&self, f: &mut fmt::Formatter) -> fmt::Result {
+        write!(
+            f,
+            "{}, rewrites {}, entries {}, granted {}, term {:?}",
+            self.ending, self.rewrites, self.entries, self.granted, self.term
+        )
+    }
+}
+
+/// Answers what a run ends with, as the engine does.
+pub type Answering<'a> = dyn FnMut(&Request) -> Result<Told, Refusal> + 'a;
+
+/// Traces a run, comparing it with the engine after every `stride`th entry
+/// and at its end. The engine's refusal, if any, comes first.
+pub fn run(request: &Request, stride: usize, progress: &mut Progress) -> Result<Trace, Failure> {
+    let mut engine = Engine::new();
+    let mut answering = |asked: &Request| {
+        let posting = engine.post(asked)?;
+        Ok(Told {
+            ending: posting.answer.ending,
+            rewrites: posting.answer.rewrites.into(),
+            entries: posting.answer.entries,
+            granted: posting.answer.granted,
+            term: posting.term.to_vec(),
+        })
+    };
+    run_against(&mut answering, request, stride, progress)
+}
+
+/// The same against anything that answers as an engine should.
+pub fn run_against(
+    engine: &mut Answering,
+    request: &Request,
+    stride: usize,
+    progress: &mut Progress,
+) -> Result<Trace, Failure> {
+    engine(request).map_err(Failure::Refused)?;
+    let book = model::read_book(request.book).expect("the engine has read the book");
+    let line = model::read_line(&book, request.line).expect("the engine has read the line");
+    let mut machine = Machine::new(&book, line, request.units, request.budget);
+    let mut trace = Trace::new(&machine);
+    compare(engine, request, &machine, None)?;
+    for (entry, &unit) in (1..).zip(request.schedule) {
+        let (step, ended) = step(&mut machine, unit.into(), trace.term());
+        trace.steps.push(step);
+        if entry % stride == 0 || ended.is_some() || entry == request.schedule.len() {
+            compare(engine, request, &machine, ended)?;
+        }
+        progress.tell(entry, request.schedule.len(), " entries");
+        if let Some(ending) = ended {
+            trace.ending = ending;
+            break;
+        }
+    }
+    progress.clear();
+    trace.rewrites = machine.rewrites;
+    trace.granted = machine.granted;
+    Ok(trace)
+}
+
+/// The engine asked again, with the schedule cut where the model stands.
+fn compare(
+    engine: &mut Answering,
+    request: &Request,
+    machine: &Machine,
+    ended: Option<Ending>,
+) -> Result<(), Failure> {
+    let entry = machine.entries as usize;
+    let cut = Request {
+        schedule: &request.schedule[..entry],
+        ..*request
+    };
+    let engine = engine(&cut).map_err(Failure::Refused)?;
+    let model = Told {
+        ending: ended.unwrap_or(Ending::Cut),
+        rewrites: machine.rewrites,
+        entries: machine.entries,
+        granted: machine.granted,
+        term: machine.term.preorder(),
+    };
+    match engine == model {
+        true => Ok(()),
+        false => Err(Failure::Difference {
+            entry,
+            engine,
+            model,
+        }),
+    }
+}
+
+impl Trace {
+    fn new(machine: &Machine) -> Trace {
+        Trace {
+            units: machine.units.len(),
+            start: machine.term.preorder().into(),
+            steps: Vec::new(),
+            ending: Ending::Cut,
+            rewrites: 0,
+            granted: 0,
+        }
+    }
+
+    /// The present term at the end.
+    pub fn term(&self) -> &Rc<[u8]> {
+        self.steps.last().map_or(&self.start, |step| &step.term)
+    }
+}
+
+fn step(machine: &mut Machine, unit: usize, before: &Rc<[u8]>) -> (Step, Option<Ending>) {
+    let watch = Watch::new(machine, unit);
+    let ended = machine.entry(unit).map(shown_ending);
+    let deed = watch.deed(machine, ended);
+    let term = match deed {
+        Deed::Rewrite(_) => machine.term.preorder().into(),
+        _ => before.clone(),
+    };
+    let place = watch.place(machine);
+    let states = states(machine);
+    let step = Step {
+        unit,
+        deed,
+        place,
+        term,
+        states,
+    };
+    (step, ended)
+}
+
+fn shown_ending(number: u8) -> Ending {
+    match number {
+        ending::FINISHED => Ending::Finished,
+        ending::SPENT => Ending::Spent,
+        ending::FULL => Ending::Full,
+        _ => Ending::Cut,
+    }
+}
+
+fn states(machine: &Machine) -> Vec<State> {
+    let state = |unit: &model::Unit| match (unit.busy, unit.orders.last()) {
+        (true, _) => State::Busy,
+        (false, Some(Order::Join { .. })) => State::Waiting,
+        (false, _) => State::Idle,
+    };
+    machine.units.iter().map(state).collect()
+}
+
+/// What stands before an entry, to tell by it what the entry did.
+struct Watch {
+    unit: usize,
+    /// `None` if the unit is idle.
+    order: Option<Order>,
+    /// How many orders lie under it.
+    below: usize,
+    busy: Vec<bool>,
+    /// The rule, counted from 1, that matches the part of a WHOLE.
+    rule: Option<usize>,
+}
+
+impl Watch {
+    fn new(machine: &Machine, unit: usize) -> Watch {
+        let acting = &machine.units[unit];
+        let order = acting.orders.last().filter(|_| acting.busy).cloned();
+        let rule = match &order {
+            Some(Order::Whole { term, .. }) => rule_number(machine.book, &machine.term, term),
+            _ => None,
+        };
+        let busy = machine.units.iter().map(|unit| unit.busy).collect();
+        Watch {
+            unit,
+            order,
+            below: acting.orders.len() - 1,
+            busy,
+            rule,
+        }
+    }
+
+    fn deed(&self, machine: &Machine, ended: Option<Ending>) -> Deed {
+        let orders = &machine.units[self.unit].orders;
+        let woken = |unit: &usize| machine.units[*unit].busy && !self.busy[*unit];
+        match (&self.order, self.rule, ended) {
+            (None, ..) => Deed::Nothing,
+            (Some(Order::Visit(_)), ..) => {
+                Deed::Visit(orders[self.below..].iter().rev().cloned().collect())
+            }
+            (Some(Order::Fork { .. }), ..) => {
+                Deed::Fork((1..machine.units.len()).find(|unit| woken(unit)))
+            }
+            (Some(Order::Join { count }), ..) => Deed::Join(*count),
+            (Some(Order::Exit { unit, join }), ..) => Deed::Exit {
+                unit: *unit,
+                count: count_of(&machine.units[*unit].orders[*join]),
+                woken: woken(unit),
+            },
+            (Some(Order::Whole { .. }), None, _) => Deed::NoMatch,
+            (Some(Order::Whole { .. }), Some(rule), None) => Deed::Rewrite(rule),
+            (Some(Order::Whole { .. }), Some(rule), Some(ending)) => Deed::Stopped(rule, ending),
+            (Some(Order::Sleep), ..) => Deed::Sleep,
+            (Some(Order::Bingo), ..) => Deed::Bingo,
+        }
+    }
+
+    fn place(&self, machine: &Machine) -> Option<usize> {
+        match self.order.as_ref()? {
+            Order::Visit(part) | Order::Fork { argument: part, .. } => {
+                Some(offset(&machine.term, part))
+            }
+            Order::Whole { term, .. } => Some(offset(&machine.term, term)),
+            _ => None,
+        }
+    }
+}
+
+fn rule_number(book: &Book, term: &Term, at: &[u8]) -> Option<usize> {
+    let (found, _) = book.first_match(term.part(at)?)?;
+    let place = book.rules.iter().position(|rule| std::ptr::eq(rule, found));
+    place.map(|place| place + 1)
+}
+
+fn count_of(order: &Order) -> usize {
+    match order {
+        Order::Join { count } => *count,
+        other => panic!("{other:?} stands where a JOIN was placed"),
+    }
+}
+
+/// Where a part starts in preorder.
+fn offset(term: &Term, at: &[u8]) -> usize {
+    let Some((&argument, rest)) = at.split_first() else {
+        return 0;
+    };
+    let before = usize::from(argument) - 1;
+    let skipped: usize = term.arguments[..before].iter().map(Term::size).sum();
+    1 + skipped + offset(&term.arguments[before], rest)
+}

@@ -1,0 +1,234 @@
+//! Traces against the engine on random cases, and what they show.
+
+mod common;
+
+use common::{file, kurvneist};
+use comparison::random::{case, Random};
+use kurvneist::{Ending, Request};
+use workbench::line;
+use workbench::names::Names;
+use workbench::progress::Progress;
+use workbench::text::check::{self, Named};
+use workbench::trace::{self, Deed, Failure, State, Told, Trace};
+
+const CASES: u64 = 400;
+/// The comparison's cost grows with the square of the entries.
+const ENTRIES: usize = 300;
+
+/// The runs of random cases that aren't refused, with their books.
+fn runs(mut with: impl FnMut(&Named, &Request, Trace)) {
+    for number in 0..CASES {
+        let case = case(&mut Random::for_case(31, number));
+        let Ok(book) = kurvneist::written_book(&case.book()) else {
+            continue;
+        };
+        let read = comparison::model::read_book(&book).unwrap();
+        let named = Named {
+            names: Names::generated(&read),
+            book,
+            rule_lines: Vec::new(),
+        };
+        let schedule = &case.schedule[..case.schedule.len().min(ENTRIES)];
+        let request = Request {
+            book: &named.book,
+            line: &case.line,
+            units: case.units,
+            budget: case.budget,
+            schedule,
+        };
+        match trace::run(&request, 1, &mut Progress::hidden()) {
+            Ok(trace) => with(&named, &request, trace),
+            Err(Failure::Refused(_)) => {}
+            Err(difference) => panic!("case {number}: {difference}"),
+        }
+    }
+}
+
+fn count(trace: &Trace, deed: impl Fn(&Deed) -> bool) -> u64 {
+    trace.steps.iter().filter(|step| deed(&step.deed)).count() as u64
+}
+
+#[test]
+fn traces_equal_the_engine_and_count_what_it_counts() {
+    let (mut traced, mut endings, mut granted) = (0, [0; 4], 0);
+    runs(|named, request, trace| {
+        traced += 1;
+        endings[trace.ending as usize] += 1;
+        granted += trace.granted;
+        let rewrites = count(&trace, |deed| matches!(deed, Deed::Rewrite(_)));
+        assert_eq!(rewrites, trace.rewrites);
+        let grants = count(&trace, |deed| matches!(deed, Deed::Fork(Some(_))));
+        assert_eq!(grants, trace.granted);
+        assert!(trace.steps.len() <= request.schedule.len());
+        states_fit(&trace);
+        pictured(named, &trace);
+    });
+    assert!(traced > 200 && granted > 200, "{traced} {granted}");
+    assert!(endings.iter().all(|number| *number > 0), "{endings:?}");
+}
+
+/// A unit acts exactly if it was busy, waits exactly after a JOIN that didn't
+/// pass, and goes idle by SLEEP alone.
+fn states_fit(trace: &Trace) {
+    let mut before = vec![State::Idle; trace.units];
+    before[0] = State::Busy;
+    for step in &trace.steps {
+        let (was, is) = (before[step.unit], step.states[step.unit]);
+        assert_eq!(step.deed == Deed::Nothing, was != State::Busy);
+        match step.deed {
+            Deed::Nothing => assert_eq!(was, is),
+            Deed::Join(1..) => assert_eq!(is, State::Waiting),
+            Deed::Sleep => assert_eq!(is, State::Idle),
+            _ => assert_eq!(is, State::Busy),
+        }
+        before.clone_from(&step.states);
+    }
+}
+
+/// Each entry has a row of text; the picture is well formed, with an arrow for
+/// each granted FORK and each EXIT.
+fn pictured(named: &Named, trace: &Trace) {
+    let text = trace::text::show(trace, named, 80);
+    assert_eq!(text.lines().count(), trace.steps.len() + 4);
+    let picture = trace::svg::draw(trace, "a < b & c", &[]);
+    well_formed(&picture);
+    let arrows = |class: &str| picture.matches(&format!("url(#{class})")).count() as u64;
+    // One more of each is in the legend.
+    assert_eq!(arrows("fork"), trace.granted + 1);
+    let exits = count(trace, |deed| matches!(deed, Deed::Exit { .. }));
+    assert_eq!(arrows("exit"), exits + 1);
+}
+
+/// Every element that opens closes, in order.
+fn well_formed(picture: &str) {
+    let mut open = Vec::new();
+    for piece in picture.split('<').skip(1) {
+        let (tag, text) = piece.split_once('>').unwrap();
+        assert!(!text.contains('>') && !text.replace("&lt;", "").contains("& "));
+        if let Some(name) = tag.strip_prefix('/') {
+            assert_eq!(open.pop(), Some(name));
+        } else if !tag.ends_with('/') {
+            open.push(tag.split(' ').next().unwrap());
+        }
+    }
+    assert!(open.is_empty());
+}
+
+/// An engine that is wrong somewhere is told, with the entry.
+#[test]
+fn a_difference_stops_the_trace() {
+    let named = check::read(&std::fs::read_to_string("examples/ticks.book").unwrap()).unwrap();
+    let line = line::read("both(tick(end), tick(end))", &named.names).unwrap();
+    let request = Request {
+        book: &named.book,
+        line: &line,
+        units: 2,
+        budget: 9,
+        schedule: &[0, 1].repeat(40),
+    };
+    let lies: [fn(&mut Told); 5] = [
+        |told| told.term[0] = 0,
+        |told| told.rewrites += 1,
+        |told| told.granted = 0,
+        |told| told.entries -= 1,
+        |told| told.ending = Ending::Finished,
+    ];
+    for lie in lies {
+        let mut lying = |asked: &Request| {
+            let mut told = honest(asked);
+            if asked.schedule.len() == 17 {
+                lie(&mut told);
+            }
+            Ok(told)
+        };
+        let failure = trace::run_against(&mut lying, &request, 1, &mut Progress::hidden());
+        let told = failure.unwrap_err().to_string();
+        let first = "the trace differs from the engine after entry 17\nengine: ";
+        assert!(told.starts_with(first), "{told}");
+        // A comparison at the end alone doesn't meet this lie.
+        assert!(trace::run_against(&mut lying, &request, 1000, &mut Progress::hidden()).is_ok());
+    }
+}
+
+fn honest(asked: &Request) -> Told {
+    let mut engine = kurvneist::Engine::new();
+    let posting = engine.post(asked).unwrap();
+    Told {
+        ending: posting.answer.ending,
+        rewrites: posting.answer.rewrites.into(),
+        entries: posting.answer.entries,
+        granted: posting.answer.granted,
+        term: posting.term.to_vec(),
+    }
+}
+
+/// The starred two-unit case of document 01: after 13 entries in turn the JOIN
+/// has just passed.
+#[test]
+fn the_trace_of_document_01() {
+    let ran = kurvneist(&[
+        "trace",
+        "examples/ticks.book",
+        "both(tick(end), tick(end))",
+        "--units",
+        "2",
+        "--schedule",
+        "round-robin:13",
+    ]);
+    assert_eq!(ran.status, 1);
+    let rows: Vec<&str> = ran.output.lines().collect();
+    let first = "    1     0  VISIT  gives FORK 1, VISIT 2, JOIN of 1, WHOLE        \
+                 [both(tick(end), tick(end))]";
+    assert_eq!(rows[2], first);
+    let third = "    3     0  FORK   unit 1 takes this part                         \
+                 both([tick(end)], tick(end))";
+    assert_eq!(rows[4], third);
+    let last = "   13     0  JOIN   passes                                         \
+                both(tick(end), tick(end))";
+    assert_eq!(rows[14], last);
+    assert_eq!(rows[16], "cut: rewrites 0, entries 13, FORKs granted 1");
+}
+
+#[test]
+fn the_picture_is_written_to_its_file() {
+    let picture = file("ticks.svg", "");
+    let line = "both(tick(end), tick(end))";
+    let ran = kurvneist(&[
+        "trace",
+        "examples/ticks.book",
+        line,
+        "--units=2",
+        "--no-text",
+        "--svg",
+        &picture,
+    ]);
+    assert_eq!(
+        (ran.status, ran.output.as_str(), ran.errors.as_str()),
+        (0, "", "")
+    );
+    let picture = std::fs::read_to_string(picture).unwrap();
+    well_formed(&picture);
+    assert!(picture.contains(line));
+    assert!(picture.contains("unit 0") && picture.contains("unit 1"));
+    assert!(picture.contains("entry 3, unit 0: FORK unit 1 takes this part"));
+}
+
+#[test]
+fn long_terms_are_cut_around_the_orders_part() {
+    let last_term = |width: &str| {
+        let ran = kurvneist(&[
+            "trace",
+            "examples/ticks.book",
+            "both(both(end, end), both(both(end, tick(end)), end))",
+            "--schedule=0*14",
+            "--width",
+            width,
+        ]);
+        ran.output.lines().nth(15).unwrap()[67..].to_owned()
+    };
+    assert_eq!(
+        last_term("0"),
+        "both(end, both([both(end, tick(end))], end))"
+    );
+    assert_eq!(last_term("24"), "…d, both([both(end, tick(…");
+}
