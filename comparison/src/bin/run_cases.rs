@@ -1,0 +1,733 @@
+//! Makes the cases of the program `run_cases` and what it is to print: the files `stdin` and `stdout` of a folder.
+//!
+//! A case is a head of 16 bytes (name length, 2 bytes book length, 2 bytes line length, units, 4 bytes budget, 2 bytes each for the lengths of
+//! schedule, work area and output), the name, the book, the line and the schedule. Both buffers are lent full of a byte that shows where they
+//! were written.
+//!
+//! With a seed and a count the files hold so many random cases, of any size, and no others.
+
+use std::collections::HashSet;
+use std::path::Path;
+use std::{env, fs, io};
+
+use comparison::broken::{BrokenModel, Slip};
+use comparison::draft::{Draft, OperatorDraft, RuleDraft, Symbol};
+use comparison::model::{self, Answer, OUTPUT_LEN, SIDE_LIMIT, TERM_LIMIT};
+use comparison::random::{self, Random};
+use comparison::subject::{Question, Subject, Told, MODEL_PUBLISHED};
+
+/// The engine's published length of the work area.
+const PUBLISHED: usize = 24_624;
+const SEED: u64 = 3;
+const RANDOM_CASES: usize = 40;
+/// Longer books and lines are passed over, and longer schedules, so that the files stay small.
+const LONGEST: usize = 200;
+const LONGEST_SCHEDULE: usize = 600;
+
+#[derive(Clone)]
+struct Case {
+    name: String,
+    book: Vec<u8>,
+    line: Vec<u8>,
+    units: u8,
+    budget: u32,
+    schedule: Vec<u8>,
+    work: usize,
+    output: usize,
+}
+
+fn main() -> io::Result<()> {
+    let words: Vec<String> = env::args().skip(1).collect();
+    let numbers: Vec<u64> = words.iter().skip(1).flat_map(|word| word.parse()).collect();
+    let cases: Vec<Case> = match (&words[..], &numbers[..]) {
+        ([_], []) => {
+            let cases = [picked_cases(), short_random_cases().collect()].concat();
+            check(&cases);
+            cases
+        }
+        ([_, _, _], [seed, count]) => (0..*count)
+            .map(|number| random_case(*seed, number))
+            .collect(),
+        _ => panic!("usage: run_cases FOLDER [SEED COUNT]"),
+    };
+    let folder = Path::new(&words[0]);
+    fs::write(
+        folder.join("stdin"),
+        cases.iter().flat_map(input).collect::<Vec<u8>>(),
+    )?;
+    fs::write(
+        folder.join("stdout"),
+        cases.iter().map(line).collect::<String>(),
+    )
+}
+
+fn input(case: &Case) -> Vec<u8> {
+    let short = |number: usize| {
+        u16::try_from(number)
+            .expect("cases are small")
+            .to_be_bytes()
+    };
+    let name = u8::try_from(case.name.len()).expect("names are short");
+    [
+        &[name][..],
+        &short(case.book.len()),
+        &short(case.line.len()),
+        &[case.units],
+        &case.budget.to_be_bytes(),
+        &short(case.schedule.len()),
+        &short(case.work),
+        &short(case.output),
+        case.name.as_bytes(),
+        &case.book,
+        &case.line,
+        &case.schedule,
+    ]
+    .concat()
+}
+
+fn line(case: &Case) -> String {
+    let answer = match answer(case) {
+        Err(number) => format!("refused {number} work kept"),
+        Ok(answer) => format!(
+            "end {} rewrites {} entries {} granted {} term {} work zero",
+            answer.ending,
+            answer.rewrites,
+            answer.entries,
+            answer.granted,
+            hexadecimal(&answer.term),
+        ),
+    };
+    format!("{}: {answer} output kept\n", case.name)
+}
+
+fn answer(case: &Case) -> Result<Answer, u8> {
+    model::answer(
+        &case.book,
+        &case.line,
+        case.units,
+        case.budget,
+        &case.schedule,
+        case.work,
+        case.output,
+        PUBLISHED,
+    )
+}
+
+fn hexadecimal(bytes: &[u8]) -> String {
+    bytes.iter().map(|byte| format!("{byte:02x}")).collect()
+}
+
+// ---------------------------------------------------------------------------
+// What the cases must meet
+
+fn check(cases: &[Case]) {
+    let names: HashSet<&str> = cases.iter().map(|case| &case.name[..]).collect();
+    assert_eq!(names.len(), cases.len(), "a name stands twice");
+    for number in 1..=16 {
+        let is_due = |case: &Case| answer(case).err() == Some(number);
+        assert!(cases.iter().any(is_due), "no case is refused by {number}");
+    }
+    for ending in 0..=3 {
+        let is_due = |case: &Case| answer(case).is_ok_and(|answer| answer.ending == ending);
+        assert!(cases.iter().any(is_due), "no case ends with {ending}");
+    }
+    for slip in [
+        Slip::Join,
+        Slip::List,
+        Slip::Zeros,
+        Slip::Longest,
+        Slip::Copies,
+        Slip::Order,
+        Slip::Padding,
+    ] {
+        let shows = |case: &Case| shows(case, slip);
+        assert!(picked_cases().iter().any(shows), "no case shows {slip:?}");
+    }
+}
+
+/// Does a slip change the case's answer or term?
+fn shows(case: &Case, slip: Slip) -> bool {
+    let question = Question {
+        book: &case.book,
+        line: &case.line,
+        units: case.units,
+        budget: case.budget,
+        schedule: &case.schedule,
+    };
+    let mut work = vec![0; MODEL_PUBLISHED];
+    let mut output = vec![0; case.output];
+    let told = BrokenModel { slip }.answer(&question, &mut work, &mut output);
+    match answer(case) {
+        Ok(answer) => told != Told::answered(&answer) || !output.starts_with(&answer.term),
+        // The work area lent here is never too short.
+        Err(model::refusal::WORK_AREA) => false,
+        Err(number) => told != Told::refused(number),
+    }
+}
+
+// ---------------------------------------------------------------------------
+// Cases picked by hand
+
+fn picked_cases() -> Vec<Case> {
+    [
+        document_cases(),
+        frame_cases(),
+        book_refusals(),
+        line_refusals(),
+        order_of_checks(),
+        ending_cases(),
+        full_cases(),
+        strategy_cases(),
+        group_cases(),
+        vec![
+            last_unit("1024 symbols, mostly unit 7's", 4060),
+            last_unit("1024 symbols, mostly unit 7's, cut", 2000),
+        ],
+        slip_cases(),
+    ]
+    .concat()
+}
+
+/// The document's line with U = 1, budget 9 and 29 entries, by a book.
+fn case(name: &str, book: impl Into<Vec<u8>>) -> Case {
+    Case {
+        name: name.to_string(),
+        book: book.into(),
+        line: vec![2, 1, 0, 1, 0],
+        units: 1,
+        budget: 9,
+        schedule: vec![0; 29],
+        work: PUBLISHED,
+        output: OUTPUT_LEN,
+    }
+}
+
+impl Case {
+    fn line(self, line: impl Into<Vec<u8>>) -> Case {
+        let line = line.into();
+        Case { line, ..self }
+    }
+
+    fn units(self, units: u8) -> Case {
+        Case { units, ..self }
+    }
+
+    fn budget(self, budget: u32) -> Case {
+        Case { budget, ..self }
+    }
+
+    fn schedule(self, schedule: impl Into<Vec<u8>>) -> Case {
+        let schedule = schedule.into();
+        Case { schedule, ..self }
+    }
+
+    fn zeros(self, length: usize) -> Case {
+        self.schedule(vec![0; length])
+    }
+
+    /// Units 0 to U - 1 in turn.
+    fn turns(self, length: usize) -> Case {
+        let count = usize::from(self.units);
+        self.schedule(
+            (0..length)
+                .map(|place| (place % count) as u8)
+                .collect::<Vec<_>>(),
+        )
+    }
+
+    fn work(self, work: usize) -> Case {
+        Case { work, ..self }
+    }
+
+    fn output(self, output: usize) -> Case {
+        Case { output, ..self }
+    }
+}
+
+const X: Symbol = Symbol::Variable(0);
+const Y: Symbol = Symbol::Variable(1);
+
+fn op(number: u8) -> Symbol {
+    Symbol::Operator(number)
+}
+
+fn plain(arity: u8) -> OperatorDraft {
+    OperatorDraft {
+        arity,
+        strategy: None,
+    }
+}
+
+fn given(arity: u8, items: &[u8]) -> OperatorDraft {
+    OperatorDraft {
+        arity,
+        strategy: Some(items.to_vec()),
+    }
+}
+
+fn rule(left: &[Symbol], right: &[Symbol]) -> RuleDraft {
+    RuleDraft {
+        left: left.to_vec(),
+        right: right.to_vec(),
+    }
+}
+
+fn book(operators: &[OperatorDraft], rules: &[RuleDraft]) -> Vec<u8> {
+    Draft {
+        operators: operators.to_vec(),
+        rules: rules.to_vec(),
+    }
+    .encode()
+}
+
+/// `end`, `tick` and `both`, whose arguments are reduced side by side.
+fn operators_p() -> [OperatorDraft; 3] {
+    [plain(0), plain(1), given(2, &[8, 1, 2, 9, 0])]
+}
+
+fn book_p() -> Vec<u8> {
+    let (end, tick, both) = (op(0), op(1), op(2));
+    book(
+        &operators_p(),
+        &[
+            rule(&[both, end, Y], &[Y]),
+            rule(&[both, tick, X, Y], &[tick, both, X, Y]),
+        ],
+    )
+}
+
+/// P's operators with one other rule.
+fn one_rule(left: &[Symbol], right: &[Symbol]) -> Vec<u8> {
+    book(&operators_p(), &[rule(left, right)])
+}
+
+/// So many symbols, all but the last of them this operator of one argument.
+fn chain(operator: u8, length: usize) -> Vec<u8> {
+    let mut line = vec![operator; length - 1];
+    line.push(0);
+    line
+}
+
+fn side(length: usize) -> Vec<Symbol> {
+    chain(1, length).into_iter().map(op).collect()
+}
+
+fn document_cases() -> Vec<Case> {
+    let p = |name| case(name, book_p());
+    vec![
+        p("page"),
+        p("page, 28 entries").zeros(28),
+        p("page, 500 entries").zeros(500),
+        p("page, budget 1").budget(1),
+        p("page, U = 2, 100 entries of 0").units(2).zeros(100),
+        p("page, U = 2, 13 entries in turn").units(2).turns(13),
+        p("page, U = 2, 12 entries in turn").units(2).turns(12),
+        p("page, U = 2, 60 entries in turn").units(2).turns(60),
+        p("page, U = 8, 300 entries in turn").units(8).turns(300),
+        case("one constant", [1, 0, 0]).line([0]),
+        case("book 02 03 10 80 00", [2, 3, 0x10, 0x80, 0]).line([1, 0]),
+        case("book 00", [0]),
+        p("1024 symbols").line(chain(1, TERM_LIMIT)).zeros(2049),
+        p("1024 symbols, 2048 entries")
+            .line(chain(1, TERM_LIMIT))
+            .zeros(2048),
+        p("1025 symbols").line(chain(1, TERM_LIMIT + 1)),
+        case("sides of 64", one_rule(&side(64), &side(64)))
+            .line(chain(1, SIDE_LIMIT))
+            .budget(2)
+            .zeros(400),
+        case("left side of 65", one_rule(&side(65), &side(64))),
+        case("right side of 65", one_rule(&side(64), &side(65))),
+    ]
+}
+
+fn frame_cases() -> Vec<Case> {
+    let p = |name| case(name, book_p());
+    vec![
+        p("U = 0").units(0),
+        p("U = 9").units(9),
+        p("U = 255").units(255),
+        p("U = 8").units(8).schedule([0, 0, 0, 7, 7, 1, 1, 1, 0]),
+        p("work area one byte short").work(PUBLISHED - 1),
+        p("work area of no byte").work(0),
+        p("work area one byte longer").work(PUBLISHED + 1),
+        p("work area of 65535 bytes").work(65_535),
+        p("output one byte short").output(OUTPUT_LEN - 1),
+        p("output of no byte").output(0),
+        p("output one byte longer").output(OUTPUT_LEN + 1),
+        p("output of 65535 bytes").output(65_535),
+        p("both buffers longer").work(40_000).output(3000),
+    ]
+}
+
+fn book_refusals() -> Vec<Case> {
+    let strategy =
+        |name, items: &[u8]| case(name, book(&[plain(0), plain(1), given(2, items)], &[]));
+    let p = book_p();
+    let mut padded = p.clone();
+    *padded.last_mut().expect("a book has bytes") |= 1;
+    vec![
+        case("1: empty book", []),
+        case("1: book one byte short", &p[..p.len() - 1]),
+        strategy("3: item 10", &[10, 0]),
+        strategy("3: group in a group", &[8, 1, 8, 2, 9, 9, 0]),
+        strategy("3: close without open", &[1, 9, 0]),
+        strategy("3: 0 in a group", &[8, 1, 0, 9, 0]),
+        strategy("3: argument above arity", &[3, 0]),
+        strategy("3: last item not 0", &[0, 1]),
+        case("4: unknown operator", one_rule(&[op(1), op(3)], &[op(0)])),
+        case("5: left side a variable", one_rule(&[X], &[op(0)])),
+        case("6: variable twice", one_rule(&[op(2), X, X], &[X])),
+        case("7: right variable absent", one_rule(&[op(1), X], &[Y])),
+        case("8: told before 1", cut_after_64()),
+        case("9: padding bit of 1", padded),
+        case("9: further byte", [&p[..], &[0]].concat()),
+    ]
+}
+
+/// The book ends in the byte that holds the last bit of a left side's 64th symbol, where the side is still incomplete.
+fn cut_after_64() -> Vec<u8> {
+    let operators = 4 + 4 + (4 + 5 + 5 * 4);
+    let bits = 8 + operators + 8 + 64 * 9;
+    let mut book = one_rule(&side(65), &side(1));
+    book.truncate(usize::div_ceil(bits, 8));
+    book
+}
+
+fn line_refusals() -> Vec<Case> {
+    let p = |name| case(name, book_p());
+    vec![
+        p("10: empty").line([]),
+        p("10: incomplete").line([2, 1, 0]),
+        p("10: bytes left over").line([1, 0, 0]),
+        p("10: unknown operator left over").line([0, 9]),
+        p("11: operator 3").line([2, 3]),
+        p("11: before the line's end is met").line([2, 0, 255, 0]),
+        p("12: told before 11").line([255; TERM_LIMIT + 1]),
+        p("12: told before 10").line([0; 2000]),
+        p("14: entry 1").schedule([0, 0, 1]),
+        p("14: behind the end of the run").schedule([&[0; 29][..], &[1]].concat()),
+        p("14: behind a spent budget")
+            .budget(0)
+            .schedule([&[0; 29][..], &[255]].concat()),
+        p("14: first entry").units(8).schedule([8]),
+    ]
+}
+
+fn order_of_checks() -> Vec<Case> {
+    let p = |name| case(name, book_p());
+    let bad = |name| case(name, [0]);
+    vec![
+        p("13 before 15").units(0).work(0),
+        p("13 before 16").units(9).output(0),
+        bad("13 before the rest").units(9).line([]).schedule([9]),
+        p("15 before 16").work(PUBLISHED - 1).output(0),
+        bad("15 before the rest").work(0).line([]).schedule([9]),
+        bad("16 before the rest")
+            .output(OUTPUT_LEN - 1)
+            .line([])
+            .schedule([9]),
+        bad("2 before 10").line([]),
+        bad("2 before 12").line([0; TERM_LIMIT + 1]),
+        bad("2 before 14").schedule([9]),
+        p("10 before 14").line([2, 0]).schedule([9]),
+        p("11 before 14").line([7]).schedule([9]),
+        p("12 before 14").line([0; TERM_LIMIT + 1]).schedule([9]),
+    ]
+}
+
+fn ending_cases() -> Vec<Case> {
+    let p = |name| case(name, book_p());
+    vec![
+        p("no entry").zeros(0),
+        p("no entry, budget 0, U = 3").units(3).budget(0).zeros(0),
+        p("one entry").zeros(1),
+        p("one entry of an idle unit").units(2).schedule([1]),
+        p("budget 0").budget(0),
+        p("budget 0, one entry before it is spent")
+            .budget(0)
+            .zeros(11),
+        p("budget 0, nothing to rewrite").budget(0).line([1, 1, 0]),
+        p("budget 2 is enough").budget(2),
+        p("largest budget").budget(u32::MAX),
+        p("budget 3, U = 4")
+            .line([2, 2, 1, 0, 1, 0, 2, 1, 0, 1, 0])
+            .units(4)
+            .budget(3)
+            .turns(300),
+        p("only a unit that never gets work")
+            .units(3)
+            .schedule([2; 40]),
+    ]
+}
+
+/// Operators 0 end, 1 dup, 2 pair, 3 tick, 4 drop, 5 both, 6 grow: dup gives a pair of copies, drop gives end, grow never ends, and both reduces
+/// its arguments side by side.
+fn sizes_book() -> Vec<u8> {
+    book(
+        &[
+            plain(0),
+            given(1, &[0]),
+            given(2, &[0]),
+            given(1, &[0]),
+            given(1, &[0]),
+            given(2, &[8, 1, 2, 9, 0]),
+            given(1, &[0]),
+        ],
+        &[
+            rule(&[op(1), X], &[op(2), X, X]),
+            rule(&[op(4), X], &[op(0)]),
+            rule(&[op(6), X], &[op(6), op(3), X]),
+        ],
+    )
+}
+
+fn full_cases() -> Vec<Case> {
+    let sizes = |name| case(name, sizes_book());
+    let dup = |length| [vec![1], chain(3, length)].concat();
+    // 803 symbols: 1203 if the copy comes first, 403 if the drop does.
+    let either = [vec![5], dup(400), vec![4], chain(3, 400)].concat();
+    let both = |name| sizes(name).line(&either[..]).units(2);
+    vec![
+        sizes("copies up to 1023 symbols").line(dup(511)),
+        sizes("copies past the limit").line(dup(512)),
+        sizes("spent before full").line(dup(512)).budget(0),
+        sizes("grows to 1024 symbols, then full")
+            .line([6, 0])
+            .budget(u32::MAX)
+            .zeros(2100),
+        sizes("spent at 1024 symbols")
+            .line([6, 0])
+            .budget(1022)
+            .zeros(2100),
+        both("full before the other shrinks").schedule([0, 0, 0, 1, 1, 0]),
+        both("removed symbols are free for the other")
+            .schedule([0, 0, 0, 0, 1, 1, 0, 0, 1, 1, 1, 0, 0, 0]),
+        sizes("1024 symbols shrink to 1")
+            .line([vec![4], chain(3, TERM_LIMIT - 1)].concat())
+            .zeros(9),
+    ]
+}
+
+/// The same line by operators that differ in one strategy.
+fn by_strategy(name: &str, items: &[u8]) -> Case {
+    let operators = [plain(0), plain(1), given(3, items), plain(0)];
+    let rules = [
+        rule(&[op(1), op(0)], &[op(0)]),
+        rule(&[op(2), op(0), X, Y], &[op(3)]),
+    ];
+    case(name, book(&operators, &rules))
+        .line([2, 1, 0, 1, 1, 0, 1, 0])
+        .units(3)
+        .turns(120)
+}
+
+/// A constant that a rule rewrites.
+fn constant(name: &str, items: &[u8]) -> Case {
+    let operators = [given(0, items), given(1, &[0])];
+    let rules = [rule(&[op(0)], &[op(1), op(0)])];
+    case(name, book(&operators, &rules)).line([0])
+}
+
+fn strategy_cases() -> Vec<Case> {
+    vec![
+        by_strategy("strategy ()", &[]),
+        by_strategy("strategy (0)", &[0]),
+        by_strategy("strategy (1 0)", &[1, 0]),
+        by_strategy("strategy (1 0 1 0)", &[1, 0, 1, 0]),
+        by_strategy("strategy ({1 1} {} 2 0)", &[8, 1, 1, 9, 8, 9, 2, 0]),
+        by_strategy("strategy (2 {3} 0 2 0)", &[2, 8, 3, 9, 0, 2, 0]),
+        by_strategy("strategy ({2 3} 0 1 0)", &[8, 2, 3, 9, 0, 1, 0]),
+        by_strategy("strategy (0 {3 2 1} 0)", &[0, 8, 3, 2, 1, 9, 0]),
+        by_strategy(
+            "strategy ({1 2} {2 3 1} 0)",
+            &[8, 1, 2, 9, 8, 2, 3, 1, 9, 0],
+        ),
+        by_strategy("strategy (2 0 {3 1} 0)", &[2, 0, 8, 3, 1, 9, 0]),
+        by_strategy("strategy of 31 items", &[0; 31]),
+        constant("a constant is rewritten", &[0]),
+        constant("a constant with strategy ()", &[]),
+    ]
+}
+
+/// Operators 0 end, 1 of seven arguments in a group, 2 of two in a group, 3 of four in two groups, 4 tick.
+fn groups_book() -> Vec<u8> {
+    book(
+        &[
+            plain(0),
+            given(7, &[8, 1, 2, 3, 4, 5, 6, 7, 9, 0]),
+            given(2, &[8, 1, 2, 9, 0]),
+            given(4, &[8, 4, 1, 9, 0, 8, 2, 3, 9, 0]),
+            plain(1),
+        ],
+        &[
+            rule(&[op(4), op(0)], &[op(0)]),
+            rule(&[op(2), op(0), X], &[op(4), X]),
+            rule(&[op(3), op(4), X, Y, Symbol::Variable(15), op(0)], &[X]),
+        ],
+    )
+}
+
+fn groups(name: &str, line: &[u8], units: u8) -> Case {
+    case(name, groups_book())
+        .line(line)
+        .units(units)
+        .turns(700)
+        .budget(2000)
+}
+
+fn group_cases() -> Vec<Case> {
+    let wide = [vec![1], [4, 0].repeat(7)].concat();
+    let node = |left: &[u8], right: &[u8]| [&[2][..], left, right].concat();
+    let leaf = node(&[0], &[4, 0]);
+    let two = node(&leaf, &leaf);
+    let four = node(&two, &two);
+    let deep = node(&node(&node(&node(&[0], &[0]), &[4, 0]), &leaf), &two);
+    vec![
+        groups("group of 7, U = 8", &wide, 8),
+        groups("group of 7, U = 4", &wide, 4),
+        groups("group of 7, U = 1", &wide, 1),
+        groups("group of 7, cut while units wait", &wide, 8).turns(30),
+        groups("group of 7, units 7 to 0", &wide, 8).schedule([7, 6, 5, 4, 3, 2, 1, 0].repeat(20)),
+        groups("nested groups, U = 1", &four, 1),
+        groups("nested groups, U = 2", &four, 2),
+        groups("nested groups, U = 3", &four, 3),
+        groups("nested groups, U = 8", &four, 8),
+        groups("nested groups, U = 8, cut", &four, 8).turns(60),
+        groups("deep groups, U = 5", &deep, 5),
+        groups(
+            "two groups, U = 3",
+            &[&[3][..], &two, &leaf, &two, &leaf].concat(),
+            3,
+        ),
+        groups(
+            "two groups, units in bursts",
+            &[&[3][..], &leaf, &two, &leaf, &two].concat(),
+            4,
+        )
+        .schedule([[0; 9], [3; 9], [1; 9], [2; 9]].concat().repeat(8)),
+    ]
+}
+
+/// Seven FORKs, the last of them of a chain that fills the term: the highest stack of the last unit.
+fn last_unit(name: &str, entries: usize) -> Case {
+    let line = [vec![2, 0, 1], vec![0; 5], chain(4, TERM_LIMIT - 9), vec![0]].concat();
+    let in_turn = [0, 1, 2, 3, 4, 5, 6, 7].repeat(40);
+    groups(name, &line, 8).schedule([vec![0; 9], vec![7; entries], in_turn].concat())
+}
+
+fn slip_cases() -> Vec<Case> {
+    let forgets = book(
+        &[plain(0), plain(0), given(1, &[0, 1, 0]), plain(2)],
+        &[rule(&[op(2), X], &[op(1)]), rule(&[op(3), X, Y], &[Y])],
+    );
+    let first = |left: &[Symbol]| {
+        book(
+            &[plain(0), plain(0), given(1, &[0])],
+            &[rule(&[op(2), X], &[op(0)]), rule(left, &[op(1)])],
+        )
+    };
+    vec![
+        woken("woken at another JOIN, cut", 40),
+        woken("woken at another JOIN, cut later", 60),
+        woken("woken at another JOIN", 100),
+        half_open("an EXIT before the last one wakes nobody"),
+        case("a FORK finds only unit 0 idle", nodes_book())
+            .line([1, 1, 0, 0, 0])
+            .units(2)
+            .schedule([&[0; 5][..], &[1; 8], &[0, 1].repeat(10)].concat()),
+        stacked("a part on top of a waiting JOIN"),
+        case("a rewrite forgets its own term's orders", forgets)
+            .line([3, 2, 0, 2, 0])
+            .zeros(99),
+        case(
+            "first rule in book order, not the longest",
+            first(&[op(2), op(2), Y]),
+        )
+        .line([2, 2, 1]),
+        case(
+            "first rule in book order, not the most special",
+            first(&[op(2), op(1)]),
+        )
+        .line([2, 1]),
+    ]
+}
+
+/// `end`, and `node` with both arguments in a group; nodes of ends become ends.
+fn nodes_book() -> Vec<u8> {
+    book(
+        &[plain(0), given(2, &[8, 1, 2, 9, 0])],
+        &[rule(&[op(1), op(0), op(0)], &[op(0)])],
+    )
+}
+
+/// Unit 0 waits at the JOIN of its second group when the EXIT for the first one wakes it. Passing that JOIN then would try the outer node's rule
+/// too soon.
+fn woken(name: &str, length: usize) -> Case {
+    let mut schedule = vec![0; 4];
+    schedule.extend([0, 1, 2].repeat(40));
+    schedule.truncate(length);
+    case(name, nodes_book())
+        .line([1, 0, 1, 1, 0, 0, 0])
+        .units(3)
+        .schedule(schedule)
+}
+
+/// Unit 1 waits for two parts. After the first one's EXIT it is still idle, and so gets the part that unit 0 forks.
+fn half_open(name: &str) -> Case {
+    let operators = [
+        plain(0),
+        given(2, &[8, 1, 2, 9, 0]),
+        given(3, &[8, 1, 2, 3, 9, 0]),
+    ];
+    let schedule = [
+        &[0; 2][..],
+        &[1; 6],
+        &[2; 3],
+        &[0; 2],
+        &[0, 1, 2, 3].repeat(12),
+    ]
+    .concat();
+    case(name, book(&operators, &[]))
+        .line([1, 2, 0, 0, 0, 1, 0, 0])
+        .units(4)
+        .schedule(schedule)
+}
+
+/// Unit 1 waits at its own JOIN and takes another part on top of it.
+fn stacked(name: &str) -> Case {
+    let schedule = [
+        0, 0, 0, 1, 1, 2, 2, 2, 2, 0, 1, 1, 1, 1, 1, 0, 1, 1, 0, 0, 1, 1, 1, 1, 0, 0, 0, 0, 0,
+    ];
+    case(name, book(&[plain(0), given(2, &[8, 1, 2, 9, 0])], &[]))
+        .line([1, 1, 0, 1, 0, 0, 1, 0, 0])
+        .units(3)
+        .schedule(schedule)
+}
+
+// ---------------------------------------------------------------------------
+// Random cases
+
+fn random_case(seed: u64, number: u64) -> Case {
+    let case = random::case(&mut Random::for_case(seed, number));
+    Case {
+        name: format!("random {seed} {number}"),
+        book: case.book(),
+        work: case.work_len(PUBLISHED),
+        line: case.line,
+        units: case.units,
+        budget: case.budget,
+        schedule: case.schedule,
+        output: case.output_len,
+    }
+}
+
+/// On two units or more, most of them without a refusal and with a rewrite.
+fn short_random_cases() -> impl Iterator<Item = Case> {
+    (0..)
+        .map(|number| random_case(SEED, number))
+        .filter(|case| case.book.len().max(case.line.len()) <= LONGEST)
+        .filter(|case| case.units >= 2 && case.schedule.len() <= LONGEST_SCHEDULE)
+        .filter(|case| answer(case).is_ok_and(|answer| answer.rewrites > 0 && answer.granted > 0))
+        .take(RANDOM_CASES)
+}
