@@ -1,0 +1,236 @@
+-- The input's frame: numbers, counted bytes, and what follows them. Assumes nothing.
+use mathlib.Core.List.{List, [], _∷_, _++_}
+use mathlib.Core.Path.{_≡_, refl, sym, ap, ap₂, _∙_}
+use Prim.Native.Nat.{ℕ, suc, _+_, _-_, _*_, _≤_, _<_}
+use native.Mathlib.Numerals.{add-one}
+use native.Mathlib.Omega.{arith}
+use native.Mathlib.Decide.{decLt}
+use borrow.Author.Tests.{lt-ltb, le-ltb, eq-eqb, ne-eqb}
+use lib.ListN.{length, getD, take, drop, length-drop}
+use lib.Seq.{drop-cons, drop-drop, take-add, take-all, length-take-le}
+use Rattle.paper.specs.Result.{Result, refused, accepted, Read, Reader, return, refuse, then, _>>=_}
+use Rattle.paper.specs.Page.{Request, number, read-bytes, read-number, read-schedule, read-request}
+use Rattle.page.specs.Page.{read-counted, asked, Counted, Framed}
+use Rattle.page.specs.declared.Place as P
+use Rattle.page.specs.declared.Frame as F
+
+-- NUMBERS
+
+two-bytes : (l : List ℕ) (at : ℕ) → at + 2 ≤ length l → take 2 (drop at l) ≡ getD l at 0 ∷ getD l (at + 1) 0 ∷ []
+two-bytes l at h =
+    ap (take 2) (drop-cons l at 0 (omega arith) ∙ ap (λ (xs : List ℕ). getD l at 0 ∷ xs) (drop-cons l (suc at) 0 (omega arith)))
+    ∙ ap (λ (i : ℕ). getD l at 0 ∷ getD l i 0 ∷ []) (sym (add-one at))
+
+pub number-two : (l : List ℕ) (at : ℕ) → at + 2 ≤ length l → number 0 (take 2 (drop at l)) ≡ getD l at 0 * 256 + getD l (at + 1) 0
+unfolding number
+number-two l at h = ap (number 0) (two-bytes l at h) ∙ omega arith
+
+number-both : (n : ℕ) (xs ys : List ℕ) → number n (xs ++ ys) ≡ number (number n xs) ys
+unfolding number
+number-both n [] ys = refl
+number-both n (x ∷ xs) ys = number-both (n * 256 + x) xs ys
+
+number-shift : (n a b : ℕ) → number n (a ∷ b ∷ []) ≡ n * 65536 + number 0 (a ∷ b ∷ [])
+unfolding number
+number-shift n a b = omega arith
+
+pub number-four : (l : List ℕ) (at : ℕ) → at + 4 ≤ length l →
+    number 0 (take 4 (drop at l)) ≡ number 0 (take 2 (drop at l)) * 65536 + number 0 (take 2 (drop (at + 2) l))
+number-four l at h =
+    let n : ℕ = number 0 (take 2 (drop at l)) in
+    let e = two-bytes l (at + 2) (omega arith) in
+    ap (number 0) (take-add 2 2 (drop at l))
+    ∙ number-both 0 (take 2 (drop at l)) (take 2 (drop 2 (drop at l)))
+    ∙ ap (λ (xs : List ℕ). number n (take 2 xs)) (drop-drop 2 at l)
+    ∙ ap (number n) e
+    ∙ number-shift n (getD l (at + 2) 0) (getD l (at + 2 + 1) 0)
+    ∙ ap (λ (xs : List ℕ). n * 65536 + number 0 xs) (sym e)
+
+-- READERS
+
+module _ (n : ℕ) (xs : List ℕ) where
+  bytes-there : n ≤ length xs → read-bytes n xs ≡ accepted (record { value = take n xs; left = drop n xs })
+  unfolding read-bytes return
+  bytes-there h = rw (eq-eqb _ _ (length-take-le n xs h))
+
+  bytes-cut : length xs < n → read-bytes n xs ≡ refused 17
+  unfolding read-bytes refuse
+  bytes-cut h =
+      let short : length (take n xs) ≡ n → ⊥ = λ e. omega (arith, ap length (take-all n xs (omega arith))) in
+      rw (ne-eqb _ _ short)
+
+  number-there : n ≤ length xs → read-number n xs ≡ accepted (record { value = number 0 (take n xs); left = drop n xs })
+  unfolding read-number _>>=_ then return
+  number-there h = rw (bytes-there h)
+
+  number-cut : length xs < n → read-number n xs ≡ refused 17
+  unfolding read-number _>>=_ then
+  number-cut h = rw (bytes-cut h)
+
+module _ (xs : List ℕ) where
+  counted-short : length xs < 2 → read-counted xs ≡ refused 17
+  unfolding read-counted _>>=_ then
+  counted-short h = rw (number-cut 2 xs h)
+
+  module _ (h : 2 ≤ length xs) where
+    counted-cut : length xs - 2 < number 0 (take 2 xs) → read-counted xs ≡ refused 17
+    unfolding read-counted _>>=_ then
+    counted-cut k = rw (number-there 2 xs h) (bytes-cut (number 0 (take 2 xs)) (drop 2 xs) (omega (arith, length-drop 2 xs)))
+
+    counted-there : (n : ℕ) → n ≡ number 0 (take 2 xs) → n ≤ length xs - 2 →
+        read-counted xs ≡ accepted (record { value = take n (drop 2 xs); left = drop n (drop 2 xs) })
+    unfolding read-counted _>>=_ then
+    counted-there n e k =
+        rw (number-there 2 xs h, ← e) (bytes-there n (drop 2 xs) (omega (arith, length-drop 2 xs)))
+
+-- the same at a position of the input
+pub counted-none : (input : List ℕ) (at : ℕ) → length input - at < 2 → read-counted (drop at input) ≡ refused 17
+counted-none input at h = counted-short (drop at input) (omega (arith, length-drop at input))
+
+module _ (input : List ℕ) (at : ℕ) (h : at + 2 ≤ length input) where
+  pub counted-few : (n : ℕ) → n ≡ number 0 (take 2 (drop at input)) → length input - (at + 2) < n → read-counted (drop at input) ≡ refused 17
+  counted-few n e k =
+      counted-cut (drop at input) (omega (arith, length-drop at input)) (omega (arith, length-drop at input))
+
+  pub counted-at : (n e : ℕ) → n ≡ number 0 (take 2 (drop at input)) → e ≡ at + 2 + n → e ≤ length input →
+      read-counted (drop at input) ≡ accepted (record { value = take (e - (at + 2)) (drop (at + 2) input); left = drop e input })
+  counted-at n e f g k =
+      let s : n ≡ e - (at + 2) = omega arith in
+      counted-there (drop at input) (omega (arith, length-drop at input)) n f (omega (arith, length-drop at input))
+      ∙ ap (λ (l : List ℕ). accepted (record { value = take n l; left = drop n l })) (drop-drop 2 at input)
+      ∙ ap₂ (λ (a b : List ℕ). accepted (record { value = a; left = b })) (ap (λ (k : ℕ). take k (drop (at + 2) input)) s)
+      (drop-drop n (at + 2) input ∙ ap (λ (k : ℕ). drop k input) (sym g))
+
+schedule-there : (xs : List ℕ) → length xs ≤ 32768 → read-schedule xs ≡ accepted (record { value = xs; left = [] })
+unfolding read-schedule return
+schedule-there xs h = rw (le-ltb 32768 (length xs) h)
+
+schedule-over : (xs : List ℕ) → 32768 < length xs → read-schedule xs ≡ refused 17
+unfolding read-schedule refuse
+schedule-over xs h = rw (lt-ltb 32768 (length xs) h)
+
+-- what follows the two counted parts
+unfoldable read-rest : List ℕ → List ℕ → Reader Request
+unfolding return _>>=_ read-number read-schedule
+read-rest book line = do
+  units ← read-number 1
+  budget ← read-number 4
+  schedule ← read-schedule
+  return (asked book line units budget schedule)
+
+module _ (book line xs : List ℕ) where
+  no-units : length xs < 1 → read-rest book line xs ≡ refused 17
+  unfolding read-rest _>>=_ then
+  no-units h = rw (number-cut 1 xs h)
+
+  module _ (h : 1 ≤ length xs) where
+    no-budget : length xs < 5 → read-rest book line xs ≡ refused 17
+    unfolding read-rest _>>=_ then
+    no-budget k = rw (number-there 1 xs h, number-cut 4 (drop 1 xs) (omega (arith, length-drop 1 xs)))
+
+    module _ (k : 5 ≤ length xs) where
+      budget-there : read-number 4 (drop 1 xs) ≡ accepted (record { value = number 0 (take 4 (drop 1 xs)); left = drop 4 (drop 1 xs) })
+      budget-there = number-there 4 (drop 1 xs) (omega (arith, length-drop 1 xs))
+
+      left-length : length (drop 4 (drop 1 xs)) ≡ length xs - 5
+      left-length = omega (arith, length-drop 4 (drop 1 xs), length-drop 1 xs)
+
+      over : 32773 < length xs → read-rest book line xs ≡ refused 17
+      unfolding read-rest _>>=_ then
+      over m = rw (number-there 1 xs h, budget-there, schedule-over (drop 4 (drop 1 xs)) (omega (arith, left-length)))
+
+      rest-there : length xs ≤ 32773 →
+          read-rest book line xs
+          ≡ accepted (record { value = asked book line (number 0 (take 1 xs)) (number 0 (take 4 (drop 1 xs))) (drop 4 (drop 1 xs)); left = [] })
+      unfolding read-rest _>>=_ then return
+      rest-there m = rw (number-there 1 xs h, budget-there, schedule-there (drop 4 (drop 1 xs)) (omega (arith, left-length)))
+
+  rest-short : length xs < 5 → read-rest book line xs ≡ refused 17
+  rest-short h = go (decLt (length xs) 1)
+    where
+      go : Dec (length xs < 1) → read-rest book line xs ≡ refused 17
+      go (yes k) = no-units k
+      go (no k) = no-budget (omega arith) h
+
+  rest-over : 32773 < length xs → read-rest book line xs ≡ refused 17
+  rest-over h = over (omega arith) (omega arith) h
+
+-- THE REQUEST
+
+then-then : {A B C : Type 0} (x : Result A) (f : A → Result B) (g : B → Result C) → then x (λ a. then (f a) g) ≡ then (then x f) g
+unfolding then
+then-then (refused n) f g = refl
+then-then (accepted a) f g = refl
+
+then-same : {A B : Type 0} (x : Result A) (f g : A → Result B) → ((a : A) → f a ≡ g a) → then x f ≡ then x g
+unfolding then
+then-same (refused n) f g h = refl
+then-same (accepted a) f g h = h a
+
+-- the request is read as two counted parts and the rest
+request-counted : (xs : List ℕ) →
+    read-request xs ≡ then (read-counted xs) (λ b. then (read-counted (b .left)) (λ l. read-rest (b .value) (l .value) (l .left)))
+unfolding read-request read-counted read-rest _>>=_
+request-counted xs =
+    let bytes : Read ℕ → Result (Read (List ℕ)) = λ r. read-bytes (r .value) (r .left) in
+    let rest : Read (List ℕ) → Read (List ℕ) → Result (Read Request) = λ b l. read-rest (b .value) (l .value) (l .left) in
+    then-then (read-number 2 xs) bytes (λ b. then (read-number 2 (b .left)) (λ r. then (bytes r) (rest b)))
+    ∙ then-same (read-counted xs) (λ b. then (read-number 2 (b .left)) (λ r. then (bytes r) (rest b)))
+    (λ b. then (read-counted (b .left)) (rest b)) (λ b. then-then (read-number 2 (b .left)) bytes (rest b))
+
+module _ (input : List ℕ) where
+  first-cut : read-counted (drop 0 input) ≡ refused 17 → read-request input ≡ refused 17
+  unfolding then
+  first-cut e = request-counted input ∙ rw e
+
+  module _ (b : ℕ) (book : List ℕ) (e : read-counted (drop 0 input) ≡ accepted (record { value = book; left = drop b input })) where
+    second-cut : read-counted (drop b input) ≡ refused 17 → read-request input ≡ refused 17
+    unfolding then
+    second-cut f = request-counted input ∙ rw (e, f)
+
+    third : (l : ℕ) (line : List ℕ) → read-counted (drop b input) ≡ accepted (record { value = line; left = drop l input }) →
+        read-request input ≡ read-rest book line (drop l input)
+    unfolding then
+    third l line f = request-counted input ∙ rw (e, f)
+
+-- THE FRAME
+
+module _ (input : List ℕ) where
+  pub cut-first : Counted input 0 P.Place.Cut → Framed input F.Frame.Cut
+  cut-first c = record { is = first-cut input (c .is); inside = tt }
+
+  module _ {b : ℕ} (c : Counted input 0 (P.Place.At b)) where
+    pub cut-second : Counted input b P.Place.Cut → Framed input F.Frame.Cut
+    cut-second d = record { is = second-cut input b _ (c .is) (d .is); inside = tt }
+
+    module _ {l : ℕ} (d : Counted input b (P.Place.At l)) where
+      rest : read-request input ≡ read-rest (take (b - 2) (drop 2 input)) (take (l - (b + 2)) (drop (b + 2) input)) (drop l input)
+      rest = third input b _ (c .is) l _ (d .is)
+
+      pub cut-rest : length input - l < 5 → Framed input F.Frame.Cut
+      cut-rest h = record { is = rest ∙ rest-short _ _ (drop l input) (omega (arith, length-drop l input)); inside = tt }
+
+      pub cut-over : 32768 < length input - l - 5 → Framed input F.Frame.Cut
+      cut-over h = record { is = rest ∙ rest-over _ _ (drop l input) (omega (arith, length-drop l input)); inside = tt }
+
+      units-are : l < length input → number 0 (take 1 (drop l input)) ≡ getD input l 0
+      unfolding number
+      units-are h = ap (λ (xs : List ℕ). number 0 (take 1 xs)) (drop-cons input l 0 h) ∙ omega arith
+
+      pub whole : 5 ≤ length input - l → length input - l - 5 ≤ 32768 → Framed input (F.Frame.Whole b l)
+      whole h k =
+          let n = length-drop l input in
+          let book : List ℕ = take (b - 2) (drop 2 input) in
+          let line : List ℕ = take (l - (b + 2)) (drop (b + 2) input) in
+          record {
+            is =
+                rest
+                ∙ rest-there _ _ (drop l input) (omega arith) (omega arith) (omega arith)
+                ∙ ap (λ (u : ℕ). accepted (record {
+                  value = asked book line u (number 0 (take 4 (drop 1 (drop l input)))) (drop 4 (drop 1 (drop l input)));
+                  left = [];
+                })) (units-are (omega arith))
+                ∙ ap₂ (λ (ys zs : List ℕ). accepted (record { value = asked book line (getD input l 0) (number 0 (take 4 ys)) zs; left = [] }))
+                (drop-drop 1 l input) (drop-drop 4 1 (drop l input) ∙ drop-drop 5 l input);
+            inside = (c .within .0, d .within .0, omega arith);
+          }

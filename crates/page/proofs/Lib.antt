@@ -1,0 +1,6 @@
+pub mod Puts
+pub mod Decimals
+pub mod Input
+pub mod Prefix
+pub mod Lines
+pub mod Laws

@@ -1,0 +1,96 @@
+-- The lines of the engine's answer are those of the paper's, and the page is made of them. Assumes nothing.
+use mathlib.Core.List.{List, [], _∷_, _++_}
+use mathlib.Core.Path.{_≡_, refl, sym, ap, ap₂, _∙_}
+use Prim.Native.Nat.{ℕ, _≤_}
+use native.Mathlib.Omega.{arith}
+use lib.ListN.{length, take}
+use lib.Seq.{take-at}
+use Rattle.paper.specs.Result.{Result, refused, accepted, Read, then}
+use Rattle.paper.specs.Tree.{preorder}
+use Rattle.paper.specs.Run.{Answer}
+use Rattle.paper.specs.Page.{Request, frame-fault, run-checked, answerOf, read-request, ending-number, line, refused-word, end-word, rewrites-word, entries-word, granted-word, term-word, answer-lines, pageOf}
+use Rattle.run.specs.Run.{ending}
+use Rattle.engine.specs.Reduce as R
+use Rattle.engine.specs.declared.Answer as A
+use Rattle.page.specs.Page.{Paged, asked, Put, fixed-line, lines, Fits}
+
+-- THE ANSWER
+
+-- the values of an accepted run
+abbrev the-lines : R.Values → List ℕ → List ℕ
+the-lines v term =
+    line end-word (ending-number (v .ending) ∷ [])
+    ++ (line rewrites-word (v .rewrites ∷ [])
+    ++ (line entries-word (v .entries ∷ []) ++ (line granted-word (v .granted ∷ []) ++ line term-word term)))
+
+same-values : {v w : R.Values} → _≡_ {A = Result R.Values} (accepted v) (accepted w) → v ≡ w
+same-values e = cc
+
+same-number : {k n : ℕ} → _≡_ {A = Result R.Values} (refused k) (refused n) → k ≡ n
+same-number e = cc
+
+apart : {k : ℕ} {v : R.Values} → _≡_ {A = Result R.Values} (refused k) (accepted v) → ⊥
+apart e = let z : _≡_ {A = ℕ} 0 1 = cc in absurd (omega arith)
+
+-- the term is at the front of the output
+abbrev Fronted : Result Answer → List ℕ → Type 0
+Fronted x output = (a : Answer) → x ≡ accepted a → take (length (preorder (a .term))) output ≡ preorder (a .term)
+
+lines-as : (r : A.Answer) (x : Result Answer) (output : List ℕ) → R.values r ≡ R.values-of x → Fronted x output → lines r output ≡ answer-lines x
+unfolding answer-lines
+lines-as (A.Answer.Refused k) (refused n) output e h = ap (λ (i : ℕ). line refused-word (i ∷ [])) (same-number e)
+lines-as (A.Answer.Refused k) (accepted a) output e h = absurd (apart e)
+lines-as (A.Answer.Ran r) (refused n) output e h = absurd (apart (sym e))
+lines-as (A.Answer.Ran r) (accepted a) output e h =
+    ap (λ (v : R.Values). the-lines v (take (v .length) output)) (same-values e)
+    ∙ ap (λ (term : List ℕ). the-lines (record {
+      ending = a .ending;
+      rewrites = a .rewrites;
+      entries = a .entries;
+      granted = a .granted;
+      length = length (preorder (a .term));
+    }) term) (h a refl)
+
+fits-as : (r : A.Answer) (x : Result Answer) (output : List ℕ) → R.values r ≡ R.values-of x → length output ≡ 1024 →
+    ((a : Answer) → x ≡ accepted a → length (preorder (a .term)) ≤ 1024) → Fits r output
+fits-as (A.Answer.Refused k) x output e l h = tt
+fits-as (A.Answer.Ran r) (refused n) output e l h = absurd (apart (sym e))
+fits-as (A.Answer.Ran r) (accepted a) output e l h =
+    let m : r .length ≡ length (preorder (a .term)) = ap (λ (v : R.Values). v .length) (same-values e) in
+    (omega (arith, h a refl), omega arith)
+
+-- with buffers of the lengths that are asked for, the published length of the work area does not matter
+same-answer : (q : Request) → q .work ≡ R.published → q .output ≡ 1024 →
+    answerOf R.published q ≡ answerOf 0 (asked (q .book) (q .line) (q .units) (q .budget) (q .schedule))
+unfolding answerOf frame-fault run-checked
+same-answer q e f = rw (e, f)
+
+module _ {book line : List ℕ} {units budget : ℕ} {schedule work output work′ output′ : List ℕ} {r : A.Answer}
+    (d : R.Reduced book line units budget schedule work output work′ output′ r) where
+  front : (a : Answer) → R.answered book line units budget schedule work output ≡ accepted a →
+      take (length (preorder (a .term))) output′ ≡ preorder (a .term)
+  front a e = ap (take (length (preorder (a .term)))) (d .written a e) ∙ take-at (preorder (a .term)) _ _ refl
+
+  pub reduced-fits : length output′ ≡ 1024 → Fits r output′
+  reduced-fits l = fits-as r _ output′ (d .answer) l (λ a e. d .run-of a e .fits)
+
+  pub reduced-lines : (budget′ : ℕ) (schedule′ : List ℕ) → budget ≡ budget′ → schedule ≡ schedule′ → length work ≡ R.published → length output ≡ 1024 →
+      lines r output′ ≡ answer-lines (answerOf 0 (asked book line units budget′ schedule′))
+  reduced-lines budget′ schedule′ b s e f =
+      lines-as r _ output′ (d .answer) front
+      ∙ ap answer-lines (same-answer (R.request book line units budget schedule work output) e f)
+      ∙ ap₂ (λ (k : ℕ) (es : List ℕ). answer-lines (answerOf 0 (asked book line units k es))) b s
+
+-- THE PAGE
+
+pub page-cut : (input : List ℕ) → read-request input ≡ refused 17 → fixed-line ++ line refused-word (17 ∷ []) ≡ pageOf input
+unfolding pageOf answer-lines then
+page-cut input e = ap (λ (x : Result (Read Request)). fixed-line ++ answer-lines (then x (λ r. answerOf 0 (r .value)))) (sym e)
+
+pub page-whole : (input : List ℕ) (q : Request) → read-request input ≡ accepted (record { value = q; left = [] }) →
+    fixed-line ++ answer-lines (answerOf 0 q) ≡ pageOf input
+unfolding pageOf then
+page-whole input q e = ap (λ (x : Result (Read Request)). fixed-line ++ answer-lines (then x (λ r. answerOf 0 (r .value)))) (sym e)
+
+pub paged : {input page page′ : List ℕ} {r : ℕ} → Put 0 (pageOf input) page page′ r → Paged input page page′ r
+paged p = let e = p .ends in record { size = omega arith; is = p .is }

@@ -1,0 +1,20 @@
+-- `page::pair` meets its contract, by the law of two bytes. Assumes nothing.
+use denote.Ref.{now}
+use native.Mathlib.Omega.{arith}
+use Rattle.page.proofs.Input.{number-two}
+use borrow.Author.Needs.{needs}
+use Rattle.page.proofs.pair.Statement.{statement}
+use Rattle.page.proofs.pair.Tie as tie
+
+returns : tie.Need-returns
+returns c =
+    let v = c .before .before .wide .ensures in
+    let w = c .wide2 .ensures in
+    let s = c .before .before .before .before .before in
+    (omega (arith, number-two (now (s .args .input)) (s .args .at) (s .pre), v .0, w .0), omega (arith, v .1, w .1))
+
+pub pair-spec : {M : Type 1} → statement M
+pair-spec =
+    tie.close
+    (tie.spec (λ c. search needs) (λ c κs. search needs) (λ c. search needs) (λ c. search needs) (λ c. search needs) (λ c κs. search needs)
+    (λ c. search needs) returns)
