@@ -81,12 +81,25 @@ static void operators(reader *r, unsigned n, tables *t) {
     }
 }
 
+// A symbol: whether it is a variable, and its number. Nine bits, where they are there, stand in two bytes.
+static inline unsigned symbol(reader *r, unsigned *kind) {
+    if (r->bits - r->at < 9) {
+        *kind = field(r, 1);
+        return field(r, *kind ? 4 : 8);
+    }
+    const uint8_t *p = r->bytes + (r->at >> 3);
+    unsigned x = ((unsigned)p[0] << 8 | p[1]) >> (7 - (r->at & 7)) & 0x1ff;
+    *kind = x >> 8;
+    r->at += *kind ? 5 : 9;
+    return *kind ? x >> 4 & 15 : x;
+}
+
 // A side from the reader's position on; vars is the mask of its variables, or of those allowed.
 static unsigned side(reader *r, unsigned n, const tables *t, unsigned *vars, int left) {
     unsigned due = 1, root = 0;
     for (unsigned i = 0; due; i++) {
         if (i == 64) { r->fault = 8; return 0; }
-        unsigned kind = field(r, 1), x = field(r, kind ? 4 : 8);
+        unsigned kind, x = symbol(r, &kind);
         if (r->fault) return 0;
         due--;
         if (!kind) {
@@ -113,7 +126,7 @@ static void rules(reader *r, unsigned n, unsigned m, tables *t) {
     }
 }
 
-int c_read_book(const uint8_t *book, size_t len, tables *t) {
+int c_read_counted(const uint8_t *book, size_t len, tables *t, unsigned *rule_count) {
     reader r = {book, 8 * len, 0, 0};
     unsigned n = field(&r, 8);
     if (r.fault) return 1;
@@ -124,7 +137,13 @@ int c_read_book(const uint8_t *book, size_t len, tables *t) {
     if (r.fault) return 1;
     rules(&r, n, m, t);
     if (r.fault) return r.fault;
+    *rule_count = m;
     size_t left = r.bits - r.at;
     if (left >= 8 || (left && field(&r, (unsigned)left))) return 9;
     return 0;
+}
+
+int c_read_book(const uint8_t *book, size_t len, tables *t) {
+    unsigned m;
+    return c_read_counted(book, len, t, &m);
 }

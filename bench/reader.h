@@ -13,4 +13,7 @@ typedef struct {
 
 // 0, or the number of the refusal.
 int c_read_book(const uint8_t *book, size_t len, tables *t);
+
+// The same, and how many rules there are.
+int c_read_counted(const uint8_t *book, size_t len, tables *t, unsigned *rule_count);
 #endif

@@ -17,13 +17,13 @@ static int by_size(const void *a, const void *b) {
 }
 
 // Sorts the times, and prints their least, median and quartiles.
-static void report(const char *name, double *times, int count) {
+static inline void report(const char *name, double *times, int count) {
     qsort(times, (size_t)count, sizeof *times, by_size);
     printf("%-8s least %8.0f ns, median %8.0f, quartiles %8.0f and %8.0f\n", name, times[0], times[count / 2], times[count / 4], times[3 * count / 4]);
 }
 
 // The median of the ratios of times that were taken one after the other, so that a busy machine weighs on both; and the ratio of the least times.
-static void compare(double *ours, double *theirs, int count) {
+static inline void compare(double *ours, double *theirs, int count) {
     double *ratios = malloc((size_t)count * sizeof *ratios);
     if (!ratios) abort();
     for (int i = 0; i < count; i++) ratios[i] = ours[i] / theirs[i];

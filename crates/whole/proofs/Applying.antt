@@ -1,18 +1,21 @@
 -- The replacement: symbols put for others, the top frame of a unit put anew, and all jobs' offsets moved; and the answers of
 -- WHOLE. Assumes nothing.
+use mathlib.Core.Bool.{Bool, true, false}
 use mathlib.Core.List.{List, [], _∷_, map}
-use mathlib.Core.Path.{_≡_, sym, ap, ap₂, _∙_}
+use mathlib.Core.Path.{_≡_, refl, sym, ap, ap₂, _∙_}
 use Prim.Native.Nat.{ℕ, zero, suc, _+_, _-_, _≤_, _<_}
 use native.Mathlib.Omega.{arith}
+use lib.Dec.{leb}
 use lib.ListN.{length, take, drop}
 use lib.Seq.{length-take-le}
-use borrow.Author.Tests.{le-ltb}
+use borrow.Author.Tests.{le-ltb, leb-true}
 use Rattle.paper.specs.Book.{Book}
 use Rattle.paper.specs.Sound.{All}
-use Rattle.flat.specs.Machine.{Frame, FlatUnit, shift-unit}
+use Rattle.flat.specs.Symbols.{shift}
+use Rattle.flat.specs.Machine.{Frame, FlatUnit, flat-unit, shift-frame, shift-unit}
 use Rattle.stack.specs.Stacks.{Offsets}
 use Rattle.term.specs.Symbols as term
-use Rattle.units.specs.Units.{units-of, topped, at, Restacked, Room, Moved}
+use Rattle.units.specs.Units.{units-of, Stacks, topped, at, Restacked, Room, Moved}
 use Rattle.units.proofs.Units.{offsets-moved}
 use Rattle.whole.specs.Rewriting.{Placed, Ready, Picked, Applied, Answer, CarriedOut}
 use Rattle.whole.specs.declared.Whole as W
@@ -36,6 +39,32 @@ room w h w₁ count u len x a e k p t l m r =
     (rw (t (p .flags) (p .area) .units count)
     (all-done (λ (y : FlatUnit). Offsets len (y .stack)) (topped (Frame.job x 0 0)) (λ y q. (l, under len (y .stack) q)) (units-of w (p .flags) h count) u
     (p .offsets)))
+
+-- as many symbols come as go: nothing moves
+shift-none : (a e k x : ℕ) → a + k ≡ e → shift a e k x ≡ x
+unfolding shift
+shift-none a e k x q = go (leb e x) refl
+  where
+    go : (b : Bool) → leb e x ≡ b → elim b [ true ↦ a + k + (x - e) | false ↦ x ] ≡ x
+    go true h = let l = leb-true e x h in omega arith
+    go false h = refl
+
+frame-none : (a e k : ℕ) → a + k ≡ e → (f : Frame) → shift-frame a e k f ≡ f
+unfolding shift-frame
+frame-none a e k q (Frame.job x i c) = ap (λ (y : ℕ). Frame.job y i c) (shift-none a e k x q)
+frame-none a e k q (Frame.exit v i) = refl
+frame-none a e k q Frame.sleep = refl
+frame-none a e k q Frame.bingo = refl
+
+map-none : {A : Type 0} (f : A → A) → ((x : A) → f x ≡ x) → (xs : List A) → map f xs ≡ xs
+map-none f q [] = refl
+map-none f q (x ∷ xs) = ap₂ (λ (y : _) (ys : List _). y ∷ ys) (q x) (map-none f q xs)
+
+pub unmoved : (w h : List ℕ) (n a e k : ℕ) → a + k ≡ e → Stacks w h → Moved w h n a e k w
+unmoved w h n a e k q s = record {
+  stacks = s;
+  units = λ b. sym (map-none (shift-unit a e k) (λ x. ap (flat-unit (x .busy)) (map-none (shift-frame a e k) (frame-none a e k q) (x .stack))) (units-of w b h n));
+}
 
 -- The replacement
 

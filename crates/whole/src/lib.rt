@@ -129,7 +129,10 @@ fn apply(
 {
     let after = term::replace(symbols, len, a, e, scratch, k);
     units::set_top(work, heights, u, Frame::Job(short(a), 0, 0));
-    units::shift_units(work, heights, units, a, e, k);
+    // Nothing moves where as many symbols come as go.
+    if a + k != e {
+        units::shift_units(work, heights, units, a, e, k);
+    }
     after
 }
 
