@@ -11,11 +11,11 @@ use Rattle.stack.specs.Frames.{pick, decode}
 use Rattle.stack.specs.Stacks.{Below}
 
 module _ (kind low high : ℕ) where
-  pub job-of : kind < 32 → decode kind low high ≡ Frame.job (low + high % 4 * 256) kind (high / 4)
+  job-of : kind < 32 → decode kind low high ≡ Frame.job (low + high % 4 * 256) kind (high / 4)
   unfolding decode
   job-of h = rw (lt-ltb kind 32 h)
 
-  pub exit-of : 32 ≤ kind → kind < 40 → decode kind low high ≡ Frame.exit (kind - 32) (low + high * 256)
+  exit-of : 32 ≤ kind → kind < 40 → decode kind low high ≡ Frame.exit (kind - 32) (low + high * 256)
   unfolding decode
   exit-of h l = rw (le-ltb kind 32 h, lt-ltb kind 40 l)
 
@@ -27,18 +27,32 @@ module _ (kind low high : ℕ) where
   unfolding decode
   bingo-of h n = let l : 32 ≤ kind = omega arith in rw (le-ltb kind 32 l, le-ltb kind 40 h, ne-eqb kind 40 n)
 
--- what the code writes for a job and for an EXIT
-pub job-bytes : (offset order count : ℕ) → offset < 1024 → order < 32 → decode order (offset % 256) (count * 4 + offset / 256) ≡ Frame.job offset order count
-job-bytes offset order count h l =
-    let x : offset % 256 + (count * 4 + offset / 256) % 4 * 256 ≡ offset = omega arith in
-    let y : (count * 4 + offset / 256) / 4 ≡ count = omega arith in
-    job-of order (offset % 256) (count * 4 + offset / 256) l ∙ ap₂ (λ (a c : ℕ). Frame.job a order c) x y
+-- the frame of a kind and a word, which is the low byte and 256 times the high one
+abbrev coded : ℕ → ℕ → Frame
+coded kind word = decode kind (word % 256) (word / 256)
 
-pub exit-bytes : (unit index : ℕ) → unit < 8 → decode (unit + 32) (index % 256) (index / 256) ≡ Frame.exit unit index
+pub job-word : (kind word : ℕ) → kind < 32 → coded kind word ≡ Frame.job (word % 1024) kind (word / 1024)
+job-word kind word h =
+    let x : word % 256 + word / 256 % 4 * 256 ≡ word % 1024 = omega arith in
+    let y : word / 256 / 4 ≡ word / 1024 = omega arith in
+    job-of kind (word % 256) (word / 256) h ∙ ap₂ (λ (a c : ℕ). Frame.job a kind c) x y
+
+pub exit-word : (kind word : ℕ) → 32 ≤ kind → kind < 40 → coded kind word ≡ Frame.exit (kind - 32) word
+exit-word kind word h l =
+    let x : word % 256 + word / 256 * 256 ≡ word = omega arith in
+    exit-of kind (word % 256) (word / 256) h l ∙ ap (Frame.exit (kind - 32)) x
+
+-- what the code writes for a job and for an EXIT
+pub job-bytes : (offset order count : ℕ) → offset < 1024 → order < 32 → coded order (offset + count * 1024) ≡ Frame.job offset order count
+job-bytes offset order count h l =
+    let x : (offset + count * 1024) % 1024 ≡ offset = omega arith in
+    let y : (offset + count * 1024) / 1024 ≡ count = omega arith in
+    job-word order (offset + count * 1024) l ∙ ap₂ (λ (a c : ℕ). Frame.job a order c) x y
+
+pub exit-bytes : (unit index : ℕ) → unit < 8 → coded (unit + 32) index ≡ Frame.exit unit index
 exit-bytes unit index h =
     let x : unit + 32 - 32 ≡ unit = omega arith in
-    let y : index % 256 + index / 256 * 256 ≡ index = omega arith in
-    exit-of (unit + 32) (index % 256) (index / 256) (omega arith) (omega arith) ∙ ap₂ Frame.exit x y
+    exit-word (unit + 32) index (omega arith) (omega arith) ∙ ap (λ (v : ℕ). Frame.exit v index) x
 
 -- a frame that is no job
 Still : Frame → Type 0
@@ -77,23 +91,24 @@ shift-still a e n (Frame.exit v i) z = refl
 shift-still a e n Frame.sleep z = refl
 shift-still a e n Frame.bingo z = refl
 
-module _ (kind low high : ℕ) where
-  pub lower-job : kind < 32 → 4 ≤ high → decode kind low (high - 4) ≡ lower (decode kind low high)
+module _ (kind word : ℕ) where
+  pub lower-job : kind < 32 → 1024 ≤ word → coded kind (word - 1024) ≡ lower (coded kind word)
   unfolding lower
   lower-job h l =
-      let x : (high - 4) % 4 ≡ high % 4 = omega arith in
-      let y : (high - 4) / 4 ≡ pred (high / 4) = omega arith in
-      job-of kind low (high - 4) h ∙ ap₂ (λ (m c : ℕ). Frame.job (low + m * 256) kind c) x y ∙ ap lower (sym (job-of kind low high h))
+      let x : (word - 1024) % 1024 ≡ word % 1024 = omega arith in
+      let y : (word - 1024) / 1024 ≡ pred (word / 1024) = omega arith in
+      job-word kind (word - 1024) h ∙ ap₂ (λ (a c : ℕ). Frame.job a kind c) x y ∙ ap lower (sym (job-word kind word h))
 
-  pub lower-zero : kind < 32 → high < 4 → decode kind low high ≡ lower (decode kind low high)
+  pub lower-zero : kind < 32 → word < 1024 → coded kind word ≡ lower (coded kind word)
   unfolding lower
   lower-zero h l =
-      let y : high / 4 ≡ pred (high / 4) = omega arith in
-      job-of kind low high h ∙ ap (Frame.job (low + high % 4 * 256) kind) y ∙ ap lower (sym (job-of kind low high h))
+      let y : word / 1024 ≡ pred (word / 1024) = omega arith in
+      job-word kind word h ∙ ap (Frame.job (word % 1024) kind) y ∙ ap lower (sym (job-word kind word h))
 
-  pub lower-other : 32 ≤ kind → decode kind low high ≡ lower (decode kind low high)
-  lower-other h = lower-still (decode kind low high) (still kind low high h)
+  pub lower-other : 32 ≤ kind → coded kind word ≡ lower (coded kind word)
+  lower-other h = lower-still (coded kind word) (still kind (word % 256) (word / 256) h)
 
+module _ (kind low high : ℕ) where
   pub zero-job : kind < 32 → is-zero (decode kind low high) ≡ ltb high 4
   unfolding is-zero
   zero-job h = rw (job-of kind low high h) (go (high / 4) refl)
@@ -105,32 +120,31 @@ module _ (kind low high : ℕ) where
   pub zero-other : 32 ≤ kind → is-zero (decode kind low high) ≡ false
   zero-other h = zero-still (decode kind low high) (still kind low high h)
 
--- y in the ten bits of a job's offset makes the frame go along
-abbrev Goes : ℕ → ℕ → ℕ → ℕ → ℕ → ℕ → ℕ → Type 0
-Goes kind low high a e n y = (y < 1024) × (decode kind (y % 256) (high / 4 * 4 + y / 256) ≡ shift-frame a e n (decode kind low high))
-
-module _ (kind low high a e n x : ℕ) (h : low < 256) (is : x ≡ low + high % 4 * 256) where
-  shift-of : kind < 32 → shift-frame a e n (decode kind low high) ≡ Frame.job (shift a e n x) kind (high / 4)
+module _ (kind word a e n : ℕ) where
+  shift-of : kind < 32 → shift-frame a e n (coded kind word) ≡ Frame.job (shift a e n (word % 1024)) kind (word / 1024)
   unfolding shift-frame
-  shift-of k = ap (shift-frame a e n) (job-of kind low high k) ∙ ap (λ (o : ℕ). Frame.job (shift a e n o) kind (high / 4)) (sym is)
+  shift-of k = ap (shift-frame a e n) (job-word kind word k)
 
-  -- a job whose offset goes to y
-  job-to : (y : ℕ) → y < 1024 → kind < 32 → shift a e n x ≡ y → Goes kind low high a e n y
-  job-to y l k s = (l, job-bytes y kind (high / 4) l k ∙ ap (λ (m : ℕ). Frame.job m kind (high / 4)) (sym s) ∙ sym (shift-of k))
+  pub moved-other : 32 ≤ kind → coded kind word ≡ shift-frame a e n (coded kind word)
+  moved-other k = shift-still a e n (coded kind word) (still kind (word % 256) (word / 256) k)
 
-  pub moved-other : 32 ≤ kind → Goes kind low high a e n x
-  moved-other k =
-      let y : x % 256 ≡ low = omega arith in
-      let z : high / 4 * 4 + x / 256 ≡ high = omega arith in
-      (omega arith, ap₂ (decode kind) y z ∙ shift-still a e n (decode kind low high) (still kind low high k))
-
-  pub moved-before : kind < 32 → x < e → Goes kind low high a e n x
+  pub moved-before : kind < 32 → word % 1024 < e → coded kind word ≡ shift-frame a e n (coded kind word)
   unfolding shift
-  moved-before k l = job-to x (omega arith) k (rw (lt-leb e x l, shift))
+  moved-before k l =
+      let s : shift a e n (word % 1024) ≡ word % 1024 = rw (lt-leb e (word % 1024) l, shift) in
+      job-word kind word k ∙ ap (λ (o : ℕ). Frame.job o kind (word / 1024)) (sym s) ∙ sym (shift-of k)
 
-  pub moved-behind : kind < 32 → e ≤ x → Below 1024 (shift-frame a e n (decode kind low high)) → Goes kind low high a e n (a + n + (x - e))
-  unfolding shift
-  moved-behind k l b =
-      let s : shift a e n x ≡ a + n + (x - e) = rw (le-leb e x l, shift) in
-      let m : shift a e n x < 1024 = rw (shift-of k) at b in
-      job-to (a + n + (x - e)) (omega arith) k s
+  -- the moved offset has room, and takes the place of the old one
+  module _ (k : kind < 32) (l : e ≤ word % 1024) (b : Below 1024 (shift-frame a e n (coded kind word))) where
+    goes-to : shift a e n (word % 1024) ≡ a + n + (word % 1024 - e)
+    unfolding shift
+    goes-to = rw (le-leb e (word % 1024) l, shift)
+
+    pub moved-room : a + n + (word % 1024 - e) < 1024
+    moved-room = let m : shift a e n (word % 1024) < 1024 = rw (shift-of k) at b in rw goes-to at m
+
+    pub moved-behind : coded kind (a + n + (word % 1024 - e) + word / 1024 * 1024) ≡ shift-frame a e n (coded kind word)
+    moved-behind =
+        job-bytes (a + n + (word % 1024 - e)) kind (word / 1024) moved-room k
+        ∙ ap (λ (o : ℕ). Frame.job o kind (word / 1024)) (sym goes-to)
+        ∙ sym (shift-of k)

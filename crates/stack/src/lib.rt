@@ -3,7 +3,7 @@
 ghost use mathlib.Core.Path.{_≡_};
 ghost use mathlib.Core.List.{map};
 ghost use Prim.Native.Nat.{ℕ, _+_, _*_, _/_, _%_, _<_, _≤_};
-ghost use lib.ListN.{length, replicate};
+ghost use lib.ListN.{length, getD, replicate};
 ghost use Rattle.flat.specs.Machine.{lower, is-zero, zero-in, shift-frame};
 ghost use Rattle.stack.specs.Frames.{height, flat, decode, frameAt, Fits, Put};
 ghost use Rattle.stack.specs.Stacks.{stackOf, Below, Offsets, Lowered, Shifted};
@@ -33,16 +33,36 @@ fn wide(x: u8) -> u16
     x as u16
 }
 
-// The frame of three bytes: the first says its kind and, for a job, its next order; a job's offset is the low byte and two bits of the high one,
-// its count the high byte's six others.
-fn frame_of(kind: u8, low: u8, high: u8) -> Frame
-    ensures { λ r. ⌜ (flat r ≡ decode kind low high) × Fits (flat r) ⌝ }
+// A frame's low byte and its high one go together as a word, here and in put_word: the compiler then makes one load and one store of them, and a
+// frame that has just been put is read without waiting for two stores.
+fn word_at(work: &[u8], k: usize) -> u16
+    requires { ⌜ 3 * k + 3 ≤ length (now work) ⌝ }
+    ensures { λ r. ⌜ (r % 256 ≡ getD (now (work .entry)) (3 * k + 1) 0) × (r / 256 ≡ getD (now (work .entry)) (3 * k + 2) 0) ⌝ }
+{
+    let at = 3 * k;
+    wide(work[at + 1]) + wide(work[at + 2]) * 256
+}
+
+fn put_word(work: &mut [u8], k: usize, kind: u8, word: u16)
+    requires { ⌜ 3 * k + 3 ≤ length (now work) ⌝ }
+    ensures { λ _. ⌜ Put (now (work .entry)) k (decode kind (word % 256) (word / 256)) (now (work .exit)) ⌝ }
+{
+    let at = 3 * k;
+    work[at] = kind;
+    work[at + 1] = (word % 256) as u8;
+    work[at + 2] = (word / 256) as u8;
+}
+
+// The frame of a kind and a word. A job's kind is its next order; its word's ten low bits are its offset, the six others its count. An EXIT's word is
+// its stack index.
+fn frame_of(kind: u8, word: u16) -> Frame
+    ensures { λ r. ⌜ (flat r ≡ decode kind (word % 256) (word / 256)) × Fits (flat r) ⌝ }
 {
     if kind < 32 {
-        return Frame::Job(wide(low) + wide(high % 4) * 256, kind, high / 4);
+        return Frame::Job(word % 1024, kind, (word / 1024) as u8);
     }
     if kind < 40 {
-        return Frame::Exit(kind - 32, wide(low) + wide(high) * 256);
+        return Frame::Exit(kind - 32, word);
     }
     if kind == 40 {
         return Frame::Sleep;
@@ -54,18 +74,7 @@ pub fn frame_at(work: &[u8], k: usize) -> Frame
     requires { ⌜ 3 * k + 3 ≤ length (now work) ⌝ }
     ensures { λ r. ⌜ (flat r ≡ frameAt (now (work .entry)) k) × Fits (flat r) ⌝ }
 {
-    let at = 3 * k;
-    frame_of(work[at], work[at + 1], work[at + 2])
-}
-
-fn put_bytes(work: &mut [u8], k: usize, kind: u8, low: u8, high: u8)
-    requires { ⌜ 3 * k + 3 ≤ length (now work) ⌝ }
-    ensures { λ _. ⌜ Put (now (work .entry)) k (decode kind low high) (now (work .exit)) ⌝ }
-{
-    let at = 3 * k;
-    work[at] = kind;
-    work[at + 1] = low;
-    work[at + 2] = high;
+    frame_of(work[3 * k], word_at(work, k))
 }
 
 pub fn put_frame(work: &mut [u8], k: usize, f: Frame)
@@ -74,36 +83,30 @@ pub fn put_frame(work: &mut [u8], k: usize, f: Frame)
 {
     match f {
         Frame::Job(offset, order, count) => {
-            put_bytes(
-                work,
-                k,
-                order,
-                (offset % 256) as u8,
-                count * 4 + (offset / 256) as u8,
-            );
+            put_word(work, k, order, offset + wide(count) * 1024);
         }
         Frame::Exit(unit, index) => {
-            put_bytes(work, k, unit + 32, (index % 256) as u8, (index / 256) as u8);
+            put_word(work, k, unit + 32, index);
         }
         Frame::Sleep => {
-            put_bytes(work, k, 40, 0, 0);
+            put_word(work, k, 40, 0);
         }
         Frame::Bingo => {
-            put_bytes(work, k, 41, 0, 0);
+            put_word(work, k, 41, 0);
         }
     }
 }
 
-// The high byte of a frame whose count, if it is a job's, falls by one.
-fn lowered(kind: u8, high: u8) -> u8
-    ensures { λ r. ⌜ ((low : ℕ) → decode kind low r ≡ lower (decode kind low high)) ⌝ }
+// The word of a frame whose count, if it is a job's, falls by one.
+fn lowered(kind: u8, word: u16) -> u16
+    ensures { λ r. ⌜ decode kind (r % 256) (r / 256) ≡ lower (decode kind (word % 256) (word / 256)) ⌝ }
 {
     if kind < 32 {
-        if 4 <= high {
-            return high - 4;
+        if 1024 <= word {
+            return word - 1024;
         }
     }
-    high
+    word
 }
 
 // The count of the job at index i of the stack from frame base on falls by one.
@@ -112,11 +115,9 @@ pub fn lower_at(work: &mut [u8], base: usize, i: usize)
     ensures { λ _. ⌜ Lowered (now (work .entry)) base i (now (work .exit)) ⌝ }
 {
     let k = base + i;
-    let at = 3 * k;
-    let kind = work[at];
-    let low = work[at + 1];
-    let high = work[at + 2];
-    put_bytes(work, k, kind, low, lowered(kind, high));
+    let kind = work[3 * k];
+    let word = word_at(work, k);
+    put_word(work, k, kind, lowered(kind, word));
 }
 
 fn zero_count(kind: u8, high: u8) -> bool
@@ -137,35 +138,27 @@ pub fn is_zero_at(work: &[u8], base: usize, i: usize) -> bool
     zero_count(work[at], work[at + 2])
 }
 
-// The ten bits that are a job's offset, moved if the frame is a job.
-fn moved(kind: u8, low: u8, high: u8, a: usize, e: usize, n: usize) -> usize
-    requires { ⌜ Below 1024 (shift-frame a e n (decode kind low high)) ⌝ }
-    ensures { λ r. ⌜ (r < 1024) × (decode kind (r % 256) (high / 4 * 4 + r / 256) ≡ shift-frame a e n (decode kind low high)) ⌝ }
+// The word of a frame whose offset, if it is a job's, is moved.
+fn moved(kind: u8, word: u16, a: usize, e: usize, n: usize) -> u16
+    requires { ⌜ Below 1024 (shift-frame a e n (decode kind (word % 256) (word / 256))) ⌝ }
+    ensures { λ r. ⌜ decode kind (r % 256) (r / 256) ≡ shift-frame a e n (decode kind (word % 256) (word / 256)) ⌝ }
 {
-    let x = (wide(low) + wide(high % 4) * 256) as usize;
+    let x = (word % 1024) as usize;
     if kind < 32 {
         if e <= x {
-            return a + n + (x - e);
+            return (a + n + (x - e)) as u16 + word / 1024 * 1024;
         }
     }
-    x
+    word
 }
 
 fn shift_at(work: &mut [u8], k: usize, a: usize, e: usize, n: usize)
     requires { ⌜ (3 * k + 3 ≤ length (now work)) × Below 1024 (shift-frame a e n (frameAt (now work) k)) ⌝ }
     ensures { λ _. ⌜ Put (now (work .entry)) k (shift-frame a e n (frameAt (now (work .entry)) k)) (now (work .exit)) ⌝ }
 {
-    let at = 3 * k;
-    let kind = work[at];
-    let high = work[at + 2];
-    let x = moved(kind, work[at + 1], high, a, e, n);
-    put_bytes(
-        work,
-        k,
-        kind,
-        (x % 256) as u8,
-        high / 4 * 4 + (x / 256) as u8,
-    );
+    let kind = work[3 * k];
+    let word = word_at(work, k);
+    put_word(work, k, kind, moved(kind, word, a, e, n));
 }
 
 // The symbols from offset a to offset e give way to n others: each job's offset goes along.

@@ -6,9 +6,10 @@ use Rattle.stack.proofs.lower_at.Tie as tie
 
 returns : tie.Need-returns
 returns c =
-    let put = c .before .before .put-bytes in
-    let low = c .before .before .before .lowered in
-    lowered _ _ (rw (← low .ensures _) (put .ensures))
+    let put = c .before .before .put-word .ensures in
+    let low = c .before .before .before .lowered .ensures in
+    let word = c .before .before .before .before .before .word-at .ensures in
+    lowered _ _ (rw (← word .0, ← word .1, ← low) put)
 
 pub lower-at-spec : {M : Type 1} → statement M
-lower-at-spec = tie.close (tie.spec (λ c. search needs) (λ c. search needs) (λ c. search needs) (λ c. search needs) (λ c. search needs) (λ c. search needs) (λ c. search needs) (λ c κs. search needs) (λ c κs. search needs) (λ c. search needs) returns)
+lower-at-spec = tie.close (tie.spec (λ c. search needs) (λ c. search needs) (λ c. search needs) (λ c κs. search needs) (λ c κs. search needs) (λ c κs. search needs) (λ c. search needs) returns)

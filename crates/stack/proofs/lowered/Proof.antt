@@ -4,13 +4,13 @@ use Rattle.stack.proofs.lowered.Statement.{statement}
 use Rattle.stack.proofs.lowered.Tie as tie
 
 returns : tie.Need-returns
-returns c = λ low. lower-job _ low _ (c .before .if1 .taken) (c .if2 .taken)
+returns c = lower-job _ _ (c .before .if1 .taken) (c .if2 .taken)
 
 returns-2 : tie.Need-returns-2
-returns-2 c = λ low. lower-zero _ low _ (c .before .if1 .taken) (c .if2 .left)
+returns-2 c = lower-zero _ _ (c .before .if1 .taken) (c .if2 .left)
 
 returns-3 : tie.Need-returns-3
-returns-3 c = λ low. lower-other _ low _ (c .if1 .left)
+returns-3 c = lower-other _ _ (c .if1 .left)
 
 pub lowered-spec : {M : Type 1} → statement M
 lowered-spec = tie.close (tie.spec returns returns-2 returns-3)

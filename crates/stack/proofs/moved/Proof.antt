@@ -1,24 +1,30 @@
 -- `stack::moved` meets its contract: a job behind the symbols that give way, a job before them, another frame. Assumes nothing.
 use native.Mathlib.Omega.{arith}
 use borrow.Author.Needs.{needs}
-use Rattle.stack.proofs.Bytes.{moved-other, moved-before, moved-behind}
+use Rattle.stack.proofs.Bytes.{moved-other, moved-before, moved-room, moved-behind}
 use Rattle.stack.proofs.moved.Statement.{statement}
 use Rattle.stack.proofs.moved.Tie as tie
 
-returns : tie.Need-returns
-returns c = moved-behind _ _ _ _ _ _ _ (omega arith) (omega arith) (c .before .if1 .taken) (c .if2 .taken) (c .before .before .before .before .pre)
-
 add-result : tie.Need-add-result
-add-result c = omega (arith, returns c .0)
+add-result c = omega (arith, moved-room _ _ _ _ _ (c .before .if1 .taken) (c .if2 .taken) (c .before .before .pre))
 
 add-result-2 : tie.Need-add-result-2
-add-result-2 c = omega (arith, returns c .0)
+add-result-2 c = omega (arith, moved-room _ _ _ _ _ (c .before .if1 .taken) (c .if2 .taken) (c .before .before .pre))
+
+cast-result : tie.Need-cast-result
+cast-result c = omega (arith, moved-room _ _ _ _ _ (c .before .if1 .taken) (c .if2 .taken) (c .before .before .pre))
+
+add-result-3 : tie.Need-add-result-3
+add-result-3 c = omega (arith, moved-room _ _ _ _ _ (c .before .if1 .taken) (c .if2 .taken) (c .before .before .pre))
+
+returns : tie.Need-returns
+returns c = moved-behind _ _ _ _ _ (c .before .if1 .taken) (c .if2 .taken) (c .before .before .pre)
 
 returns-2 : tie.Need-returns-2
-returns-2 c = moved-before _ _ _ _ _ _ _ (omega arith) (omega arith) (c .before .if1 .taken) (c .if2 .left)
+returns-2 c = moved-before _ _ _ _ _ (c .before .if1 .taken) (c .if2 .left)
 
 returns-3 : tie.Need-returns-3
-returns-3 c = moved-other _ _ _ _ _ _ _ (omega arith) (omega arith) (c .if1 .left)
+returns-3 c = moved-other _ _ _ _ _ (c .if1 .left)
 
 pub moved-spec : {M : Type 1} → statement M
-moved-spec = tie.close (tie.spec (λ c κs. search needs) (λ c κs. search needs) (λ c. search needs) (λ c. search needs) (λ c. search needs) add-result add-result-2 returns returns-2 returns-3)
+moved-spec = tie.close (tie.spec (λ c. search needs) add-result add-result-2 cast-result (λ c. search needs) add-result-3 returns returns-2 returns-3)

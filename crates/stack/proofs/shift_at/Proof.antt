@@ -1,21 +1,19 @@
 -- `stack::shift_at` meets its contract: the frame is put back with its offset moved. Assumes nothing.
-use Prim.Native.Nat.{_+_, _*_}
-use native.Mathlib.Omega.{arith}
 use borrow.Author.Needs.{needs}
 use Rattle.stack.proofs.shift_at.Statement.{statement}
 use Rattle.stack.proofs.shift_at.Tie as tie
 
-mul-put-bytes : tie.Need-mul-put-bytes
-mul-put-bytes c = omega (arith, c .before .before .slice-known4 .given (3 * c .before .before .before .before .before .before .args .k + 2))
-
-add-put-bytes : tie.Need-add-put-bytes
-add-put-bytes c = omega (arith, c .before .before .slice-known4 .given (3 * c .before .before .before .before .before .before .args .k + 2))
+moved-requires : tie.Need-moved-requires
+moved-requires c κs =
+    let word = c .before .word-at .ensures in
+    rw (word .0, word .1) (c .before .before .before .before .before .pre .1)
 
 returns : tie.Need-returns
 returns c =
-    let put = c .before .before .put-bytes in
-    let x = c .before .before .before .before .moved in
-    rw (← x .ensures .1) (put .ensures)
+    let put = c .before .before .put-word .ensures in
+    let move = c .before .before .before .moved .ensures in
+    let word = c .before .before .before .before .before .word-at .ensures in
+    rw (← word .0, ← word .1, ← move) put
 
 pub shift-at-spec : {M : Type 1} → statement M
-shift-at-spec = tie.close (tie.spec (λ c. search needs) (λ c. search needs) (λ c. search needs) (λ c. search needs) (λ c. search needs) (λ c. search needs) (λ c κs. search needs) (λ c. search needs) mul-put-bytes (λ c. search needs) add-put-bytes (λ c κs. search needs) (λ c. search needs) returns)
+shift-at-spec = tie.close (tie.spec (λ c. search needs) (λ c. search needs) (λ c κs. search needs) moved-requires (λ c κs. search needs) (λ c. search needs) returns)
