@@ -5,7 +5,7 @@ use mathlib.Core.Logic.{_≢_}
 use Prim.Native.Nat.{ℕ, zero, suc, _+_, _*_, _-_, _≤_, _<_}
 use native.Mathlib.Omega.{arith}
 use native.Mathlib.Numerals.{add-one}
-use lib.ListN.{length, getD, take, drop, replicate, length-drop}
+use lib.ListN.{length, getD, take, drop, replicate}
 use lib.Seq.{length-take-le, getD-take}
 use Rattle.paper.specs.Book.{Book, arity, steps}
 use Rattle.flat.specs.Symbols.{argument}
@@ -14,8 +14,7 @@ use Rattle.term.specs.Line.{arity-in}
 use Rattle.term.proofs.Skipping.{argument-book}
 use Rattle.stack.specs.Frames.{height}
 use Rattle.stack.specs.Stacks.{stackOf}
-use Rattle.stack.proofs.Stacks.{length-stack}
-use Rattle.units.specs.Units.{unit-of, units-of, Stacks, Area, idled, dropped, pushed, at, Change, Turned, Restacked}
+use Rattle.units.specs.Units.{unit-of, units-of, Stacks, Area, idled, dropped, at, Change, Turned, Restacked}
 use Rattle.units.proofs.Units.{length-units, unit-at, height-at, units-changed, at-same, at-else, change-then, change-as}
 use Rattle.orders.specs.Orders.{
   Row-of,
@@ -63,15 +62,16 @@ module _ {w b h w′ b′ h′ : List ℕ} {u : ℕ} {g : FlatUnit → FlatUnit}
       ∙ ap (λ (x : FlatUnit). length (x .stack)) (at-else u (units-of w b h (v + 1)) g v n)
       ∙ height-at w b h (v + 1) v l
 
--- the step k is there, or it isn't
+-- the step k is there, over what g leaves of the stack, or it isn't
 module _ {w h laid : List ℕ} (s : Stacks w h) (u o a k c : ℕ) (l : k ≤ 15) where
-  pub went : {w′ h′ : List ℕ} → getD laid (16 * o + k) 0 ≢ 0 → Restacked u (pushed (Frame.job a (k + 1) c)) w h w′ h′ →
-      Done (Row-of laid o) (goes o a k c) u w h w′ h′
-  went n p = record {
+  pub went : (g : List Frame → List Frame) {w′ h′ : List ℕ} → getD laid (16 * o + k) 0 ≢ 0 →
+      Restacked u (λ (x : FlatUnit). flat-unit (x .busy) (Frame.job a (k + 1) c ∷ g (x .stack))) w h w′ h′ →
+      Done (Row-of laid o) (λ (B : Book) (fs : List Frame). goes o a k c B (g fs)) u w h w′ h′
+  went g n p = record {
     stacks = p (replicate 8 0) (area-of s) .area .stacks;
     change = λ B r b q.
-        change-as (p b q) (λ (x : FlatUnit). flat-unit (x .busy) (goes o a k c B (x .stack)))
-        (let fs = unit-of w b h u .stack in
+        change-as (p b q) (λ (x : FlatUnit). flat-unit (x .busy) (goes o a k c B (g (x .stack))))
+        (let fs = g (unit-of w b h u .stack) in
         ap (flat-unit (unit-of w b h u .busy)) (ap (λ (j : ℕ). Frame.job a j c ∷ fs) (add-one k) ∙ sym (goes-some r k (omega arith) n a c fs)));
   }
 
@@ -87,13 +87,6 @@ module _ {w h laid : List ℕ} (s : Stacks w h) (u o a k c : ℕ) (l : k ≤ 15)
 module _ {w h h₁ : List ℕ} {u : ℕ} (s : Stacks w h) (d : Restacked u dropped w h w h₁) where
   pub drop-stacks : Stacks w h₁
   drop-stacks = d (replicate 8 0) (area-of s) .area .stacks
-
-  pub drop-height : getD h₁ u 0 ≡ getD h u 0 - 1
-  drop-height = height-same (d (replicate 8 0) (area-of s))
-      ∙ length-drop 1 (stackOf w (u * height) (getD h u 0)) ∙ ap (λ (y : ℕ). y - 1) (length-stack w (u * height) (getD h u 0))
-
-  pub drop-room : 0 < getD h u 0 → getD h₁ u 0 < height
-  drop-room l = omega (arith, drop-height, s .most u)
 
   pub drop-then : {K : Book → Type 0} {f : Book → List Frame → List Frame} {w′ h′ : List ℕ} → Done K f u w h₁ w′ h′ →
       Done K (λ (B : Book) (fs : List Frame). f B (drop 1 fs)) u w h w′ h′

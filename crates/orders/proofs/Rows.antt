@@ -103,6 +103,10 @@ module _ {laid : List ℕ} {o : ℕ} {ss : List Step} (r : Row laid o ss) (k : �
       let d = some-below z in
       ap (λ (x : ℕ). x - 24) (e ∙ code-here d) ∙ sym (ap next-count (step-some z) ∙ count-here here (drop (suc k) ss) (few-here d) (omega (arith, code-here d)))
 
+  pub next-none : (y : ℕ) → y ≡ getD laid (16 * o + k) 0 → y ≡ 0 → next-count (drop k ss) ≡ 0
+  unfolding next-count
+  next-none y e z = ap next-count (steps-none (sym e ∙ z))
+
   -- the job stays with step k, or none is left
   pub goes-some : getD laid (16 * o + k) 0 ≢ 0 → (a c : ℕ) (fs : List Frame) → proceed a (suc k) c (drop k ss) fs ≡ Frame.job a (suc k) c ∷ fs
   unfolding proceed

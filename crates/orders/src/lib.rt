@@ -29,7 +29,7 @@ pub fn code_at(laid: &[u8; 4096], o: u8, k: u8) -> u8
     laid[16 * wide(o) + wide(k)]
 }
 
-// The count of the next JOIN from step k of operator o on.
+// The count of the next JOIN from step k of operator o on; behind the last step the codes are 0.
 pub fn next_count(laid: &[u8; 4096], o: u8, k: u8) -> u8
     requires { ⌜ (k ≤ 16) × O.Coded (now laid) o ⌝ }
     ensures { λ r. ⌜ O.Counted (now (laid .entry)) o k r ⌝ }
@@ -37,6 +37,9 @@ pub fn next_count(laid: &[u8; 4096], o: u8, k: u8) -> u8
     let mut i = k;
     while i < 16 {
         let code = code_at(laid, o, i);
+        if code == 0 {
+            return 0;
+        }
         if 24 <= code {
             return code - 24;
         }
@@ -64,8 +67,8 @@ fn go_on(
     }
 }
 
-// The job on top of unit u's stack, of the term at offset a and operator o, gives way to the same with step k and count c. WHOLE with no match does
-// just this.
+// The job on top of unit u's stack, of the term at offset a and operator o, gives way to the same with step k and count c, or goes if there is no
+// such step. WHOLE with no match does just this.
 pub fn proceed(
     laid: &[u8; 4096],
     work: &mut [u8],
@@ -79,8 +82,11 @@ pub fn proceed(
     requires { ⌜ O.Ready (now work) (now heights) u a k c ⌝ }
     ensures { λ _. ⌜ O.Done (O.Row-of (now (laid .entry)) o) (O.proceeds o a k c) u (now (work .entry)) (now (heights .entry)) (now (work .exit)) (now (heights .exit)) ⌝ }
 {
-    units::drop_top(heights, u);
-    go_on(laid, work, heights, u, o, a, k, c);
+    if code_at(laid, o, k) != 0 {
+        units::set_top(work, heights, u, Frame::Job(a, k + 1, c));
+    } else {
+        units::drop_top(heights, u);
+    }
 }
 
 // The orders of the term at offset a, of operator o, are put on top of unit u's stack.
@@ -97,8 +103,8 @@ pub fn visit(laid: &[u8; 4096], work: &mut [u8], heights: &mut [u16; 8], u: usiz
     requires { ⌜ O.Ready (now work) (now heights) u a 0 0 × O.Coded (now laid) o ⌝ }
     ensures { λ _. ⌜ O.Done (O.Row-of (now (laid .entry)) o) (O.visits o a) u (now (work .entry)) (now (heights .entry)) (now (work .exit)) (now (heights .exit)) ⌝ }
 {
-    units::drop_top(heights, u);
-    enter(laid, work, heights, u, o, a);
+    let c = next_count(laid, o, 0);
+    proceed(laid, work, heights, u, o, a, 0, c);
 }
 
 // The operator at offset a.

@@ -15,7 +15,7 @@ returns : tie.Need-returns
 returns c =
     let i = c .before .before .before .before .before in
     let s = i .before .before .before in
-    went (s .pre .0) _ _ _ _ _ (s .pre .2 .order) (λ e. i .if1 .taken (i .before .code-at .ensures ∙ e)) (c .before .before .push .ensures)
+    went (s .pre .0) _ _ _ _ _ (s .pre .2 .order) (λ fs. fs) (λ e. i .if1 .taken (i .before .code-at .ensures ∙ e)) (c .before .before .push .ensures)
 
 returns-2 : tie.Need-returns-2
 returns-2 c =

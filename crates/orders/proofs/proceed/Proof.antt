@@ -1,20 +1,26 @@
--- `orders::proceed` meets its contract: the top frame is dropped, and the job put back if it has a step. Assumes nothing.
+-- `orders::proceed` meets its contract: the job stays on top if it has the step k, or it is dropped. Assumes nothing.
+use mathlib.Core.Path.{sym, _∙_}
 use borrow.Author.Needs.{needs}
-use Rattle.orders.proofs.Changes.{drop-stacks, drop-room, drop-then}
+use lib.ListN.{drop}
+use Rattle.orders.proofs.Changes.{went, went-none, drop-stacks, drop-then}
 use Rattle.orders.proofs.proceed.Statement.{statement}
 use Rattle.orders.proofs.proceed.Tie as tie
 
-go-on-requires : tie.Need-go-on-requires
-go-on-requires c κs =
-    let d = c .before .before .drop-top .ensures in
-    let s = c .before .before .before .before .before in
-    (drop-stacks (s .pre .stacks) (d _), s .pre .unit, s .pre .small, λ n. drop-room (s .pre .stacks) (d _) (s .pre .high))
-
 returns : tie.Need-returns
 returns c =
-    let g = c .before .before in
-    let d = g .before .before .before in
-    drop-then (d .before .before .before .pre .stacks) (d .drop-top .ensures _) (g .go-on .ensures)
+    let i = c .before .before .before .before .before in
+    let s = i .before .before .before in
+    went (s .pre .stacks) _ _ _ _ _ (s .pre .small .order) (drop 1) (λ e. i .if1 .taken (i .before .code-at .ensures ∙ e)) (c .before .before .set-top .ensures)
+
+returns-2 : tie.Need-returns-2
+returns-2 c =
+    let i = c .before .before in
+    let s = i .before .before .before in
+    let d = c .drop-top .ensures _ in
+    drop-then (s .pre .stacks) d
+    (went-none (drop-stacks (s .pre .stacks) d) _ _ _ _ _ (s .pre .small .order) (sym (i .before .code-at .ensures) ∙ i .if1 .left))
 
 pub proceed-spec : {M : Type 1} → statement M
-proceed-spec = tie.close (tie.spec (λ c κs. search needs) go-on-requires (λ c. search needs) returns)
+proceed-spec =
+    tie.close
+    (tie.spec (λ c κs. search needs) (λ c. search needs) (λ c κs. search needs) (λ c κs. search needs) (λ c. search needs) returns returns-2)
