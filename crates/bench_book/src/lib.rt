@@ -13,14 +13,14 @@ pub extern "C" fn bench_book_read(
     laid: &mut [u8; 4096],
     lefts: &mut [u32; 256],
     rights: &mut [u32; 256],
-    roots: &mut [u8; 256],
+    chain: &mut [u8; 768],
 ) -> u8
-    requires { ⌜ (length (now arities) ≡ 256) × (length (now laid) ≡ 4096) × Lent (now lefts) (now rights) (now roots) ⌝ }
+    requires { ⌜ (length (now arities) ≡ 256) × (length (now laid) ≡ 4096) × Lent (now lefts) (now rights) ⌝ }
 {
     if 65536 < bytes.len() {
         return 255;
     }
-    match book::read_book(bytes, arities, laid, lefts, rights, roots) {
+    match book::read_book(bytes, arities, laid, lefts, rights, chain) {
         Book::Read(_, _) => 0,
         Book::Refused(k) => k,
     }

@@ -14,13 +14,13 @@ pub extern "C" fn bench_rule_rewrite(
     arities: &[u8; 256],
     lefts: &[u32; 256],
     rights: &[u32; 256],
-    roots: &[u8; 256],
+    chain: &[u8; 768],
     symbols: &mut [u8; 1024],
     len: usize,
     offset: usize,
     scratch: &mut [u8; 1024],
 ) -> usize
-    requires { ⌜ (length (now bytes) ≤ 65536) × Ready (now bytes) (now arities) (now lefts) (now rights) (now roots) n m × (length (now symbols) ≡ 1024) × (len ≤ 1024) × (offset ≤ len) × (length (now scratch) ≡ 1024) ⌝ }
+    requires { ⌜ (length (now bytes) ≤ 65536) × Ready (now bytes) (now arities) (now lefts) (now rights) (now chain) n m × (length (now symbols) ≡ 1024) × (len ≤ 1024) × (offset ≤ len) × (length (now scratch) ≡ 1024) ⌝ }
 {
     match rewrite::rewrite(
         bytes,
@@ -29,7 +29,7 @@ pub extern "C" fn bench_rule_rewrite(
         arities,
         lefts,
         rights,
-        roots,
+        chain,
         symbols,
         len,
         offset,

@@ -11,7 +11,7 @@ use Rattle.paper.specs.Bits.{toBits, bitsOf}
 use Rattle.paper.proofs.Bytes.{length-bitsOf, bitsOf-append}
 
 -- the m bits above the n low ones, and these
-split : (m n v : ℕ) → toBits (m + n) v ≡ toBits m (v / 2 ^ n) ++ toBits n v
+pub split : (m n v : ℕ) → toBits (m + n) v ≡ toBits m (v / 2 ^ n) ++ toBits n v
 unfolding toBits
 split zero n v = ap (λ (k : ℕ). toBits k v) (zero-add n)
 split (suc m) n v =
@@ -28,7 +28,7 @@ low-bits k (suc n) v =
     rw e (ap₂ (λ (x : ℕ) (xs : List ℕ). x ∷ xs) bit (low-bits (k + 1) n v))
 
 -- two numbers side by side
-two : (m n h l : ℕ) → l < 2 ^ n → toBits (m + n) (h * 2 ^ n + l) ≡ toBits m h ++ toBits n l
+pub two : (m n h l : ℕ) → l < 2 ^ n → toBits (m + n) (h * 2 ^ n + l) ≡ toBits m h ++ toBits n l
 two m n h l k =
     let x = h * 2 ^ n + l in
     let e : toBits n x ≡ toBits n l =

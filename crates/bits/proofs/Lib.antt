@@ -1,3 +1,4 @@
+pub mod Ahead
 pub mod Bytes
 pub mod Splice
 pub mod Place

@@ -3,7 +3,7 @@
 ghost use mathlib.Core.Path.{_≡_};
 ghost use Prim.Native.Nat.{_+_, _-_, _*_, _/_, _%_, _^_, _<_, _≤_};
 ghost use lib.ListN.{length, getD, set};
-ghost use Rattle.bits.specs.Field.{Answers, Written};
+ghost use Rattle.bits.specs.Field.{Answers, Nine, Written};
 ghost use Rattle.bits.specs.Window.{Window, renewed, set3};
 
 // A field's value and the position behind it, or that the bits run out.
@@ -67,6 +67,15 @@ pub fn field(s: &[u8], at: usize, n: usize) -> Bits
     }
     let w = window(s, at / 8);
     Bits::Value(middle(w, 24 - at % 8 - n, n), at + n)
+}
+
+// The nine bits at position at, as a number; past the end they count as 0. They stand in two bytes.
+pub fn nine(s: &[u8], at: usize) -> usize
+    ensures { λ r. ⌜ Nine (now (s .entry)) at r ⌝ }
+{
+    let i = at / 8;
+    let w = byte_at(s, i) * 256 + byte_at(s, i + 1);
+    w / power(7 - at % 8) % 512
 }
 
 // Stores a byte, where there is one at i.

@@ -6,11 +6,14 @@ use native.Mathlib.Omega.{arith}
 use lib.ListN.{length, getD, set, length-append, length-set, List·getD-append}
 use lib.Seq.{getD-at, getD-set-same, getD-set-other}
 use borrow.Author.Count.{below-more}
+use Rattle.paper.specs.Tree.{label}
 use Rattle.paper.specs.Strategy.{layout}
-use Rattle.paper.specs.Book.{Operator, Rule}
+use Rattle.paper.specs.Book.{Operator, Symbol, Rule}
 use Rattle.strategy.specs.Rows.{row, set-row, row-at}
 use Rattle.strategy.proofs.Rows.{row-length, row-set, row-other}
-use Rattle.book.specs.Tables.{OperatorIn, RuleIn, Operators, Rules}
+use Rattle.book.specs.Tables.{OperatorIn, RuleIn, Operators}
+use Rattle.book.specs.Answer.{Link, Growing}
+use Rattle.book.proofs.Chains.{link-grows}
 
 -- what holds of each entry and of one more, where what is kept of an entry (Q) follows from what was known of it (P)
 snoc-each : {A : Type 0} (d : A) (xs : List A) (x : A) (n : ℕ) (P Q : ℕ → A → Type 0) → length xs ≡ n →
@@ -49,35 +52,37 @@ operators-grow ops op o arities laid arities′ laid′ l short f g long t =
 
 -- Rules
 
-pub rules-grow : (bytes : List ℕ) (rules : List Rule) (rule : Rule) (i l r k : ℕ) (lefts rights roots lefts′ rights′ roots′ : List ℕ) →
-    i < 256 → RuleIn bytes rule l r k → lefts′ ≡ set lefts i l → rights′ ≡ set rights i r → roots′ ≡ set roots i k →
-    Rules bytes rules i lefts rights roots → Rules bytes (rules ++ (rule ∷ [])) (i + 1) lefts′ rights′ roots′
-rules-grow bytes rules rule i l r k lefts rights roots lefts′ rights′ roots′ b here el er ek t =
+pub rules-grow : (bytes : List ℕ) (rules : List Rule) (rule : Rule) (i l r root : ℕ) (lefts rights chain lefts′ rights′ chain′ : List ℕ) →
+    i < 255 → RuleIn bytes rule l r → label (rule .left) ≡ Symbol.operator root → lefts′ ≡ set lefts i l → rights′ ≡ set rights i r → Link chain i root chain′ →
+    Growing bytes rules i lefts rights chain → Growing bytes (rules ++ (rule ∷ [])) (i + 1) lefts′ rights′ chain′
+rules-grow bytes rules rule i l r root lefts rights chain lefts′ rights′ chain′ b here e el er k g =
+    let t = g .rules-in in
+    let (chained, last, long) = link-grows rules rule i root chain chain′ (t .count) b e k (g .long) (t .chained) (g .last) in
     record {
-      count = length-append rules (rule ∷ []) ∙ ap (λ (j : ℕ). j + 1) (t .count);
-      each = snoc-each _ rules rule i
-          (λ j a. RuleIn bytes a (getD lefts j 0) (getD rights j 0) (getD roots j 0))
-          (λ j a. RuleIn bytes a (getD lefts′ j 0) (getD rights′ j 0) (getD roots′ j 0))
-          (t .count) (t .each)
-          (λ j a c p. rw (
-            el,
-            er,
-            ek,
-            getD-set-other lefts i j l 0 (λ q. omega arith),
-            getD-set-other rights i j r 0 (λ q. omega arith),
-            getD-set-other roots i j k 0 (λ q. omega arith),
-          ) p)
-          (rw (
-            el,
-            er,
-            ek,
-            getD-set-same lefts i l 0 (omega (arith, t .lent .lefts-long)),
-            getD-set-same rights i r 0 (omega (arith, t .lent .rights-long)),
-            getD-set-same roots i k 0 (omega (arith, t .lent .roots-long)),
-          ) here);
-      lent = record {
-        lefts-long = ap length el ∙ length-set lefts i l ∙ t .lent .lefts-long;
-        rights-long = ap length er ∙ length-set rights i r ∙ t .lent .rights-long;
-        roots-long = ap length ek ∙ length-set roots i k ∙ t .lent .roots-long;
+      rules-in = record {
+        count = length-append rules (rule ∷ []) ∙ ap (λ (j : ℕ). j + 1) (t .count);
+        each = snoc-each _ rules rule i
+            (λ j a. RuleIn bytes a (getD lefts j 0) (getD rights j 0))
+            (λ j a. RuleIn bytes a (getD lefts′ j 0) (getD rights′ j 0))
+            (t .count) (t .each)
+            (λ j a c p. rw (
+              el,
+              er,
+              getD-set-other lefts i j l 0 (λ q. omega arith),
+              getD-set-other rights i j r 0 (λ q. omega arith),
+            ) p)
+            (rw (
+              el,
+              er,
+              getD-set-same lefts i l 0 (omega (arith, t .lent .lefts-long)),
+              getD-set-same rights i r 0 (omega (arith, t .lent .rights-long)),
+            ) here);
+        lent = record {
+          lefts-long = ap length el ∙ length-set lefts i l ∙ t .lent .lefts-long;
+          rights-long = ap length er ∙ length-set rights i r ∙ t .lent .rights-long;
+        };
+        chained = chained;
       };
+      last = last;
+      long = long;
     }

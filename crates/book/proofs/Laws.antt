@@ -1,4 +1,4 @@
--- What the tables of a book tell a run: arities, orders, roots, and sides symbol by symbol; and that a refusal is answered exactly where the
+-- What the tables of a book tell a run: arities, orders, the chains of rules, and sides symbol by symbol; and that a refusal is answered exactly where the
 -- paper refuses. Assumes nothing.
 use mathlib.Core.List.{List, [], _∷_, _++_, append-assoc}
 use mathlib.Core.Path.{_≡_, sym, ap, _∙_}
@@ -7,7 +7,7 @@ use native.Mathlib.Nat.{le-of-lt, le-trans}
 use native.Mathlib.Omega.{arith}
 use lib.ListN.{length, getD}
 use Rattle.paper.specs.Result.{refused, Read, return}
-use Rattle.paper.specs.Tree.{label, preorder}
+use Rattle.paper.specs.Tree.{preorder}
 use Rattle.paper.specs.Strategy.{Step}
 use Rattle.paper.specs.Book as P
 use Rattle.paper.specs.Book.{Operator, Symbol, arity, operatorAt, steps}
@@ -37,7 +37,7 @@ NextIs bytes s ss (Sy.Symbol.Operator o next) = (s ≡ Symbol.operator o) × Sta
 NextIs bytes s ss (Sy.Symbol.Variable v next) = (s ≡ Symbol.variable v) × Stand bytes next ss
 NextIs bytes s ss (Sy.Symbol.Refused k) = ⊥
 
-module _ {bytes arities laid lefts rights roots : List ℕ} {n m : ℕ} {B : P.Book} (T : Tables bytes arities laid lefts rights roots n m B) where
+module _ {bytes arities laid lefts rights chain : List ℕ} {n m : ℕ} {B : P.Book} (T : Tables bytes arities laid lefts rights chain n m B) where
   pub arity-at : (o : ℕ) → o < n → getD arities o 0 ≡ arity B o
   arity-at o l = T .operators .each o l .arity-is
 
@@ -57,12 +57,9 @@ module _ {bytes arities laid lefts rights roots : List ℕ} {n m : ℕ} {B : P.B
   pub steps-end : (o k : ℕ) → o < n → length (steps B o) ≤ k → k < 16 → getD laid (16 * o + k) 0 ≡ 0
   steps-end o k l h b = step-none laid o (steps B o) (steps-at o l) k h b
 
-  -- rule i: it is good, its root, and where its sides stand
+  -- rule i: it is good, and where its sides stand
   pub rule-good : (i : ℕ) → i < m → GoodRule (B .operators) (ruleAt (B .rules) i)
   rule-good i l = let c = T .rules .count in all-at _ _ (B .rules) i (T .good .rules) (omega arith)
-
-  pub root-at : (i : ℕ) → i < m → label (ruleAt (B .rules) i .left) ≡ Symbol.operator (getD roots i 0)
-  root-at i l = T .rules .each i l .root-is
 
   pub left-at : (i : ℕ) → i < m → Stand bytes (getD lefts i 0) (preorder (ruleAt (B .rules) i .left))
   left-at i l = T .rules .each i l .left-stands
@@ -89,10 +86,10 @@ module _ {bytes arities laid lefts rights roots : List ℕ} {n m : ℕ} {B : P.B
       go (Sy.Symbol.Refused k) e = refused-accepted e
 
 -- a refusal of the paper is the answer
-pub refused-exactly : {bytes arities laid lefts rights roots : List ℕ} {r : D.Book} {k : ℕ} → BookAt bytes arities laid lefts rights roots r →
+pub refused-exactly : {bytes arities laid lefts rights chain : List ℕ} {r : D.Book} {k : ℕ} → BookAt bytes arities laid lefts rights chain r →
     readBook bytes ≡ refused k → r ≡ D.Book.Refused k
-refused-exactly {bytes} {arities} {laid} {lefts} {rights} {roots} {r} {k} h e = go r (h .is)
+refused-exactly {bytes} {arities} {laid} {lefts} {rights} {chain} {r} {k} h e = go r (h .is)
   where
-    go : (r : D.Book) → BookIs bytes arities laid lefts rights roots r → r ≡ D.Book.Refused k
+    go : (r : D.Book) → BookIs bytes arities laid lefts rights chain r → r ≡ D.Book.Refused k
     go (D.Book.Read n m) q = absurd (refused-accepted (sym e ∙ q .is))
     go (D.Book.Refused j) q = let p : j ≡ k = cc in ap D.Book.Refused p

@@ -1,4 +1,5 @@
 pub mod Readers
+pub mod Chains
 pub mod Grow
 pub mod Operators
 pub mod Rules

@@ -78,8 +78,8 @@ read-end-is B xs = go (ltb (length xs) 8) (all-zero xs)
 abbrev book-of : List Operator → List Rule → P.Book
 book-of ops rules = record { operators = ops; rules = rules }
 
-module _ (bytes : List ℕ) (at n : ℕ) (arities lefts rights roots : List ℕ) where
-  pub tail-out : field 8 (bitsAt bytes at) ≡ refused 1 → TailAt bytes at n arities lefts rights roots (D.Book.Refused 1)
+module _ (bytes : List ℕ) (at n : ℕ) (arities lefts rights chain : List ℕ) where
+  pub tail-out : field 8 (bitsAt bytes at) ≡ refused 1 → TailAt bytes at n arities lefts rights chain (D.Book.Refused 1)
   unfolding read-tail
   tail-out h = record { is = λ ops t. bind-refused (field 8) _ (bitsAt bytes at) 1 h }
 
@@ -88,11 +88,11 @@ module _ (bytes : List ℕ) (at n : ℕ) (arities lefts rights roots : List ℕ)
     unfolding read-tail
     tail-rules ops = bind-return (field 8) _ (bitsAt bytes at) (bitsAt bytes p) m (g .is)
 
-    pub tail-refused : (k : ℕ) → RulesAt bytes p n arities m lefts rights roots (Part.Refused k) →
-        TailAt bytes at n arities lefts rights roots (D.Book.Refused k)
+    pub tail-refused : (k : ℕ) → RulesAt bytes p n arities m lefts rights chain (Part.Refused k) →
+        TailAt bytes at n arities lefts rights chain (D.Book.Refused k)
     tail-refused k q = record { is = λ ops t. tail-rules ops ∙ bind-refused (repeat m (read-rule ops)) _ (bitsAt bytes p) k (q .are ops t) }
 
-    module _ (end : ℕ) (q : RulesAt bytes p n arities m lefts rights roots (Part.Read end)) where
+    module _ (end : ℕ) (q : RulesAt bytes p n arities m lefts rights chain (Part.Read end)) where
       tail-end : (ops : List Operator) (t : Table ops n arities) → read-tail ops (bitsAt bytes at) ≡
           if (ended (bitsAt bytes end)) (return (book-of ops (q .are ops t .rules)) (bitsAt bytes end)) (refuse 9 (bitsAt bytes end))
       tail-end ops t =
@@ -100,7 +100,7 @@ module _ (bytes : List ℕ) (at n : ℕ) (arities lefts rights roots : List ℕ)
           ∙ bind-return (repeat m (read-rule ops)) _ (bitsAt bytes p) (bitsAt bytes end) (q .are ops t .rules) (q .are ops t .are)
           ∙ read-end-is _ (bitsAt bytes end)
 
-      pub tail-ends : (b : Bool) → EndsAt bytes end b → b ≡ true → TailAt bytes at n arities lefts rights roots (D.Book.Read n m)
+      pub tail-ends : (b : Bool) → EndsAt bytes end b → b ≡ true → TailAt bytes at n arities lefts rights chain (D.Book.Read n m)
       tail-ends b e f = record {
         is = λ ops t. (
           refl,
@@ -108,12 +108,12 @@ module _ (bytes : List ℕ) (at n : ℕ) (arities lefts rights roots : List ℕ)
             rules = q .are ops t .rules;
             left = bitsAt bytes end;
             is = rw (sym (e .is) ∙ f) at (tail-end ops t);
-            tables = q .are ops t .tables;
+            tables = q .are ops t .tables .rules-in;
           },
         );
       }
 
-      pub tail-goes-on : (b : Bool) → EndsAt bytes end b → b ≡ false → TailAt bytes at n arities lefts rights roots (D.Book.Refused 9)
+      pub tail-goes-on : (b : Bool) → EndsAt bytes end b → b ≡ false → TailAt bytes at n arities lefts rights chain (D.Book.Refused 9)
       unfolding refuse
       tail-goes-on b e f = record { is = λ ops t. rw (sym (e .is) ∙ f) at (tail-end ops t) }
 
@@ -122,7 +122,7 @@ module _ (bytes : List ℕ) (at n : ℕ) (arities lefts rights roots : List ℕ)
 abbrev read-parts : Reader P.Book
 read-parts = read-count >>= (λ n. repeat n read-operator >>= read-tail)
 
-module _ (bytes arities laid lefts rights roots : List ℕ) where
+module _ (bytes arities laid lefts rights chain : List ℕ) where
   book-parts : readBook bytes ≡ then (read-parts (bitsAt bytes 0)) (λ r. accepted (r .value))
   unfolding readBook read-tail
   book-parts = refl
@@ -131,7 +131,7 @@ module _ (bytes arities laid lefts rights roots : List ℕ) where
   unfolding then
   refused-by k h = book-parts ∙ ap (λ (z : Result (Read P.Book)). then z (λ r. accepted (r .value))) h
 
-  pub count-out : field 8 (bitsAt bytes 0) ≡ refused 1 → BookAt bytes arities laid lefts rights roots (D.Book.Refused 1)
+  pub count-out : field 8 (bitsAt bytes 0) ≡ refused 1 → BookAt bytes arities laid lefts rights chain (D.Book.Refused 1)
   unfolding read-count
   count-out h = record { is = refused-by 1 (bind-refused read-count _ (bitsAt bytes 0) 1 (bind-refused (field 8) _ (bitsAt bytes 0) 1 h)) }
 
@@ -140,7 +140,7 @@ module _ (bytes arities laid lefts rights roots : List ℕ) where
     unfolding read-count
     count-is = bind-return (field 8) _ (bitsAt bytes 0) (bitsAt bytes p) n (g .is)
 
-    pub count-zero : n ≡ 0 → BookAt bytes arities laid lefts rights roots (D.Book.Refused 2)
+    pub count-zero : n ≡ 0 → BookAt bytes arities laid lefts rights chain (D.Book.Refused 2)
     unfolding refuse
     count-zero e = record { is = refused-by 2 (bind-refused read-count _ (bitsAt bytes 0) 2 (count-is ∙ rw (eqb-true n 0 e))) }
 
@@ -148,11 +148,11 @@ module _ (bytes arities laid lefts rights roots : List ℕ) where
       book-operators : read-parts (bitsAt bytes 0) ≡ (repeat n read-operator >>= read-tail) (bitsAt bytes p)
       book-operators = bind-return read-count _ (bitsAt bytes 0) (bitsAt bytes p) n (count-is ∙ rw (eqb-false n 0 some))
 
-      pub operators-refused : (k : ℕ) → OperatorsAt bytes p n arities laid (Part.Refused k) → BookAt bytes arities laid lefts rights roots (D.Book.Refused k)
+      pub operators-refused : (k : ℕ) → OperatorsAt bytes p n arities laid (Part.Refused k) → BookAt bytes arities laid lefts rights chain (D.Book.Refused k)
       operators-refused k q = record { is = refused-by k (book-operators ∙ bind-refused (repeat n read-operator) read-tail (bitsAt bytes p) k (q .are)) }
 
-      pub book-is : (next : ℕ) (r : D.Book) → OperatorsAt bytes p n arities laid (Part.Read next) → TailAt bytes next n arities lefts rights roots r →
-          BookAt bytes arities laid lefts rights roots r
+      pub book-is : (next : ℕ) (r : D.Book) → OperatorsAt bytes p n arities laid (Part.Read next) → TailAt bytes next n arities lefts rights chain r →
+          BookAt bytes arities laid lefts rights chain r
       unfolding then return
       book-is next r q t = record { is = go r (t .is (q .are .operators) (table-of (q .are .tables))) }
         where
@@ -162,7 +162,7 @@ module _ (bytes arities laid lefts rights roots : List ℕ) where
           tail : read-parts (bitsAt bytes 0) ≡ read-tail ops (bitsAt bytes next)
           tail = book-operators ∙ bind-return (repeat n read-operator) read-tail (bitsAt bytes p) (bitsAt bytes next) ops (q .are .are)
 
-          go : (r : D.Book) → TailIs ops bytes next n lefts rights roots r → BookIs bytes arities laid lefts rights roots r
+          go : (r : D.Book) → TailIs ops bytes next n lefts rights chain r → BookIs bytes arities laid lefts rights chain r
           go (D.Book.Refused k) e = refused-by k (tail ∙ e)
           go (D.Book.Read n′ m) (e, x) =
               let B : P.Book = book-of ops (x .rules) in

@@ -4,7 +4,7 @@ use mathlib.Core.Path.{_≡_, refl, ap, subst}
 use Prim.Native.Nat.{ℕ, _+_, _*_, _^_, _≤_, _<_}
 use native.Mathlib.Nat.{le-antisymm}
 use native.Mathlib.Omega.{arith}
-use lib.ListN.{length, set, length-append}
+use lib.ListN.{length, set, replicate, length-append}
 use Rattle.paper.specs.Result.{repeat}
 use Rattle.paper.specs.Bits.{toBits}
 use Rattle.paper.specs.Tree.{node, preorder, preorders}
@@ -16,9 +16,10 @@ use Rattle.side.specs.Side as S
 use Rattle.side.specs.Side.{bitsAt}
 use Rattle.side.specs.declared.Rule as Ru
 use Rattle.book.specs.Tables.{Stand, RuleIn, Lent}
-use Rattle.book.specs.Answer.{Tabled, RuleAt, RulesAt}
+use Rattle.book.specs.Answer.{Tabled, Link, RuleAt, RulesAt}
 use Rattle.book.specs.declared.Part.{Part}
 use Rattle.book.proofs.Readers.{repeat-next, repeat-stops}
+use Rattle.book.proofs.Chains.{chain-none}
 use Rattle.book.proofs.Grow.{rules-grow}
 
 -- a side that stands at a position is inside the book
@@ -41,28 +42,27 @@ stand-inside bytes at (node s ts) p =
 
 -- a rule that is read stands where it was read
 pub rule-stands : (ops : List Operator) (bytes : List ℕ) (at root right next : ℕ) (q : S.RuleRead ops bytes at root right next) →
-    RuleIn bytes (q .rule) at right root
+    RuleIn bytes (q .rule) at right
 unfolding write-side
 rule-stands ops bytes at root right next q = record {
   left-stands = record { rest = bitsAt bytes right; is = q .left-written };
   right-stands = record { rest = bitsAt bytes next; is = q .right-written };
-  root-is = q .root-is;
 }
 
-module _ (bytes : List ℕ) (at n : ℕ) (arities : List ℕ) (i : ℕ) (lefts rights roots lefts′ rights′ roots′ : List ℕ) where
+module _ (bytes : List ℕ) (at n : ℕ) (arities : List ℕ) (i : ℕ) (lefts rights chain lefts′ rights′ chain′ : List ℕ) where
   pub rule-refused : (k : ℕ) → S.RuleAt bytes at n arities (Ru.Rule.Refused k) →
-      RuleAt bytes at n arities i lefts rights roots lefts′ rights′ roots′ (Part.Refused k)
+      RuleAt bytes at n arities i lefts rights chain lefts′ rights′ chain′ (Part.Refused k)
   rule-refused k q = record { is = q .is }
 
-  pub rule-read : (root right next l r : ℕ) → S.RuleAt bytes at n arities (Ru.Rule.Read root right next) → i < 256 → l ≡ at → r ≡ right →
-      lefts′ ≡ set lefts i l → rights′ ≡ set rights i r → roots′ ≡ set roots i root →
-      RuleAt bytes at n arities i lefts rights roots lefts′ rights′ roots′ (Part.Read next)
+  pub rule-read : (root right next l r : ℕ) → S.RuleAt bytes at n arities (Ru.Rule.Read root right next) → i < 255 → l ≡ at → r ≡ right →
+      lefts′ ≡ set lefts i l → rights′ ≡ set rights i r → Link chain i root chain′ →
+      RuleAt bytes at n arities i lefts rights chain lefts′ rights′ chain′ (Part.Read next)
   rule-read root right next l r q b el er f g h = record {
     is = λ ops t. let s = q .is ops t in record {
       rule = s .rule;
       is = s .is;
-      tables = λ rules. rules-grow bytes rules (s .rule) i l r root lefts rights roots lefts′ rights′ roots′ b
-          (rw (el, er) (rule-stands ops bytes at root right next s)) f g h;
+      tables = λ rules. rules-grow bytes rules (s .rule) i l r root lefts rights chain lefts′ rights′ chain′ b
+          (rw (el, er) (rule-stands ops bytes at root right next s)) (s .root-is) f g h;
     };
   }
 
@@ -78,24 +78,30 @@ rule-inside bytes at n arities root right next t l q =
 
 -- One by one
 
-module _ (bytes : List ℕ) (at n : ℕ) (arities lefts rights roots : List ℕ) where
-  pub rules-none : Lent lefts rights roots → RulesAt bytes at n arities 0 lefts rights roots (Part.Read at)
+module _ (bytes : List ℕ) (at n : ℕ) (arities lefts rights chain : List ℕ) where
+  pub rules-none : Lent lefts rights → chain ≡ replicate 768 0 → RulesAt bytes at n arities 0 lefts rights chain (Part.Read at)
   unfolding repeat
-  rules-none h = record {
-    are = λ ops t. record {
-      rules = [];
-      are = refl;
-      tables = record { count = refl; each = λ i l. absurd (omega arith); lent = h };
-    };
-  }
+  rules-none h e =
+      let (chained, last, long) = chain-none chain e in
+      record {
+        are = λ ops t. record {
+          rules = [];
+          are = refl;
+          tables = record {
+            rules-in = record { count = refl; each = λ i l. absurd (omega arith); lent = h; chained = chained };
+            last = last;
+            long = long;
+          };
+        };
+      }
 
-  pub rules-all : (i m p : ℕ) → i ≤ m → m ≤ i → RulesAt bytes at n arities i lefts rights roots (Part.Read p) →
-      RulesAt bytes at n arities m lefts rights roots (Part.Read p)
-  rules-all i m p h k = subst (λ (j : ℕ). RulesAt bytes at n arities j lefts rights roots (Part.Read p)) (le-antisymm h k)
+  pub rules-all : (i m p : ℕ) → i ≤ m → m ≤ i → RulesAt bytes at n arities i lefts rights chain (Part.Read p) →
+      RulesAt bytes at n arities m lefts rights chain (Part.Read p)
+  rules-all i m p h k = subst (λ (j : ℕ). RulesAt bytes at n arities j lefts rights chain (Part.Read p)) (le-antisymm h k)
 
-  module _ (i p : ℕ) (lefts′ rights′ roots′ : List ℕ) (h : RulesAt bytes at n arities i lefts rights roots (Part.Read p)) where
-    pub rules-next : (next : ℕ) → RuleAt bytes p n arities i lefts rights roots lefts′ rights′ roots′ (Part.Read next) →
-        RulesAt bytes at n arities (i + 1) lefts′ rights′ roots′ (Part.Read next)
+  module _ (i p : ℕ) (lefts′ rights′ chain′ : List ℕ) (h : RulesAt bytes at n arities i lefts rights chain (Part.Read p)) where
+    pub rules-next : (next : ℕ) → RuleAt bytes p n arities i lefts rights chain lefts′ rights′ chain′ (Part.Read next) →
+        RulesAt bytes at n arities (i + 1) lefts′ rights′ chain′ (Part.Read next)
     rules-next next q = record {
       are = λ ops t.
           let x = h .are ops t in
@@ -107,8 +113,8 @@ module _ (bytes : List ℕ) (at n : ℕ) (arities lefts rights roots : List ℕ)
           };
     }
 
-    pub rules-stop : (m k : ℕ) → i < m → RuleAt bytes p n arities i lefts rights roots lefts′ rights′ roots′ (Part.Refused k) →
-        RulesAt bytes at n arities m lefts′ rights′ roots′ (Part.Refused k)
+    pub rules-stop : (m k : ℕ) → i < m → RuleAt bytes p n arities i lefts rights chain lefts′ rights′ chain′ (Part.Refused k) →
+        RulesAt bytes at n arities m lefts′ rights′ chain′ (Part.Refused k)
     rules-stop m k l q = record {
       are = λ ops t. let x = h .are ops t in repeat-stops (read-rule ops) i (bitsAt bytes at) (bitsAt bytes p) (x .rules) (x .are) m k l (q .is ops t);
     }

@@ -3,10 +3,10 @@ use bits::Bits;
 use side::Rule;
 use strategy::Strategy;
 ghost use mathlib.Core.Path.{_≡_};
-ghost use Prim.Native.Nat.{_<_, _≤_, _^_};
+ghost use Prim.Native.Nat.{_+_, _<_, _≤_, _^_};
 ghost use lib.ListN.{length};
 ghost use Rattle.book.specs.Tables.{Lent};
-ghost use Rattle.book.specs.Answer.{OperatorAt, OperatorsAt, Tabled, RuleAt, RulesAt, EndsAt, TailAt, BookAt};
+ghost use Rattle.book.specs.Answer.{OperatorAt, OperatorsAt, Tabled, entrance, Link, RuleAt, RulesAt, EndsAt, TailAt, BookAt};
 
 // How many operators and rules there are, or a refusal.
 pub enum Book {
@@ -93,7 +93,42 @@ fn read_operators(
     Part::Read(p)
 }
 
-// Rule i, at position at: the positions of its sides and its root.
+fn byte(x: u8) -> usize
+    ensures { λ r. ⌜ (r ≡ x) × (r < 256) ⌝ }
+{
+    x as usize
+}
+
+// A rule's number in the chain: its index plus 1.
+fn number(i: usize) -> u8
+    requires { ⌜ i < 255 ⌝ }
+    ensures { λ r. ⌜ r ≡ i + 1 ⌝ }
+{
+    (i + 1) as u8
+}
+
+// Where a rule enters the chain of its root, by the number of the last rule of that root.
+fn place_behind(last: usize, root: usize) -> usize
+    requires { ⌜ (last < 256) × (root < 256) ⌝ }
+    ensures { λ r. ⌜ (r ≡ entrance last root) × (r < 512) ⌝ }
+{
+    if last == 0 { root } else { 255 + last }
+}
+
+// Rule i becomes the last in the chain of its root.
+fn link(chain: &mut [u8; 768], i: usize, root: u8)
+    requires { ⌜ i < 255 ⌝ }
+    ensures { λ _. ⌜ Link (now (chain .entry)) i root (now (chain .exit)) ⌝ }
+{
+    let r = byte(root);
+    let at = place_behind(byte(chain[512 + r]), r);
+    let k = number(i);
+    chain[256 + i] = 0;
+    chain[at] = k;
+    chain[512 + r] = k;
+}
+
+// Rule i, at position at: the positions of its sides, and its place in the chain of its root.
 fn read_rule(
     book: &[u8],
     at: usize,
@@ -102,18 +137,18 @@ fn read_rule(
     i: usize,
     lefts: &mut [u32; 256],
     rights: &mut [u32; 256],
-    roots: &mut [u8; 256],
+    chain: &mut [u8; 768],
 ) -> Part
-    requires { ⌜ (length (now book) ≤ 65536) × (i < 256) × Tabled n (now arities) ⌝ }
-    ensures { λ r. ⌜ RuleAt (now (book .entry)) at n (now (arities .entry)) i (now (lefts .entry)) (now (rights .entry)) (now (roots .entry))
-        (now (lefts .exit)) (now (rights .exit)) (now (roots .exit)) r ⌝ }
+    requires { ⌜ (length (now book) ≤ 65536) × (i < 255) × Tabled n (now arities) ⌝ }
+    ensures { λ r. ⌜ RuleAt (now (book .entry)) at n (now (arities .entry)) i (now (lefts .entry)) (now (rights .entry)) (now (chain .entry))
+        (now (lefts .exit)) (now (rights .exit)) (now (chain .exit)) r ⌝ }
 {
     match side::read_rule(book, at, n, arities) {
         Rule::Refused(e) => Part::Refused(e),
         Rule::Read(root, right, next) => {
             lefts[i] = place(at);
             rights[i] = place(right);
-            roots[i] = root;
+            link(chain, i, root);
             Part::Read(next)
         }
     }
@@ -128,15 +163,16 @@ fn read_rules(
     m: usize,
     lefts: &mut [u32; 256],
     rights: &mut [u32; 256],
-    roots: &mut [u8; 256],
+    chain: &mut [u8; 768],
 ) -> Part
-    requires { ⌜ (length (now book) ≤ 65536) × (m ≤ 256) × Tabled n (now arities) × Lent (now lefts) (now rights) (now roots) ⌝ }
-    ensures { λ r. ⌜ RulesAt (now (book .entry)) at n (now (arities .entry)) m (now (lefts .exit)) (now (rights .exit)) (now (roots .exit)) r ⌝ }
+    requires { ⌜ (length (now book) ≤ 65536) × (m ≤ 255) × Tabled n (now arities) × Lent (now lefts) (now rights) ⌝ }
+    ensures { λ r. ⌜ RulesAt (now (book .entry)) at n (now (arities .entry)) m (now (lefts .exit)) (now (rights .exit)) (now (chain .exit)) r ⌝ }
 {
+    *chain = [0; 768];
     let mut p = at;
     let mut i = 0;
     while i < m {
-        match read_rule(book, p, n, arities, i, lefts, rights, roots) {
+        match read_rule(book, p, n, arities, i, lefts, rights, chain) {
             Part::Refused(e) => {
                 return Part::Refused(e);
             }
@@ -172,16 +208,16 @@ fn read_tail(
     arities: &[u8; 256],
     lefts: &mut [u32; 256],
     rights: &mut [u32; 256],
-    roots: &mut [u8; 256],
+    chain: &mut [u8; 768],
 ) -> Book
-    requires { ⌜ (length (now book) ≤ 65536) × Tabled n (now arities) × Lent (now lefts) (now rights) (now roots) ⌝ }
-    ensures { λ r. ⌜ TailAt (now (book .entry)) at n (now (arities .entry)) (now (lefts .exit)) (now (rights .exit)) (now (roots .exit)) r ⌝ }
+    requires { ⌜ (length (now book) ≤ 65536) × Tabled n (now arities) × Lent (now lefts) (now rights) ⌝ }
+    ensures { λ r. ⌜ TailAt (now (book .entry)) at n (now (arities .entry)) (now (lefts .exit)) (now (rights .exit)) (now (chain .exit)) r ⌝ }
 {
     let Bits::Value(count, p) = reader::field(book, at, 8) else {
         return Book::Refused(1);
     };
     let m = wide(count);
-    match read_rules(book, p, n, arities, m, lefts, rights, roots) {
+    match read_rules(book, p, n, arities, m, lefts, rights, chain) {
         Part::Refused(e) => Book::Refused(e),
         Part::Read(end) => {
             if ends(book, end) {
@@ -199,10 +235,10 @@ pub fn read_book(
     laid: &mut [u8; 4096],
     lefts: &mut [u32; 256],
     rights: &mut [u32; 256],
-    roots: &mut [u8; 256],
+    chain: &mut [u8; 768],
 ) -> Book
-    requires { ⌜ (length (now book) ≤ 65536) × (length (now arities) ≡ 256) × (length (now laid) ≡ 4096) × Lent (now lefts) (now rights) (now roots) ⌝ }
-    ensures { λ r. ⌜ BookAt (now (book .entry)) (now (arities .exit)) (now (laid .exit)) (now (lefts .exit)) (now (rights .exit)) (now (roots .exit)) r ⌝ }
+    requires { ⌜ (length (now book) ≤ 65536) × (length (now arities) ≡ 256) × (length (now laid) ≡ 4096) × Lent (now lefts) (now rights) ⌝ }
+    ensures { λ r. ⌜ BookAt (now (book .entry)) (now (arities .exit)) (now (laid .exit)) (now (lefts .exit)) (now (rights .exit)) (now (chain .exit)) r ⌝ }
 {
     let Bits::Value(count, p) = reader::field(book, 0, 8) else {
         return Book::Refused(1);
@@ -213,6 +249,6 @@ pub fn read_book(
     }
     match read_operators(book, p, n, arities, laid) {
         Part::Refused(e) => Book::Refused(e),
-        Part::Read(next) => read_tail(book, next, n, arities, lefts, rights, roots),
+        Part::Read(next) => read_tail(book, next, n, arities, lefts, rights, chain),
     }
 }

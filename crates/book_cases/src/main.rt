@@ -17,14 +17,14 @@ fn try_reader(bytes: &[u8])
     let mut laid = [0u8; 4096];
     let mut lefts = [0u32; 256];
     let mut rights = [0u32; 256];
-    let mut roots = [0u8; 256];
+    let mut chain = [0u8; 768];
     match book::read_book(
         bytes,
         &mut arities,
         &mut laid,
         &mut lefts,
         &mut rights,
-        &mut roots,
+        &mut chain,
     ) {
         Book::Refused(k) => say_refused(k),
         Book::Read(n, m) => {

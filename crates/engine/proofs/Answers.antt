@@ -85,8 +85,8 @@ refuses k e = record {
 
 -- THE LINE, by the check's judgement
 
-module _ {book line : List ℕ} {units budget : ℕ} {schedule work output arities laid lefts rights roots : List ℕ} {n m : ℕ}
-    (o : Opened book line units budget schedule work output arities laid lefts rights roots n m) where
+module _ {book line : List ℕ} {units budget : ℕ} {schedule work output arities laid lefts rights chain : List ℕ} {n m : ℕ}
+    (o : Opened book line units budget schedule work output arities laid lefts rights chain n m) where
   in-line : Tables (o .rules) n arities
   in-line = record { count = o .tables .operators .count; arities-are = arity-at (o .tables) }
 

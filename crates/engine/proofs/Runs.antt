@@ -34,9 +34,9 @@ use Rattle.engine.proofs.Schedule.{named}
 use Rattle.engine.proofs.Frame.{Frame, frame-of}
 use Rattle.engine.proofs.Answers.{by-run}
 
-module _ {book line : List ℕ} {units budget : ℕ} {schedule work output arities laid lefts rights roots : List ℕ} {n m : ℕ}
+module _ {book line : List ℕ} {units budget : ℕ} {schedule work output arities laid lefts rights chain : List ℕ} {n m : ℕ}
     (f : Framed book line units budget schedule work output)
-    (s : Sounds book line units budget schedule work output arities laid lefts rights roots n m) where
+    (s : Sounds book line units budget schedule work output arities laid lefts rights chain n m) where
   abbrev rules : Book
   rules = s .opened .rules
 
@@ -65,7 +65,7 @@ module _ {book line : List ℕ} {units budget : ℕ} {schedule work output ariti
       subst (λ (xs : List ℕ). Reached rules (limits budget) (flat-start units xs)) e
       (reached-start rules (limits budget) units (s .term) c (le-ltb 1024 (size (s .term)) h))
 
-  reaches-first : Reaches book arities laid lefts rights roots n m budget first rules
+  reaches-first : Reaches book arities laid lefts rights chain n m budget first rules
   unfolding flat-start
   reaches-first = record {
     tables = s .opened .tables;
@@ -89,7 +89,7 @@ module _ {book line : List ℕ} {units budget : ℕ} {schedule work output ariti
     loaded-long = ap length loaded ∙ length-append line (drop (length line) base) ∙ rw length-drop (omega (arith, long, short))
 
     pub ready : (scratch : List ℕ) → length scratch ≡ 1024 →
-        Ready (Reaches book arities laid lefts rights roots n m budget) symbols scratch (length line) w y h u schedule
+        Ready (Reaches book arities laid lefts rights chain n m budget) symbols scratch (length line) w y h u schedule
     ready scratch k = record {
       arrays = record { symbols-long = loaded-long; scratch-long = k; most = short; area = started .area; few = omega (arith, same, fits .few) };
       named = rw same (named units schedule (s .units-named));
@@ -100,7 +100,7 @@ module _ {book line : List ℕ} {units budget : ℕ} {schedule work output ariti
     }
 
     module _ {symbols′ : List ℕ} {r : R.Run}
-        (ran : Ran (Reaches book arities laid lefts rights roots n m budget) symbols (length line) w y h u budget schedule symbols′ r) where
+        (ran : Ran (Reaches book arities laid lefts rights chain n m budget) symbols (length line) w y h u budget schedule symbols′ r) where
       abbrev A : Answer
       A = run rules (limits budget) units schedule (s .term)
 

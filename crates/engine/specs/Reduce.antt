@@ -105,14 +105,14 @@ module _ (book line : List ℕ) (units budget : ℕ) (schedule work output : Lis
   Framed = frame-fault published request ≡ none
 
   -- the book is read, and these are its tables
-  pub record Opened (arities laid lefts rights roots : List ℕ) (n m : ℕ) : Type 0 where
+  pub record Opened (arities laid lefts rights chain : List ℕ) (n m : ℕ) : Type 0 where
     pub rules : Book
     pub book-read : readBook book ≡ accepted rules
-    pub tables : Tables book arities laid lefts rights roots n m rules
+    pub tables : Tables book arities laid lefts rights chain n m rules
 
   -- the line is a term of that book, and the schedule names the units
-  pub record Sounds (arities laid lefts rights roots : List ℕ) (n m : ℕ) : Type 0 where
-    pub opened : Opened arities laid lefts rights roots n m
+  pub record Sounds (arities laid lefts rights chain : List ℕ) (n m : ℕ) : Type 0 where
+    pub opened : Opened arities laid lefts rights chain n m
     pub term : Term
     pub line-read : readLine (opened .rules) line ≡ accepted term
     pub units-named : all-below units schedule ≡ true

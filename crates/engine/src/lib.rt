@@ -86,7 +86,7 @@ fn post(
     laid: &[u8; 4096],
     lefts: &[u32; 256],
     rights: &[u32; 256],
-    roots: &[u8; 256],
+    chain: &[u8; 768],
     m: usize,
     line: &[u8],
     units: u8,
@@ -95,7 +95,7 @@ fn post(
     work: &mut [u8],
     output: &mut [u8],
 ) -> Run
-    requires { ⌜ (length (now book) ≤ 65536) × R.Framed (now book) (now line) units budget (now schedule) (now work) (now output) × R.Sounds (now book) (now line) units budget (now schedule) (now work) (now output) (now arities) (now laid) (now lefts) (now rights) (now roots) n m ⌝ }
+    requires { ⌜ (length (now book) ≤ 65536) × R.Framed (now book) (now line) units budget (now schedule) (now work) (now output) × R.Sounds (now book) (now line) units budget (now schedule) (now work) (now output) (now arities) (now laid) (now lefts) (now rights) (now chain) n m ⌝ }
     ensures { λ r. ⌜ R.Reduced (now (book .entry)) (now (line .entry)) units budget (now (schedule .entry)) (now (work .entry)) (now (output .entry)) (now (work .exit)) (now (output .exit)) (D.Answer.Ran r) ⌝ }
 {
     let mut term = Term {
@@ -115,7 +115,7 @@ fn post(
         laid,
         lefts,
         rights,
-        roots,
+        chain,
         m,
         &mut term.symbols,
         length,
@@ -142,7 +142,7 @@ fn reduce_line(
     laid: &[u8; 4096],
     lefts: &[u32; 256],
     rights: &[u32; 256],
-    roots: &[u8; 256],
+    chain: &[u8; 768],
     m: usize,
     line: &[u8],
     units: u8,
@@ -151,7 +151,7 @@ fn reduce_line(
     work: &mut [u8],
     output: &mut [u8],
 ) -> Answer
-    requires { ⌜ (length (now book) ≤ 65536) × R.Framed (now book) (now line) units budget (now schedule) (now work) (now output) × R.Opened (now book) (now line) units budget (now schedule) (now work) (now output) (now arities) (now laid) (now lefts) (now rights) (now roots) n m ⌝ }
+    requires { ⌜ (length (now book) ≤ 65536) × R.Framed (now book) (now line) units budget (now schedule) (now work) (now output) × R.Opened (now book) (now line) units budget (now schedule) (now work) (now output) (now arities) (now laid) (now lefts) (now rights) (now chain) n m ⌝ }
     ensures { λ r. ⌜ R.Reduced (now (book .entry)) (now (line .entry)) units budget (now (schedule .entry)) (now (work .entry)) (now (output .entry)) (now (work .exit)) (now (output .exit)) r ⌝ }
 {
     match term::check_line(line, n, arities) {
@@ -167,7 +167,7 @@ fn reduce_line(
                 laid,
                 lefts,
                 rights,
-                roots,
+                chain,
                 m,
                 line,
                 units,
@@ -197,14 +197,14 @@ fn reduce_book(
     let mut laid = [0u8; 4096];
     let mut lefts = [0u32; 256];
     let mut rights = [0u32; 256];
-    let mut roots = [0u8; 256];
+    let mut chain = [0u8; 768];
     match book::read_book(
         book,
         &mut arities,
         &mut laid,
         &mut lefts,
         &mut rights,
-        &mut roots,
+        &mut chain,
     ) {
         Book::Refused(k) => Answer::Refused(k),
         Book::Read(n, m) => reduce_line(
@@ -214,7 +214,7 @@ fn reduce_book(
             &laid,
             &lefts,
             &rights,
-            &roots,
+            &chain,
             m,
             line,
             units,

@@ -22,10 +22,10 @@ pub with-area : {symbols scratch w y h w′ y′ h′ : List ℕ} {len n : ℕ} 
     Arrays symbols scratch w′ y′ h′ len n
 with-area z a = record { symbols-long = z .symbols-long; scratch-long = z .scratch-long; most = z .most; area = a; few = z .few }
 
-module _ {bytes arities laid lefts rights roots : List ℕ} {n m budget : ℕ} {symbols scratch : List ℕ} {len : ℕ} {w y h : List ℕ} {units u : ℕ} {c : C.Counts}
-    (q : Ready (Reaches bytes arities laid lefts rights roots n m budget) symbols scratch len w y h units u c budget) where
+module _ {bytes arities laid lefts rights chain : List ℕ} {n m budget : ℕ} {symbols scratch : List ℕ} {len : ℕ} {w y h : List ℕ} {units u : ℕ} {c : C.Counts}
+    (q : Ready (Reaches bytes arities laid lefts rights chain n m budget) symbols scratch len w y h units u c budget) where
   abbrev pub T : FlatState → Book → Type 0
-  T = Reaches bytes arities laid lefts rights roots n m budget
+  T = Reaches bytes arities laid lefts rights chain n m budget
 
   -- other units
   pub went-on : {w′ y′ h′ : List ℕ} → Area w′ y′ h′ →

@@ -52,9 +52,9 @@ low-code Step.whole f l = refl
 pub working-at : {symbols w y h : List ℕ} {u p a k d i : ℕ} → Working symbols w y h u p a k d → i ≡ a → Working symbols w y h u (getD symbols i 0) a k d
 working-at {symbols} v e = record { busy = v .busy; top = v .top; operator = ap (λ (j : ℕ). getD symbols j 0) e; order = v .order }
 
-module _ {bytes arities laid lefts rights roots : List ℕ} {n m budget : ℕ} {symbols scratch : List ℕ} {len : ℕ} {w y h : List ℕ} {units u : ℕ} {c : C.Counts}
+module _ {bytes arities laid lefts rights chain : List ℕ} {n m budget : ℕ} {symbols scratch : List ℕ} {len : ℕ} {w y h : List ℕ} {units u : ℕ} {c : C.Counts}
     {s : FlatState} {B : Book} (z : Arrays symbols scratch w y h len units) (l : u < units)
-    (R : Reaches bytes arities laid lefts rights roots n m budget s B) (S : Shows symbols len w y h units c s) where
+    (R : Reaches bytes arities laid lefts rights chain n m budget s B) (S : Shows symbols len w y h units c s) where
   -- THE STATE
   pub is-sound : Sound B
   is-sound = good-book-sound B (R .tables .good)

@@ -77,14 +77,14 @@ shows-forked false S e f = record {
   granted-are = S .granted-are ∙ sym f;
 }
 
-module _ {bytes arities laid lefts rights roots : List ℕ} {n m budget : ℕ} {symbols scratch : List ℕ} {len : ℕ} {w y h : List ℕ} {units u : ℕ} {c : C.Counts}
-    (q : Ready (Reaches bytes arities laid lefts rights roots n m budget) symbols scratch len w y h units u c budget)
+module _ {bytes arities laid lefts rights chain : List ℕ} {n m budget : ℕ} {symbols scratch : List ℕ} {len : ℕ} {w y h : List ℕ} {units u : ℕ} {c : C.Counts}
+    (q : Ready (Reaches bytes arities laid lefts rights chain n m budget) symbols scratch len w y h units u c budget)
     (o a k d : ℕ) (x : Working symbols w y h u o a k d) (i : ℕ) (f : i < 8) (g : getD laid (16 * o + (k - 1)) 0 ≡ 16 + i) where
   code-is : getD laid (16 * o + (k - 1)) 0 ≡ code (Step.fork i)
   unfolding code
   code-is = g
 
-  module _ (s : FlatState) (B : Book) (R : Reaches bytes arities laid lefts rights roots n m budget s B) (S : Shows symbols len w y h units c s) where
+  module _ (s : FlatState) (B : Book) (R : Reaches bytes arities laid lefts rights chain n m budget s B) (S : Shows symbols len w y h units c s) where
     goes : flat-entry B (limits budget) u s ≡ do-step B (limits budget) u s a k d (Step.fork i ∷ drop k (steps B o)) (drop 1 (stack s u))
     goes = entry-step (q .arrays) (q .one) R S o a k d (x .busy) (x .top) (x .operator) (x .order) (Step.fork i) f code-is
 

@@ -19,8 +19,8 @@ use Rattle.entry.specs.declared.Entry as D
 use Rattle.entry.proofs.Facts.{rules-hold, unit-small, units-count, height-is, unit-is, entry-is, top-in, high, order-most, row, coded, ready, entry-step}
 use Rattle.entry.proofs.Answers.{T, went-on}
 
-module _ {bytes arities laid lefts rights roots : List ℕ} {n m budget : ℕ} {symbols scratch : List ℕ} {len : ℕ} {w y h : List ℕ} {units u : ℕ} {c : C.Counts}
-    (q : Ready (Reaches bytes arities laid lefts rights roots n m budget) symbols scratch len w y h units u c budget) where
+module _ {bytes arities laid lefts rights chain : List ℕ} {n m budget : ℕ} {symbols scratch : List ℕ} {len : ℕ} {w y h : List ℕ} {units u : ℕ} {c : C.Counts}
+    (q : Ready (Reaches bytes arities laid lefts rights chain n m budget) symbols scratch len w y h units u c budget) where
   -- JOIN
   module _ (o a k d : ℕ) (v : Working symbols w y h u o a k d) where
     pub join-asks : O.Ready w h u a k d × (length y ≡ 8) × O.Coded laid o

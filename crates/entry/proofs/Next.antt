@@ -11,9 +11,9 @@ use Rattle.flat.proofs.Run.{reached-next}
 use Rattle.flat.proofs.Inside.{known-entry}
 use Rattle.entry.specs.Entry.{limits, Reaches}
 
-pub reaches-next : {bytes arities laid lefts rights roots : List ℕ} {n m budget : ℕ} {s s′ : FlatState} {B : Book} →
-    Reaches bytes arities laid lefts rights roots n m budget s B → (u : ℕ) → flat-entry B (limits budget) u s ≡ going s′ →
-    Reaches bytes arities laid lefts rights roots n m budget s′ B
+pub reaches-next : {bytes arities laid lefts rights chain : List ℕ} {n m budget : ℕ} {s s′ : FlatState} {B : Book} →
+    Reaches bytes arities laid lefts rights chain n m budget s B → (u : ℕ) → flat-entry B (limits budget) u s ≡ going s′ →
+    Reaches bytes arities laid lefts rights chain n m budget s′ B
 reaches-next {budget = budget} {s = s} {s′ = s′} {B = B} r u e =
     let g = r .tables .good in
     let k = r .tables .operators .count in

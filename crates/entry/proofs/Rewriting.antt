@@ -53,14 +53,14 @@ left-less made budget l e =
     ]
 
 -- unit u carries out order k of the job on top of its stack
-module _ {bytes arities laid lefts rights roots : List ℕ} {n m budget : ℕ} {symbols scratch : List ℕ} {len : ℕ} {w y h : List ℕ} {units u : ℕ} {c : C.Counts}
-    {o a k d : ℕ} (q : Ready (Reaches bytes arities laid lefts rights roots n m budget) symbols scratch len w y h units u c budget)
+module _ {bytes arities laid lefts rights chain : List ℕ} {n m budget : ℕ} {symbols scratch : List ℕ} {len : ℕ} {w y h : List ℕ} {units u : ℕ} {c : C.Counts}
+    {o a k d : ℕ} (q : Ready (Reaches bytes arities laid lefts rights chain n m budget) symbols scratch len w y h units u c budget)
     (x : Working symbols w y h u o a k d) where
   abbrev T : FlatState → Book → Type 0
-  T = Reaches bytes arities laid lefts rights roots n m budget
+  T = Reaches bytes arities laid lefts rights chain n m budget
 
   -- WHAT IS ASKED
-  pub whole-present : length bytes ≤ 65536 → R.Present bytes arities lefts rights roots n m symbols len a
+  pub whole-present : length bytes ≤ 65536 → R.Present bytes arities lefts rights chain n m symbols len a
   whole-present l = record {
     book = q .book;
     tabled = (laid, q .reaches .tables);
@@ -96,7 +96,7 @@ module _ {bytes arities laid lefts rights roots : List ℕ} {n m budget : ℕ} {
 
     module _ (symbols′ scratch′ w′ : List ℕ) where
       abbrev Carried : W.Whole → Type 0
-      Carried r = R.CarriedOut (R.Tabled bytes arities lefts rights roots n m) (c .rewrites) budget a symbols len w h units u symbols′ scratch′ w′ r
+      Carried r = R.CarriedOut (R.Tabled bytes arities lefts rights chain n m) (c .rewrites) budget a symbols len w h units u symbols′ scratch′ w′ r
 
       abbrev Told : List ℕ → List ℕ → D.Entry → Type 0
       Told w″ h″ r = Entered T symbols len w y h units u c budget symbols′ scratch′ w″ y h″ r
@@ -106,7 +106,7 @@ module _ {bytes arities laid lefts rights roots : List ℕ} {n m budget : ℕ} {
       unfolding do-step
       told r g s B t S =
           whole-step t S
-          ∙ whole-is B (limits budget) u s a k d (drop k (steps B o)) (drop 1 (stack s u)) refl (R.Tabled bytes arities lefts rights roots n m)
+          ∙ whole-is B (limits budget) u s a k d (drop k (steps B o)) (drop 1 (stack s u)) refl (R.Tabled bytes arities lefts rights chain n m)
           (laid, t .tables) symbols len w y h units symbols′ scratch′ w′ (q .arrays .area) (S .symbols-are) (S .units-are) (Frame.job a k d)
           (F.unit-is (q .arrays) (q .one) t S (Frame.job a k d) (x .busy) (x .top)) r (rw (S .rewrites-are) g)
 

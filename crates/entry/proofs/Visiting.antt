@@ -40,8 +40,8 @@ use Rattle.entry.proofs.Facts.{
 }
 use Rattle.entry.proofs.Answers.{T, went-on}
 
-module _ {bytes arities laid lefts rights roots : List ℕ} {n m budget : ℕ} {symbols scratch : List ℕ} {len : ℕ} {w y h : List ℕ} {units u : ℕ} {c : C.Counts}
-    (q : Ready (Reaches bytes arities laid lefts rights roots n m budget) symbols scratch len w y h units u c budget) where
+module _ {bytes arities laid lefts rights chain : List ℕ} {n m budget : ℕ} {symbols scratch : List ℕ} {len : ℕ} {w y h : List ℕ} {units u : ℕ} {c : C.Counts}
+    (q : Ready (Reaches bytes arities laid lefts rights chain n m budget) symbols scratch len w y h units u c budget) where
   -- THE JOB'S OWN TERM
   -- its operator is read at an index i that is its offset
   module _ (a k d i : ℕ) (b : getD y u 0 ≡ 1) (top : Top u (Frame.job a k d) w h) (none : k ≡ 0) (same : i ≡ a) where
@@ -81,7 +81,7 @@ module _ {bytes arities laid lefts rights roots : List ℕ} {n m budget : ℕ} {
     unfolding code
     code-is = g
 
-    module _ (s : FlatState) (B : Book) (R : Reaches bytes arities laid lefts rights roots n m budget s B) (S : Shows symbols len w y h units c s) where
+    module _ (s : FlatState) (B : Book) (R : Reaches bytes arities laid lefts rights chain n m budget s B) (S : Shows symbols len w y h units c s) where
       goes : flat-entry B (limits budget) u s ≡ do-step B (limits budget) u s a k d (Step.visit i ∷ drop k (steps B o)) (drop 1 (stack s u))
       goes = entry-step (q .arrays) (q .one) R S o a k d (v .busy) (v .top) (v .operator) (v .order) (Step.visit i) f code-is
 

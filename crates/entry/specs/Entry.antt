@@ -39,8 +39,8 @@ pub record Shows (symbols : List ℕ) (len : ℕ) (w y h : List ℕ) (n : ℕ) (
   pub granted-are : s .granted ≡ c .granted
 
 -- s is a state that runs by the book B reach, whose tables these are
-pub record Reaches (bytes arities laid lefts rights roots : List ℕ) (n m budget : ℕ) (s : FlatState) (B : Book) : Type 0 where
-  pub tables : Tables bytes arities laid lefts rights roots n m B
+pub record Reaches (bytes arities laid lefts rights chain : List ℕ) (n m budget : ℕ) (s : FlatState) (B : Book) : Type 0 where
+  pub tables : Tables bytes arities laid lefts rights chain n m B
   pub reached : Reached B (limits budget) s
   pub known : All (λ o. o < n) (s .symbols)
 

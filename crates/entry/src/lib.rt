@@ -50,7 +50,7 @@ fn rewrite(
     laid: &[u8; 4096],
     lefts: &[u32; 256],
     rights: &[u32; 256],
-    roots: &[u8; 256],
+    chain: &[u8; 768],
     m: usize,
     symbols: &mut [u8; 1024],
     len: usize,
@@ -67,8 +67,8 @@ fn rewrite(
     counts: Counts,
     budget: u32,
 ) -> Entry
-    requires { ⌜ (length (now book) ≤ 65536) × E.Ready (E.Reaches (now book) (now arities) (now laid) (now lefts) (now rights) (now roots) n m budget) (now symbols) (now scratch) len (now work) (now busy) (now heights) units u counts budget × E.Working (now symbols) (now work) (now busy) (now heights) u o a k c × (getD (now laid) (16 * o + (k - 1)) 0 ≡ 1) ⌝ }
-    ensures { λ r. ⌜ E.Entered (E.Reaches (now (book .entry)) (now (arities .entry)) (now (laid .entry)) (now (lefts .entry)) (now (rights .entry)) (now (roots .entry)) n m budget) (now (symbols .entry)) len (now (work .entry)) (now (busy .entry)) (now (heights .entry)) units u counts budget (now (symbols .exit)) (now (scratch .exit)) (now (work .exit)) (now (busy .entry)) (now (heights .exit)) r ⌝ }
+    requires { ⌜ (length (now book) ≤ 65536) × E.Ready (E.Reaches (now book) (now arities) (now laid) (now lefts) (now rights) (now chain) n m budget) (now symbols) (now scratch) len (now work) (now busy) (now heights) units u counts budget × E.Working (now symbols) (now work) (now busy) (now heights) u o a k c × (getD (now laid) (16 * o + (k - 1)) 0 ≡ 1) ⌝ }
+    ensures { λ r. ⌜ E.Entered (E.Reaches (now (book .entry)) (now (arities .entry)) (now (laid .entry)) (now (lefts .entry)) (now (rights .entry)) (now (chain .entry)) n m budget) (now (symbols .entry)) len (now (work .entry)) (now (busy .entry)) (now (heights .entry)) units u counts budget (now (symbols .exit)) (now (scratch .exit)) (now (work .exit)) (now (busy .entry)) (now (heights .exit)) r ⌝ }
 {
     match whole::rewrite(
         book,
@@ -76,7 +76,7 @@ fn rewrite(
         arities,
         lefts,
         rights,
-        roots,
+        chain,
         m,
         symbols,
         len,
@@ -113,7 +113,7 @@ fn job(
     laid: &[u8; 4096],
     lefts: &[u32; 256],
     rights: &[u32; 256],
-    roots: &[u8; 256],
+    chain: &[u8; 768],
     m: usize,
     symbols: &mut [u8; 1024],
     len: usize,
@@ -129,8 +129,8 @@ fn job(
     counts: Counts,
     budget: u32,
 ) -> Entry
-    requires { ⌜ (length (now book) ≤ 65536) × E.Ready (E.Reaches (now book) (now arities) (now laid) (now lefts) (now rights) (now roots) n m budget) (now symbols) (now scratch) len (now work) (now busy) (now heights) units u counts budget × E.Working (now symbols) (now work) (now busy) (now heights) u (getD (now symbols) a 0) a k c ⌝ }
-    ensures { λ r. ⌜ E.Entered (E.Reaches (now (book .entry)) (now (arities .entry)) (now (laid .entry)) (now (lefts .entry)) (now (rights .entry)) (now (roots .entry)) n m budget) (now (symbols .entry)) len (now (work .entry)) (now (busy .entry)) (now (heights .entry)) units u counts budget (now (symbols .exit)) (now (scratch .exit)) (now (work .exit)) (now (busy .exit)) (now (heights .exit)) r ⌝ }
+    requires { ⌜ (length (now book) ≤ 65536) × E.Ready (E.Reaches (now book) (now arities) (now laid) (now lefts) (now rights) (now chain) n m budget) (now symbols) (now scratch) len (now work) (now busy) (now heights) units u counts budget × E.Working (now symbols) (now work) (now busy) (now heights) u (getD (now symbols) a 0) a k c ⌝ }
+    ensures { λ r. ⌜ E.Entered (E.Reaches (now (book .entry)) (now (arities .entry)) (now (laid .entry)) (now (lefts .entry)) (now (rights .entry)) (now (chain .entry)) n m budget) (now (symbols .entry)) len (now (work .entry)) (now (busy .entry)) (now (heights .entry)) units u counts budget (now (symbols .exit)) (now (scratch .exit)) (now (work .exit)) (now (busy .exit)) (now (heights .exit)) r ⌝ }
 {
     let o = symbols[wide(a)];
     let code = orders::code_at(laid, o, k - 1);
@@ -142,7 +142,7 @@ fn job(
             laid,
             lefts,
             rights,
-            roots,
+            chain,
             m,
             symbols,
             len,
@@ -208,7 +208,7 @@ fn visit_or_job(
     laid: &[u8; 4096],
     lefts: &[u32; 256],
     rights: &[u32; 256],
-    roots: &[u8; 256],
+    chain: &[u8; 768],
     m: usize,
     symbols: &mut [u8; 1024],
     len: usize,
@@ -224,8 +224,8 @@ fn visit_or_job(
     counts: Counts,
     budget: u32,
 ) -> Entry
-    requires { ⌜ (length (now book) ≤ 65536) × E.Ready (E.Reaches (now book) (now arities) (now laid) (now lefts) (now rights) (now roots) n m budget) (now symbols) (now scratch) len (now work) (now busy) (now heights) units u counts budget × (getD (now busy) u 0 ≡ 1) × U.Top u (F.Frame.job a k c) (now work) (now heights) ⌝ }
-    ensures { λ r. ⌜ E.Entered (E.Reaches (now (book .entry)) (now (arities .entry)) (now (laid .entry)) (now (lefts .entry)) (now (rights .entry)) (now (roots .entry)) n m budget) (now (symbols .entry)) len (now (work .entry)) (now (busy .entry)) (now (heights .entry)) units u counts budget (now (symbols .exit)) (now (scratch .exit)) (now (work .exit)) (now (busy .exit)) (now (heights .exit)) r ⌝ }
+    requires { ⌜ (length (now book) ≤ 65536) × E.Ready (E.Reaches (now book) (now arities) (now laid) (now lefts) (now rights) (now chain) n m budget) (now symbols) (now scratch) len (now work) (now busy) (now heights) units u counts budget × (getD (now busy) u 0 ≡ 1) × U.Top u (F.Frame.job a k c) (now work) (now heights) ⌝ }
+    ensures { λ r. ⌜ E.Entered (E.Reaches (now (book .entry)) (now (arities .entry)) (now (laid .entry)) (now (lefts .entry)) (now (rights .entry)) (now (chain .entry)) n m budget) (now (symbols .entry)) len (now (work .entry)) (now (busy .entry)) (now (heights .entry)) units u counts budget (now (symbols .exit)) (now (scratch .exit)) (now (work .exit)) (now (busy .exit)) (now (heights .exit)) r ⌝ }
 {
     if k == 0 {
         let o = symbols[wide(a)];
@@ -239,7 +239,7 @@ fn visit_or_job(
         laid,
         lefts,
         rights,
-        roots,
+        chain,
         m,
         symbols,
         len,
@@ -265,7 +265,7 @@ pub fn enter(
     laid: &[u8; 4096],
     lefts: &[u32; 256],
     rights: &[u32; 256],
-    roots: &[u8; 256],
+    chain: &[u8; 768],
     m: usize,
     symbols: &mut [u8; 1024],
     len: usize,
@@ -278,8 +278,8 @@ pub fn enter(
     counts: Counts,
     budget: u32,
 ) -> Entry
-    requires { ⌜ (length (now book) ≤ 65536) × E.Ready (E.Reaches (now book) (now arities) (now laid) (now lefts) (now rights) (now roots) n m budget) (now symbols) (now scratch) len (now work) (now busy) (now heights) units u counts budget ⌝ }
-    ensures { λ r. ⌜ E.Entered (E.Reaches (now (book .entry)) (now (arities .entry)) (now (laid .entry)) (now (lefts .entry)) (now (rights .entry)) (now (roots .entry)) n m budget) (now (symbols .entry)) len (now (work .entry)) (now (busy .entry)) (now (heights .entry)) units u counts budget (now (symbols .exit)) (now (scratch .exit)) (now (work .exit)) (now (busy .exit)) (now (heights .exit)) r ⌝ }
+    requires { ⌜ (length (now book) ≤ 65536) × E.Ready (E.Reaches (now book) (now arities) (now laid) (now lefts) (now rights) (now chain) n m budget) (now symbols) (now scratch) len (now work) (now busy) (now heights) units u counts budget ⌝ }
+    ensures { λ r. ⌜ E.Entered (E.Reaches (now (book .entry)) (now (arities .entry)) (now (laid .entry)) (now (lefts .entry)) (now (rights .entry)) (now (chain .entry)) n m budget) (now (symbols .entry)) len (now (work .entry)) (now (busy .entry)) (now (heights .entry)) units u counts budget (now (symbols .exit)) (now (scratch .exit)) (now (work .exit)) (now (busy .exit)) (now (heights .exit)) r ⌝ }
 {
     if busy[u] != 1 {
         return Entry::Going(len, counts);
@@ -292,7 +292,7 @@ pub fn enter(
             laid,
             lefts,
             rights,
-            roots,
+            chain,
             m,
             symbols,
             len,

@@ -31,7 +31,7 @@ few-steps m (Step.fork i ∷ ss) l w c = (omega (arith, w .0), few-steps m ss l 
 few-steps m (Step.join d ∷ ss) l w c = (omega (arith, c 0), few-steps m ss l w (λ k. c (suc k)))
 few-steps m (Step.whole ∷ ss) l w c = (tt, few-steps m ss l w (λ k. c (suc k)))
 
-module _ {bytes arities laid lefts rights roots : List ℕ} {n m : ℕ} {B : Book} (T : Tables bytes arities laid lefts rights roots n m B) where
+module _ {bytes arities laid lefts rights chain : List ℕ} {n m : ℕ} {B : Book} (T : Tables bytes arities laid lefts rights chain n m B) where
   pub row-said : (o : ℕ) → o < n → Row-of laid o B
   unfolding steps
   row-said o l =

@@ -10,8 +10,8 @@ use Rattle.flat.specs.Symbols.{Binding, fill}
 use Rattle.book.specs.Tables.{ruleAt}
 use Rattle.book.specs.Answer.{BookAt}
 use Rattle.book.specs.declared.Book as D
-use Rattle.rule.specs.Packed.{SideAt, binding, Within, Sized, Fillable, Filled}
-use Rattle.rule.proofs.Tables.{right-stands}
+use Rattle.rule.specs.Packed.{SideAt, binding, Within, Sized, Fillable, Filled, Hits}
+use Rattle.rule.proofs.Tables.{lefts-stand, right-stands}
 use Rattle.rewrite.specs.Ready.{Ready, Stands}
 
 -- the size that is answered is that of the filled side
@@ -39,13 +39,17 @@ filled-size bytes at n arities xs b scratch size k s e f =
     let m = f .most in let l = f .long in
     sym (length-take-le k scratch (omega arith)) ∙ ap (λ (ys : List ℕ). length ys) (f .is (s .side) (s .is)) ∙ sym e
 
-pub ready : {bytes arities laid lefts rights roots : List ℕ} {n m : ℕ} {r : D.Book} →
-    BookAt bytes arities laid lefts rights roots r → r ≡ D.Book.Read n m → Ready bytes arities lefts rights roots n m
+pub ready : {bytes arities laid lefts rights chain : List ℕ} {n m : ℕ} {r : D.Book} →
+    BookAt bytes arities laid lefts rights chain r → r ≡ D.Book.Read n m → Ready bytes arities lefts rights chain n m
 ready b q = let x = rw q at (b .is) in record { laid = _; book = x .book; tables = x .tables }
 
-module _ {bytes arities lefts rights roots : List ℕ} {n m : ℕ} (R : Ready bytes arities lefts rights roots n m) where
+module _ {bytes arities lefts rights chain : List ℕ} {n m : ℕ} (R : Ready bytes arities lefts rights chain n m) where
   pub few-rules : m < 256
   few-rules = let c = R .tables .rules .count in let f = R .tables .good .few-rules in omega arith
+
+  -- a rule that is found is one of the book's
+  pub hit-below : {xs : List ℕ} {a len e : ℕ} {b : Binding} (i : ℕ) → Hits bytes n arities lefts chain m xs a len b i e → i < m
+  hit-below i h = let c = R .tables .rules .count in let l = h .first (R .book .rules) (lefts-stand (R .tables)) .below in omega arith
 
   -- rule i's right side stands where the table says
   pub right-side : (i at : ℕ) → i < m → at ≡ getD rights i 0 → Stands bytes at n arities

@@ -10,10 +10,10 @@ use Rattle.rewrite.specs.declared.Made.{Made}
 use Rattle.rewrite.specs.declared.Outcome.{Outcome}
 
 -- the tables are those of some book of n operators and m rules
-pub record Ready (bytes arities lefts rights roots : List ℕ) (n m : ℕ) : Type 0 where
+pub record Ready (bytes arities lefts rights chain : List ℕ) (n m : ℕ) : Type 0 where
   pub laid : List ℕ
   pub book : Book
-  pub tables : Tables bytes arities laid lefts rights roots n m book
+  pub tables : Tables bytes arities laid lefts rights chain n m book
 
 -- a side stands at a position
 pub record Stands (bytes : List ℕ) (at n : ℕ) (arities : List ℕ) : Type 0 where

@@ -70,13 +70,13 @@ pub fn rewrite(
     arities: &[u8; 256],
     lefts: &[u32; 256],
     rights: &[u32; 256],
-    roots: &[u8; 256],
+    chain: &[u8; 768],
     symbols: &mut [u8; 1024],
     len: usize,
     offset: usize,
     scratch: &mut [u8; 1024],
 ) -> Outcome
-    requires { ⌜ (length (now bytes) ≤ 65536) × Ready (now bytes) (now arities) (now lefts) (now rights) (now roots) n m × (length (now symbols) ≡ 1024) × (len ≤ 1024) × (offset ≤ len) × (length (now scratch) ≡ 1024) ⌝ }
+    requires { ⌜ (length (now bytes) ≤ 65536) × Ready (now bytes) (now arities) (now lefts) (now rights) (now chain) n m × (length (now symbols) ≡ 1024) × (len ≤ 1024) × (offset ≤ len) × (length (now scratch) ≡ 1024) ⌝ }
     ensures { λ r. ⌜ OutcomeWithin r × Kept (now (symbols .exit)) (now (scratch .exit)) ⌝ }
 {
     let mut starts = [0u16; 16];
@@ -86,7 +86,7 @@ pub fn rewrite(
         n,
         arities,
         lefts,
-        roots,
+        chain,
         m,
         symbols,
         len,

@@ -1,39 +1,84 @@
--- The first rule that matches: a rule whose root differs is passed over, and rules are tried in book order. Assumes nothing.
-use mathlib.Core.Bool.{false}
+-- The first rule that matches: rules of another root are passed over, and those of one root are tried in book order. Assumes nothing.
 use mathlib.Core.List.{List, [], _∷_}
-use mathlib.Core.Path.{_≡_, refl, sym, ap, _∙_}
-use Prim.Native.Nat.{ℕ, zero, suc, _+_, _≤_, _<_}
+use mathlib.Core.Logic.{inl, inr}
+use mathlib.Core.Path.{_≡_, refl, sym, ap, _∙_, subst}
+use Prim.Native.Nat.{ℕ, zero, suc, _+_, _-_, _≤_, _<_}
+use native.Mathlib.Numerals.{add-one}
 use native.Mathlib.Omega.{arith}
 use borrow.Author.Count.{below-more}
+use borrow.Author.Tests.{eq-eqb, ne-eqb}
 use lib.ListN.{length, getD, drop}
 use Rattle.paper.specs.Tree.{node, label, preorder, preorders}
 use Rattle.paper.specs.Book.{Symbol, Side, Rule}
 use Rattle.flat.specs.Symbols as flat
 use Rattle.flat.specs.Symbols.{Binding, blank, match, fill, rewrite}
-use Rattle.book.specs.Tables.{ruleAt}
+use Rattle.paper.specs.Sound.{IsOperator}
+use Rattle.paper.proofs.Tests.{ltb-cases}
+use Rattle.book.specs.Tables.{ruleAt, NoneOf, FirstOf, Root}
 use Rattle.term.specs.Line.{arity-in}
-use Rattle.rule.specs.Packed.{head-is, Bounded, Answers, Matched, Lefts, tries, Passed, Tried, Missed, Hits}
+use Rattle.rule.specs.Packed.{Stands, SideAt, found, Bounded, Answers, Lefts, Onward, tries, Passed, Tried, Missed, Hits}
 use Rattle.rule.specs.declared.Found as F
-use Rattle.rule.proofs.Matches.{match-other}
+use Rattle.rule.proofs.Sides.{under-root}
+use Rattle.rule.proofs.Matches.{match-same, match-other, head-at, head-end}
 
 -- One rule
 
-pub matched : (bytes : List ℕ) (at n : ℕ) (arities xs : List ℕ) (a len : ℕ) (b b′ : Binding) (r : F.Found) → b ≡ blank → Answers bytes at n arities 1 64 xs a b r b′ →
-    Bounded len b′ r → Matched bytes at n arities xs a len b′ r
-matched bytes at n arities xs a len b b′ r e h k = record { is = λ side s. rw e at (h .is (preorder side) s); bounded = k }
-
-root-differs : (arity : ℕ → ℕ) (side : Side) (o a : ℕ) (xs : List ℕ) (b : Binding) → label side ≡ Symbol.operator o → head-is o xs ≡ false →
-    match arity (preorder side) a xs b ≡ flat.Match.differs
+-- under a root that agrees, its arguments answer
+pub tried-rest : (bytes : List ℕ) (n : ℕ) (arities lefts : List ℕ) (i : ℕ) (xs : List ℕ) (a len : ℕ) (b : Binding) (at arity : ℕ) (b₀ : Binding) (r : F.Found) →
+    at ≡ getD lefts i 0 → arity ≡ arity-in arities (getD xs a 0) → a < length xs → b₀ ≡ blank → Answers bytes (at + 9) n arities arity 63 xs (a + 1) b₀ r b →
+    Bounded len b r → Tried bytes n arities lefts i xs a len b r
 unfolding label preorder
-root-differs arity (node s ts) o a xs b e h = rw e (match-other arity o (preorders ts) a xs b h)
+tried-rest bytes n arities lefts i xs a len b at arity b₀ r e g h z k m = record { is = go; bounded = m }
+  where
+    go : (side : Side) → SideAt bytes (getD lefts i 0) n arities side → label side ≡ Symbol.operator (getD xs a 0) →
+        match (arity-in arities) (preorder side) a (drop a xs) blank ≡ found r b
+    go (node s ts) l q =
+        let o : ℕ = getD xs a 0 in
+        let w : Stands bytes at n arities 1 64 (Symbol.operator o ∷ preorders ts) = rw (e, ← q) l in
+        rw q (match-same (arity-in arities) o (preorders ts) a xs blank (head-at o a xs o h refl ∙ eq-eqb o o refl)
+        ∙ rw z at (k .is (preorders ts) (under-root bytes n arities at o arity (preorders ts) w g)))
 
-module _ (bytes : List ℕ) (n : ℕ) (arities lefts roots : List ℕ) (i : ℕ) (xs : List ℕ) (a len : ℕ) (b : Binding) where
-  pub tried-root : (o : ℕ) → o ≡ getD roots i 0 → head-is o (drop a xs) ≡ false → Tried bytes n arities lefts roots i xs a len b F.Found.Differs
-  tried-root o e h =
-      record { is = λ side l. root-differs (arity-in arities) side o a (drop a xs) blank (l .root-is ∙ ap Symbol.operator (sym e)) h; bounded = tt }
+-- In the chain
 
-  pub tried-match : (at : ℕ) (r : F.Found) → at ≡ getD lefts i 0 → Matched bytes at n arities xs a len b r → Tried bytes n arities lefts roots i xs a len b r
-  tried-match at r e m = record { is = λ side l. m .is side (rw e (l .stands)); bounded = m .bounded }
+-- a side with another root differs
+root-other : (arity : ℕ → ℕ) (side : Side) (a : ℕ) (xs : List ℕ) (b : Binding) → IsOperator (label side) → (label side ≡ Symbol.operator (getD xs a 0) → ⊥) →
+    a < length xs → match arity (preorder side) a (drop a xs) b ≡ flat.Match.differs
+unfolding label preorder
+root-other arity (node (Symbol.operator p) ts) a xs b r other l =
+    match-other arity p (preorders ts) a (drop a xs) b (head-at p a xs (getD xs a 0) l refl ∙ ne-eqb p (getD xs a 0) (λ q. other (ap Symbol.operator q)))
+root-other arity (node (Symbol.variable v) ts) a xs b r other l = absurd r
+
+-- where no symbol stands, each differs
+root-end : (arity : ℕ → ℕ) (side : Side) (a : ℕ) (xs : List ℕ) (b : Binding) → IsOperator (label side) → length xs ≤ a →
+    match arity (preorder side) a (drop a xs) b ≡ flat.Match.differs
+unfolding label preorder
+root-end arity (node (Symbol.operator p) ts) a xs b r l = match-other arity p (preorders ts) a (drop a xs) b (head-end p a xs l)
+root-end arity (node (Symbol.variable v) ts) a xs b r l = absurd r
+
+pub onward-up : (k x r : ℕ) → r ≡ x → k < r → r < 256 → Onward k x r
+onward-up k x r e l s = record { up = λ m. e; ends = λ m. absurd (omega arith); small = s }
+
+pub onward-ends : (k x y : ℕ) → y ≡ x → y ≤ k → Onward k x 0
+onward-ends k x y e l = record { up = λ m. absurd (omega arith); ends = λ m. refl; small = omega arith }
+
+-- in a chain, the next rule is always higher
+onward-is : (P : ℕ → Type 0) (k m x r : ℕ) → FirstOf P k m x → Onward k x r → r ≡ x
+onward-is P k m zero r f w = w .ends (omega arith)
+onward-is P k m (suc j) r f w = w .up (omega (arith, f .0))
+
+-- how far the chain may still go
+unfoldable pub ahead : ℕ → ℕ
+ahead zero = 0
+ahead (suc k) = 256 - k
+
+pub ahead-less : (k x r : ℕ) → 0 < k → k < 256 → Onward k x r → ahead r < ahead k
+unfolding ahead
+ahead-less zero x r s l w = absurd (omega arith)
+ahead-less (suc k) x zero s l w = omega arith
+ahead-less (suc k) x (suc r) s l w = elim (ltb-cases (suc k) x) [
+  | inl p ↦ let e = w .up (p .1) in let b = w .small in omega (arith, p .1)
+  | inr p ↦ let e = w .ends (p .1) in absurd (omega arith)
+]
 
 -- In book order
 
@@ -60,32 +105,71 @@ module _ (arities xs : List ℕ) (a : ℕ) where
   rewrite-first (r ∷ rs) (suc i) e b l p h =
       rewrite-later r rs (p 0 (omega arith)) ∙ rewrite-first rs i e b (omega arith) (λ j k. p (suc j) (omega arith)) h
 
-module _ (bytes : List ℕ) (n : ℕ) (arities lefts roots : List ℕ) (m : ℕ) (xs : List ℕ) (a : ℕ) where
-  -- the rules below i are passed
-  abbrev pub Passing : ℕ → Type 0
-  Passing i = (rules : List Rule) → Lefts bytes n arities lefts roots m rules → Passed arities rules i a xs
+module _ (bytes : List ℕ) (n : ℕ) (arities lefts chain : List ℕ) (m : ℕ) (xs : List ℕ) (a : ℕ) where
+  missing : (rules : List Rule) → Lefts bytes n arities lefts chain m rules → Passed arities rules m a xs → Missed arities rules a xs
+  missing rules t p =
+      let c = t .count in
+      let q : Passed arities rules (length rules) a xs = λ j l. p j (omega arith) in
+      record { passed = q; is = rewrite-miss arities xs a rules q }
 
-  pub passing-none : Passing 0
-  passing-none rules t j l = absurd (omega arith)
+  pub missed-end : length xs ≤ a → (rules : List Rule) → Lefts bytes n arities lefts chain m rules → Missed arities rules a xs
+  missed-end l rules t = missing rules t (λ j k. root-end (arity-in arities) (ruleAt rules j .left) a xs blank (t .each j k .root) l)
 
-  pub passing-more : (i len : ℕ) (b : Binding) → i < m → Passing i → Tried bytes n arities lefts roots i xs a len b F.Found.Differs → Passing (i + 1)
-  passing-more i len b l p h rules t = below-more _ i (p rules t) (h .is (ruleAt rules i .left) (t .each i l))
+  -- the rule of number k has the term's root, and those below it are passed
+  abbrev Reached : List Rule → ℕ → Type 0
+  Reached rules zero = Passed arities rules m a xs
+  Reached rules (suc j) = (j < m) × Root rules (getD xs a 0) j × Passed arities rules j a xs
 
-  pub chosen : (i e len : ℕ) (b : Binding) → i < m → Passing i → Tried bytes n arities lefts roots i xs a len b (F.Found.Agrees e) →
-      Hits bytes n arities lefts roots m xs a len b i e
-  chosen i e len b l p h =
+  abbrev pub Reaching : ℕ → Type 0
+  Reaching k = (rules : List Rule) → Lefts bytes n arities lefts chain m rules → Reached rules k
+
+  pub missed : (k : ℕ) → k ≡ 0 → Reaching k → (rules : List Rule) → Lefts bytes n arities lefts chain m rules → Missed arities rules a xs
+  missed zero e h rules t = missing rules t (h rules t)
+  missed (suc k) e h rules t = absurd (omega arith)
+
+  pub chosen : (k i e len : ℕ) (b : Binding) → 0 < k → i ≡ k - 1 → Reaching k → Tried bytes n arities lefts i xs a len b (F.Found.Agrees e) →
+      Hits bytes n arities lefts chain m xs a len b i e
+  chosen zero i e len b s f h d = absurd (omega arith)
+  chosen (suc j) i e len b s f h d =
       record {
-        below = l;
         first = λ rules t.
+            let (l, root, p) = h rules t in
+            let g : j ≡ i = omega arith in
             let c = t .count in
-            let z = h .is (ruleAt rules i .left) (t .each i l) in
-            record { passed = p rules t; agrees = z; is = rewrite-first arities xs a rules i e b (omega arith) (p rules t) z };
-        within = h .bounded .0;
-        ends = h .bounded .1;
+            let y = subst (λ (k : ℕ). Passed arities rules k a xs) g p in
+            let z = d .is (ruleAt rules i .left) (t .each i (omega arith) .stands) (subst (Root rules (getD xs a 0)) g root) in
+            record { below = omega arith; passed = y; agrees = z; is = rewrite-first arities xs a rules i e b (omega arith) y z };
+        within = d .bounded .0;
+        ends = d .bounded .1;
       }
 
-  pub missed : (i : ℕ) → m ≤ i → Passing i → (rules : List Rule) → Lefts bytes n arities lefts roots m rules → Missed arities rules a xs
-  missed i l p rules t =
-      let c = t .count in
-      let q : Passed arities rules (length rules) a xs = λ j k. p rules t j (omega arith) in
-      record { passed = q; is = rewrite-miss arities xs a rules q }
+  module _ (inside : a < length xs) where
+    -- rules of other roots are passed
+    pass : (rules : List Rule) → Lefts bytes n arities lefts chain m rules → (i j : ℕ) → j ≤ m → Passed arities rules i a xs → NoneOf (Root rules (getD xs a 0)) i j →
+        Passed arities rules j a xs
+    pass rules t i j l p none k b = elim (ltb-cases k i) [
+      | inl q ↦ p k (q .1)
+      | inr q ↦ root-other (arity-in arities) (ruleAt rules k .left) a xs blank (t .each k (omega arith) .root) (none k (q .1) b) inside
+    ]
+
+    reached : (rules : List Rule) → Lefts bytes n arities lefts chain m rules → (i k : ℕ) → Passed arities rules i a xs → FirstOf (Root rules (getD xs a 0)) i m k →
+        Reached rules k
+    reached rules t i zero p f = pass rules t i m (omega arith) p f
+    reached rules t i (suc k) p f = (f .1, f .2, pass rules t i k (omega (arith, f .1)) p (f .3))
+
+    pub reaching-first : (o k : ℕ) → o ≡ getD xs a 0 → o < 256 → k ≡ getD chain o 0 → Reaching k
+    reaching-first o k e l f rules t =
+        reached rules t 0 k (λ j b. absurd (omega arith)) (rw (f, e) (t .chained .first (getD xs a 0) (omega arith)))
+
+    pub reaching-next : (k i r len : ℕ) (b : Binding) → 0 < k → i ≡ k - 1 → Reaching k → Tried bytes n arities lefts i xs a len b F.Found.Differs →
+        Onward k (getD chain (255 + k) 0) r → Reaching r
+    reaching-next zero i r len b s g h d w rules t = absurd (omega arith)
+    reaching-next (suc j) i r len b s g h d w rules t =
+        let (l, root, p) = h rules t in
+        let e : i ≡ j = omega arith in
+        let y = rw e at (d .is) (ruleAt rules j .left) (t .each j l .stands) root in
+        let x : ℕ = getD chain (256 + j) 0 in
+        let u : FirstOf (Root rules (getD xs a 0)) (j + 1) m x = t .chained .next j (getD xs a 0) l root in
+        let v : 255 + suc j ≡ 256 + j = omega arith in
+        let z : r ≡ x = onward-is _ (suc j) m x r (rw (add-one j) at u) (subst (λ (q : ℕ). Onward (suc j) (getD chain q 0) r) v w) in
+        rw z (reached rules t (j + 1) x (below-more _ j p y) u)

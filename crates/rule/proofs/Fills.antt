@@ -10,13 +10,13 @@ use lib.Seq.{length-take-le, take-take, take-suc-set, take-paste}
 use Rattle.paper.specs.Tree.{preorder}
 use Rattle.paper.specs.Book.{Symbol, Side}
 use Rattle.flat.specs.Symbols.{Binding, fill}
-use Rattle.side.specs.Side.{SymbolAt}
-use Rattle.side.specs.declared.Symbol as Sy
+use Rattle.side.specs.Side.{StandingAt}
+use Rattle.side.specs.declared.Standing as Sd
 use Rattle.term.specs.Line.{arity-in}
 use Rattle.term.specs.Symbols.{Pasted}
 use Rattle.rule.specs.Packed.{Stands, SideAt, binding, Within, SizeStep, Sized, ToFill, FillStep, Fillable}
 use Rattle.rule.specs.declared.Step as S
-use Rattle.rule.proofs.Sides.{goes-operator, goes-variable, none-stand, none-left, stands-once}
+use Rattle.rule.proofs.Sides.{goes-operator, goes-variable, none-left, stands-once}
 
 -- a part of the first len symbols
 part-take : (a n len : ℕ) (l : List ℕ) → a + n ≤ len → take n (drop a (take len l)) ≡ take n (drop a l)
@@ -42,15 +42,12 @@ unfolding fill
 size-operator o ss b xs = omega arith
 
 module _ (bytes : List ℕ) (at n : ℕ) (arities sizes : List ℕ) where
-  pub sized-refused : (k : ℕ) → SymbolAt bytes at n (Sy.Symbol.Refused k) → SizeStep bytes at n arities sizes S.Step.Stops
-  sized-refused k h = none-stand bytes n arities _ at k h
-
-  pub sized-operator : (o next arity : ℕ) → SymbolAt bytes at n (Sy.Symbol.Operator o next) → arity ≡ arity-in arities o → arity < 256 →
+  pub sized-operator : (o next arity : ℕ) → StandingAt bytes at (Sd.Standing.Operator o next) → arity ≡ arity-in arities o → arity < 256 →
       SizeStep bytes at n arities sizes (S.Step.Took arity next 1)
   sized-operator o next arity h e m =
       (m, omega arith, goes-operator bytes n arities _ at o next arity h e λ ss starts xs w. size-operator o ss (binding starts sizes) xs)
 
-  pub sized-variable : (v next size : ℕ) → SymbolAt bytes at n (Sy.Symbol.Variable v next) → size ≡ getD sizes v 0 → size < 65536 →
+  pub sized-variable : (v next size : ℕ) → StandingAt bytes at (Sd.Standing.Variable v next) → size ≡ getD sizes v 0 → size < 65536 →
       SizeStep bytes at n arities sizes (S.Step.Took 0 next size)
   sized-variable v next size h e m =
       (omega arith, m, goes-variable bytes n arities _ at v next h λ ss starts xs w. rw e (size-variable v ss (binding starts sizes) xs w))
@@ -86,23 +83,20 @@ sized bytes at n arities sizes size a m = record { is = λ side s starts xs w. (
 -- Filling
 
 module _ (bytes : List ℕ) (at n : ℕ) (arities xs : List ℕ) (b : Binding) (k : ℕ) (t : ToFill bytes at n arities xs b k) where
-  pub fill-refused : (m : ℕ) → SymbolAt bytes at n (Sy.Symbol.Refused m) → ⊥
-  fill-refused m h = none-stand bytes n arities (λ ss. ⊥) at m h (t .due) (t .room) (t .ss) (t .some) (t .stands)
-
-  pub room-operator : (o next : ℕ) → SymbolAt bytes at n (Sy.Symbol.Operator o next) → k < 1024
+  pub room-operator : (o next : ℕ) → StandingAt bytes at (Sd.Standing.Operator o next) → k < 1024
   room-operator o next h =
       let (ss′, s, e) = goes-operator bytes n arities (λ ss ss′. length (fill ss b xs) ≡ 1 + length (fill ss′ b xs)) at o next (arity-in arities o) h refl (λ ss. size-operator o ss b xs)
       (t .due) (t .room) (t .ss) (t .some) (t .stands) in
       let f = t .fits in omega arith
 
-  pub room-variable : (v next : ℕ) → SymbolAt bytes at n (Sy.Symbol.Variable v next) → Within b (length xs) → k + b v .size ≤ 1024
+  pub room-variable : (v next : ℕ) → StandingAt bytes at (Sd.Standing.Variable v next) → Within b (length xs) → k + b v .size ≤ 1024
   room-variable v next h w =
       let (ss′, s, e) = goes-variable bytes n arities (λ ss ss′. length (fill ss b xs) ≡ b v .size + length (fill ss′ b xs)) at v next h (λ ss. size-variable v ss b xs w)
       (t .due) (t .room) (t .ss) (t .some) (t .stands) in
       let f = t .fits in omega arith
 
 module _ (bytes : List ℕ) (at n : ℕ) (arities xs : List ℕ) (b : Binding) (k : ℕ) (scratch scratch′ : List ℕ) where
-  pub filled-operator : (o next arity : ℕ) → SymbolAt bytes at n (Sy.Symbol.Operator o next) → arity ≡ arity-in arities o → arity < 256 → k < 1024 →
+  pub filled-operator : (o next arity : ℕ) → StandingAt bytes at (Sd.Standing.Operator o next) → arity ≡ arity-in arities o → arity < 256 → k < 1024 →
       length scratch ≡ 1024 → scratch′ ≡ set scratch k o → FillStep bytes at n arities xs b k scratch scratch′ (S.Step.Took arity next 1)
   unfolding fill
   filled-operator o next arity h e m l s f = (
@@ -113,7 +107,7 @@ module _ (bytes : List ℕ) (at n : ℕ) (arities xs : List ℕ) (b : Binding) (
         sym (rw (f, add-one k, take-suc-set scratch k o (omega arith)) (append-assoc (take k scratch) (o ∷ []) (fill ss b xs))),
   )
 
-  pub filled-variable : (v next start size len : ℕ) (symbols : List ℕ) → SymbolAt bytes at n (Sy.Symbol.Variable v next) → start ≡ b v .start → size ≡ b v .size →
+  pub filled-variable : (v next start size len : ℕ) (symbols : List ℕ) → StandingAt bytes at (Sd.Standing.Variable v next) → start ≡ b v .start → size ≡ b v .size →
       k + size ≤ 1024 → start + size ≤ len → len ≤ 1024 → length symbols ≡ 1024 → length scratch ≡ 1024 → xs ≡ take len symbols → Pasted scratch k symbols start size scratch′ →
       FillStep bytes at n arities xs b k scratch scratch′ (S.Step.Took 0 next size)
   unfolding fill

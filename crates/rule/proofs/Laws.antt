@@ -55,7 +55,7 @@ nothing f a xs b = refl
 
 -- On the terms of a book
 
-module _ {bytes arities laid lefts rights roots : List ℕ} {n m : ℕ} {B : Book} (T : Tables bytes arities laid lefts rights roots n m B) (xs : List ℕ)
+module _ {bytes arities laid lefts rights chain : List ℕ} {n m : ℕ} {B : Book} (T : Tables bytes arities laid lefts rights chain n m B) (xs : List ℕ)
     (known : All (λ o. o < n) xs) (a : ℕ) (t : Term) (correct : Correct (arity B) t) (rest : List ℕ) (there : drop a xs ≡ preorder t ++ rest) where
   arities-same : All (λ o. arity-in arities o ≡ arity B o) xs
   arities-same = all-map _ _ (arity-at T) xs known

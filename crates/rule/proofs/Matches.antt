@@ -12,13 +12,13 @@ use lib.Seq.{drop-cons, drop-drop}
 use Rattle.paper.specs.Book.{Symbol}
 use Rattle.flat.specs.Symbols as flat
 use Rattle.flat.specs.Symbols.{segment, Binding, bind, skip, match}
-use Rattle.side.specs.Side.{SymbolAt}
-use Rattle.side.specs.declared.Symbol as Sy
+use Rattle.side.specs.Side.{StandingAt}
+use Rattle.side.specs.declared.Standing as Sd
 use Rattle.term.specs.Line.{arity-in}
 use Rattle.rule.specs.Packed.{All-at, binding, Within, Holds, head-is, Step-matches, MatchStep, Answers}
 use Rattle.rule.specs.declared.Step as S
 use Rattle.rule.specs.declared.Found as F
-use Rattle.rule.proofs.Sides.{goes-operator, goes-variable, none-stand, all-operator, none-left}
+use Rattle.rule.proofs.Sides.{goes-operator, goes-variable, all-operator, none-left}
 use Rattle.rule.proofs.Bindings.{within-bind}
 
 match-head : (arity : ℕ → ℕ) (o : ℕ) (ss : List Symbol) (a : ℕ) (xs : List ℕ) (b : Binding) → head-is o xs ≡ true →
@@ -62,10 +62,7 @@ head-inside o (suc a) (x ∷ xs) e = let h = head-inside o a xs e in omega arith
 -- One symbol
 
 module _ (bytes : List ℕ) (n : ℕ) (arities xs : List ℕ) (at a len : ℕ) (starts sizes : List ℕ) (long : length starts ≡ 16) (wide : length sizes ≡ 16) where
-  pub step-refused : (k : ℕ) → SymbolAt bytes at n (Sy.Symbol.Refused k) → MatchStep bytes at n arities xs a len (binding starts sizes) starts sizes S.Step.Stops
-  step-refused k h = record { starts-long = long; sizes-long = wide; is = none-stand bytes n arities _ at k h }
-
-  module _ (o next : ℕ) (h : SymbolAt bytes at n (Sy.Symbol.Operator o next)) where
+  module _ (o next : ℕ) (h : StandingAt bytes at (Sd.Standing.Operator o next)) where
     pub step-other : head-is o (drop a xs) ≡ false → MatchStep bytes at n arities xs a len (binding starts sizes) starts sizes S.Step.Stops
     step-other e =
         record { starts-long = long; sizes-long = wide; is = all-operator bytes n arities _ at o next h (λ ss. match-other (arity-in arities) o ss a (drop a xs) (binding starts sizes) e) }
@@ -80,7 +77,7 @@ module _ (bytes : List ℕ) (n : ℕ) (arities xs : List ℕ) (at a len : ℕ) (
           is = (m, omega arith, w, goes-operator bytes n arities _ at o next arity h f λ ss. match-same (arity-in arities) o ss a xs (binding starts sizes) e);
         }
 
-  pub step-variable : (v next e : ℕ) (starts′ sizes′ : List ℕ) → SymbolAt bytes at n (Sy.Symbol.Variable v next) → e ≡ a + skip (arity-in arities) 1 (drop a xs) → e ≤ len →
+  pub step-variable : (v next e : ℕ) (starts′ sizes′ : List ℕ) → StandingAt bytes at (Sd.Standing.Variable v next) → e ≡ a + skip (arity-in arities) 1 (drop a xs) → e ≤ len →
       Within (binding starts sizes) len → Holds starts′ sizes′ (bind v (segment a (e - a)) (binding starts sizes)) →
       MatchStep bytes at n arities xs a len (binding starts sizes) starts′ sizes′ (S.Step.Took 0 next (e - a))
   step-variable v next e starts′ sizes′ h f l w g =

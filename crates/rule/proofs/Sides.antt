@@ -4,18 +4,21 @@ use mathlib.Core.Logic.{_⊎_, inl, inr}
 use mathlib.Core.Path.{_≡_, refl, sym, ap, ap₂, _∙_, subst}
 use Prim.Native.Nat.{ℕ, zero, suc, _+_, _-_, _≤_, _<_}
 use native.Mathlib.Omega.{arith}
-use lib.ListN.{length, replicate, length-replicate}
-use Rattle.paper.specs.Result.{Result, accepted, Read, return}
+use lib.ListN.{length, drop, replicate, length-append, length-replicate}
+use lib.Seq.{drop-at, drop-drop}
+use Rattle.paper.specs.Result.{accepted, Read, return}
+use Rattle.paper.specs.Bits.{toBits, bitsOf}
 use Rattle.paper.specs.Book.{Operator, Symbol}
 use Rattle.paper.specs.Reader.{read-symbol}
 use Rattle.paper.specs.Sound.{All}
 use Rattle.paper.specs.Writer.{concat, write-symbol}
-use Rattle.paper.proofs.Readers.{accepted-injective, refused-accepted}
+use Rattle.paper.proofs.Bits.{length-toBits}
+use Rattle.paper.proofs.Readers.{accepted-injective}
 use Rattle.paper.proofs.Rules as paper
 use Rattle.paper.proofs.Rules.{symbol-written}
 use Rattle.paper.proofs.Trees.{Complete}
-use Rattle.side.specs.Side.{bitsAt, symbol, SymbolAt}
-use Rattle.side.specs.declared.Symbol as Sy
+use Rattle.side.specs.Side.{bitsAt, standing, Held, StandingAt}
+use Rattle.side.specs.declared.Standing as Sd
 use Rattle.term.specs.Line.{arity-in}
 use Rattle.rule.specs.Packed.{symbol-arity, Fits, Stands, Goes, All-at}
 
@@ -27,6 +30,10 @@ fits : (n : ℕ) (s : Symbol) → Fits n s → paper.Fits (operators n) s
 unfolding operators
 fits n (Symbol.operator o) h = rw length-replicate h
 fits n (Symbol.variable v) h = h
+
+held : (n : ℕ) → n ≤ 256 → (s : Symbol) → Fits n s → Held s
+held n few (Symbol.operator o) h = omega arith
+held n few (Symbol.variable v) h = h
 
 -- the first of the symbols that bits spell is read off them
 first : (n : ℕ) → n ≤ 256 → (s : Symbol) (ss : List Symbol) (rest xs : List ℕ) → Fits n s → xs ≡ concat write-symbol (s ∷ ss) ++ rest →
@@ -44,17 +51,15 @@ module _ (bytes : List ℕ) (n : ℕ) (arities : List ℕ) where
       (ss′ : List Symbol) × (ss ≡ s ∷ ss′)
       × ((due′ room′ : ℕ) → due′ ≡ due - 1 + symbol-arity arities s → room′ ≡ room - 1 → Stands bytes next n arities due′ room′ ss′)
 
-  abbrev Took : ℕ → ℕ → List Symbol → Sy.Symbol → Type 0
-  Took due room ss (Sy.Symbol.Operator o next) = Behind due room ss (Symbol.operator o) next
-  Took due room ss (Sy.Symbol.Variable v next) = Behind due room ss (Symbol.variable v) next
-  Took due room ss (Sy.Symbol.Refused k) = ⊥
+  abbrev Took : ℕ → ℕ → List Symbol → Sd.Standing → Type 0
+  Took due room ss (Sd.Standing.Operator o next) = Behind due room ss (Symbol.operator o) next
+  Took due room ss (Sd.Standing.Variable v next) = Behind due room ss (Symbol.variable v) next
 
   behind : (due room : ℕ) (s : Symbol) (ss : List Symbol) (rest : List ℕ) → n ≤ 256 → All (Fits n) ss → Complete (symbol-arity arities) (symbol-arity arities s + due) ss →
       suc (length ss) ≤ room → (t : Symbol) (next : ℕ) →
-      _≡_ {A = Result (Read Symbol)} (accepted (record { value = t; left = bitsAt bytes next })) (accepted (record { value = s; left = concat write-symbol ss ++ rest })) →
+      _≡_ {A = Read Symbol} (record { value = t; left = bitsAt bytes next }) (record { value = s; left = concat write-symbol ss ++ rest }) →
       Behind (suc due) room (s ∷ ss) t next
-  behind due room s ss rest few fs c l t next e =
-      let q = accepted-injective e in
+  behind due room s ss rest few fs c l t next q =
       let z : s ≡ t = ap (λ (x : Read Symbol). x .value) (sym q) in (
         ss,
         ap (λ (x : Symbol). x ∷ ss) z,
@@ -68,37 +73,53 @@ module _ (bytes : List ℕ) (n : ℕ) (arities : List ℕ) where
       )
 
   -- what is read is the first of the symbols that stand there
-  took : (at due room : ℕ) (ss : List Symbol) (r : Sy.Symbol) → SymbolAt bytes at n r → 0 < due → Stands bytes at n arities due room ss → Took due room ss r
-  unfolding operators
+  took : (at due room : ℕ) (ss : List Symbol) (r : Sd.Standing) → StandingAt bytes at r → 0 < due → Stands bytes at n arities due room ss → Took due room ss r
+  unfolding concat
   took at zero room ss r h d k = absurd (omega arith)
   took at (suc due) room [] r h d k = absurd (k .complete)
   took at (suc due) room (s ∷ ss) r h d k =
-      go r (h .is (operators n) (length-replicate n _) ∙ first n (k .few) s ss (k .stand .rest) (bitsAt bytes at) (k .fits .0) (k .stand .is))
+      go r (h .is s _ (held n (k .few) s (k .fits .0)) (k .stand .is ∙ append-assoc (write-symbol s) (concat write-symbol ss) (k .stand .rest)))
     where
-      go : (r : Sy.Symbol) → symbol bytes r ≡ accepted (record { value = s; left = concat write-symbol ss ++ k .stand .rest }) → Took (suc due) room (s ∷ ss) r
-      go (Sy.Symbol.Operator o next) e = behind due room s ss (k .stand .rest) (k .few) (k .fits .1) (k .complete) (k .short) (Symbol.operator o) next e
-      go (Sy.Symbol.Variable v next) e = behind due room s ss (k .stand .rest) (k .few) (k .fits .1) (k .complete) (k .short) (Symbol.variable v) next e
-      go (Sy.Symbol.Refused m) e = absurd (refused-accepted e)
+      go : (r : Sd.Standing) → standing bytes r ≡ record { value = s; left = concat write-symbol ss ++ k .stand .rest } → Took (suc due) room (s ∷ ss) r
+      go (Sd.Standing.Operator o next) e = behind due room s ss (k .stand .rest) (k .few) (k .fits .1) (k .complete) (k .short) (Symbol.operator o) next e
+      go (Sd.Standing.Variable v next) e = behind due room s ss (k .stand .rest) (k .few) (k .fits .1) (k .complete) (k .short) (Symbol.variable v) next e
 
-  pub goes-operator : (P : List Symbol → List Symbol → Type 0) (at o next arity : ℕ) → SymbolAt bytes at n (Sy.Symbol.Operator o next) → arity ≡ arity-in arities o →
+  pub goes-operator : (P : List Symbol → List Symbol → Type 0) (at o next arity : ℕ) → StandingAt bytes at (Sd.Standing.Operator o next) → arity ≡ arity-in arities o →
       ((ss : List Symbol) → P (Symbol.operator o ∷ ss) ss) → Goes bytes at n arities P arity next
   goes-operator P at o next arity h e p due room ss d s =
-      let (ss′, z, k) = took at due room ss (Sy.Symbol.Operator o next) h d s in
+      let (ss′, z, k) = took at due room ss (Sd.Standing.Operator o next) h d s in
       (ss′, λ due′ room′ f g. k due′ room′ (omega arith) g, subst (λ (l : List Symbol). P l ss′) (sym z) (p ss′))
 
-  pub goes-variable : (P : List Symbol → List Symbol → Type 0) (at v next : ℕ) → SymbolAt bytes at n (Sy.Symbol.Variable v next) →
+  pub goes-variable : (P : List Symbol → List Symbol → Type 0) (at v next : ℕ) → StandingAt bytes at (Sd.Standing.Variable v next) →
       ((ss : List Symbol) → P (Symbol.variable v ∷ ss) ss) → Goes bytes at n arities P 0 next
   goes-variable P at v next h p due room ss d s =
-      let (ss′, z, k) = took at due room ss (Sy.Symbol.Variable v next) h d s in
+      let (ss′, z, k) = took at due room ss (Sd.Standing.Variable v next) h d s in
       (ss′, k, subst (λ (l : List Symbol). P l ss′) (sym z) (p ss′))
 
-  pub none-stand : (P : List Symbol → Type 0) (at k : ℕ) → SymbolAt bytes at n (Sy.Symbol.Refused k) → All-at bytes at n arities P
-  none-stand P at k h due room ss d s = absurd (took at due room ss (Sy.Symbol.Refused k) h d s)
-
-  pub all-operator : (P : List Symbol → Type 0) (at o next : ℕ) → SymbolAt bytes at n (Sy.Symbol.Operator o next) → ((ss : List Symbol) → P (Symbol.operator o ∷ ss)) →
+  pub all-operator : (P : List Symbol → Type 0) (at o next : ℕ) → StandingAt bytes at (Sd.Standing.Operator o next) → ((ss : List Symbol) → P (Symbol.operator o ∷ ss)) →
       All-at bytes at n arities P
   all-operator P at o next h p due room ss d s =
-      let (ss′, z, k) = took at due room ss (Sy.Symbol.Operator o next) h d s in subst P (sym z) (p ss′)
+      let (ss′, z, k) = took at due room ss (Sd.Standing.Operator o next) h d s in subst P (sym z) (p ss′)
+
+  -- behind the nine bits of a root stand the symbols of its arguments
+  pub under-root : (at o arity : ℕ) (ss : List Symbol) → Stands bytes at n arities 1 64 (Symbol.operator o ∷ ss) → arity ≡ arity-in arities o →
+      Stands bytes (at + 9) n arities arity 63 ss
+  unfolding concat write-symbol
+  under-root at o arity ss k e =
+      let root = write-symbol (Symbol.operator o) in
+      let l = k .short in
+      record {
+        stand = record {
+          rest = k .stand .rest;
+          is = sym (drop-drop 9 at (bitsOf bytes))
+              ∙ ap (drop 9) (k .stand .is ∙ append-assoc root (concat write-symbol ss) (k .stand .rest))
+              ∙ drop-at root (concat write-symbol ss ++ k .stand .rest) 9 (length-append (toBits 1 0) (toBits 8 o) ∙ ap₂ _+_ (length-toBits 1 0) (length-toBits 8 o));
+        };
+        few = k .few;
+        fits = k .fits .1;
+        complete = subst (λ (d : ℕ). Complete (symbol-arity arities) d ss) (omega arith) (k .complete);
+        short = omega arith;
+      }
 
   -- no symbol is to come where no term is due or no room is left
   pub none-left : (at due room : ℕ) (ss : List Symbol) → Stands bytes at n arities due room ss → (due ≡ 0) ⊎ (room ≡ 0) → ss ≡ []

@@ -12,7 +12,7 @@ use Rattle.paper.proofs.Rules as paper
 use Rattle.paper.proofs.Rules.{GoodSide}
 use Rattle.paper.proofs.Trees.{Complete, correct-complete}
 use Rattle.book.specs.Tables.{Stand, ruleAt, Tables}
-use Rattle.book.proofs.Laws.{arity-at, rule-good, root-at, left-at, right-at}
+use Rattle.book.proofs.Laws.{arity-at, rule-good, left-at, right-at}
 use Rattle.rule.specs.Packed.{symbol-arity, Fits, SideAt, binding, Within, Sized, Fillable, Lefts}
 
 -- symbols that spell terms by some arities do so by the same arities
@@ -26,7 +26,7 @@ one-term : (ops : List Operator) (side : Side) → GoodSide ops side → Complet
 unfolding preorder count
 one-term ops side g = rw (append-nil (preorder side)) at (correct-complete (symbolArity ops) (cons side nil) (g .correct, tt))
 
-module _ {bytes arities laid lefts rights roots : List ℕ} {n m : ℕ} {B : Book} (T : Tables bytes arities laid lefts rights roots n m B) where
+module _ {bytes arities laid lefts rights chain : List ℕ} {n m : ℕ} {B : Book} (T : Tables bytes arities laid lefts rights chain n m B) where
   fits : (s : Symbol) → paper.Fits (B .operators) s → Fits n s
   fits (Symbol.operator o) h = let c = T .operators .count in omega arith
   fits (Symbol.variable v) h = h
@@ -45,12 +45,13 @@ module _ {bytes arities laid lefts rights roots : List ℕ} {n m : ℕ} {B : Boo
         short = g .short;
       }
 
-  -- where the left sides stand, and their roots
-  pub lefts-stand : Lefts bytes n arities lefts roots m (B .rules)
+  -- where the left sides stand, and the chains of their roots
+  pub lefts-stand : Lefts bytes n arities lefts chain m (B .rules)
   lefts-stand =
       record {
         count = T .rules .count;
-        each = λ i l. record { stands = side-at (getD lefts i 0) _ (rule-good T i l .left) (left-at T i l); root-is = root-at T i l };
+        each = λ i l. record { stands = side-at (getD lefts i 0) _ (rule-good T i l .left) (left-at T i l); root = rule-good T i l .root };
+        chained = T .rules .chained;
       }
 
   -- where the right sides stand

@@ -8,11 +8,11 @@ use lib.Dec.{eqb}
 use lib.ListN.{length, getD, take, drop}
 use Rattle.paper.specs.Tree.{label, preorder}
 use Rattle.paper.specs.Book.{Symbol, Side, Rule}
-use Rattle.paper.specs.Sound.{All}
+use Rattle.paper.specs.Sound.{All, IsOperator}
 use Rattle.paper.proofs.Trees.{Complete}
 use Rattle.flat.specs.Symbols as flat
 use Rattle.flat.specs.Symbols.{segment, Binding, blank, match, fill, rewrite}
-use Rattle.book.specs.Tables.{Stand, ruleAt}
+use Rattle.book.specs.Tables.{Stand, ruleAt, Chained}
 use Rattle.term.specs.Line.{arity-in}
 use Rattle.rule.specs.declared.Found as F
 use Rattle.rule.specs.declared.Hit as H
@@ -98,11 +98,6 @@ pub record MatchStep (bytes : List ℕ) (at n : ℕ) (arities xs : List ℕ) (a 
 pub record Answers (bytes : List ℕ) (at n : ℕ) (arities : List ℕ) (due room : ℕ) (xs : List ℕ) (a : ℕ) (b : Binding) (r : F.Found) (b′ : Binding) : Type 0 where
   pub is : (ss : List Symbol) → Stands bytes at n arities due room ss → match (arity-in arities) ss a (drop a xs) b ≡ found r b′
 
--- r and the binding b answer for the side at a position, against the symbols xs from offset a on
-pub record Matched (bytes : List ℕ) (at n : ℕ) (arities xs : List ℕ) (a len : ℕ) (b : Binding) (r : F.Found) : Type 0 where
-  pub is : (side : Side) → SideAt bytes at n arities side → match (arity-in arities) (preorder side) a (drop a xs) blank ≡ found r b
-  pub bounded : Bounded len b r
-
 -- Filling
 
 -- one symbol's size, by the sizes of the variables, whatever symbols xs they are bound in
@@ -151,15 +146,22 @@ pub record Filled (bytes : List ℕ) (at n : ℕ) (arities xs : List ℕ) (b : B
 
 -- Rules
 
--- a left side and its root, by the tables
-pub record LeftAt (bytes : List ℕ) (n : ℕ) (arities : List ℕ) (at root : ℕ) (side : Side) : Type 0 where
+-- a left side, whose root is an operator
+pub record LeftAt (bytes : List ℕ) (n : ℕ) (arities : List ℕ) (at : ℕ) (side : Side) : Type 0 where
   pub stands : SideAt bytes at n arities side
-  pub root-is : label side ≡ Symbol.operator root
+  pub root : IsOperator (label side)
 
 -- the tables of m rules' left sides
-pub record Lefts (bytes : List ℕ) (n : ℕ) (arities lefts roots : List ℕ) (m : ℕ) (rules : List Rule) : Type 0 where
+pub record Lefts (bytes : List ℕ) (n : ℕ) (arities lefts chain : List ℕ) (m : ℕ) (rules : List Rule) : Type 0 where
   pub count : length rules ≡ m
-  pub each : (i : ℕ) → i < m → LeftAt bytes n arities (getD lefts i 0) (getD roots i 0) (ruleAt rules i .left)
+  pub each : (i : ℕ) → i < m → LeftAt bytes n arities (getD lefts i 0) (ruleAt rules i .left)
+  pub chained : Chained rules m chain
+
+-- from the rule of number k the chain goes on to the one of number x; what does not go up ends it
+pub record Onward (k x r : ℕ) : Type 0 where
+  pub up : k < x → r ≡ x
+  pub ends : x ≤ k → r ≡ 0
+  pub small : r < 256
 
 -- a match of rule i's left side
 abbrev pub tries : List ℕ → List Rule → ℕ → ℕ → List ℕ → flat.Match
@@ -171,13 +173,14 @@ Passed arities rules i a xs = (j : ℕ) → j < i → tries arities rules j a xs
 
 -- rule i is the first that matches, with the binding b, up to offset e
 pub record First (arities : List ℕ) (rules : List Rule) (a : ℕ) (xs : List ℕ) (i e : ℕ) (b : Binding) : Type 0 where
+  pub below : i < length rules
   pub passed : Passed arities rules i a xs
   pub agrees : tries arities rules i a xs ≡ flat.Match.agrees b e
   pub is : rewrite (arity-in arities) rules a xs ≡ flat.Hit.hit (fill (preorder (ruleAt rules i .right)) b xs) e
 
--- r and the binding b answer for the left side of rule i
-pub record Tried (bytes : List ℕ) (n : ℕ) (arities lefts roots : List ℕ) (i : ℕ) (xs : List ℕ) (a len : ℕ) (b : Binding) (r : F.Found) : Type 0 where
-  pub is : (side : Side) → LeftAt bytes n arities (getD lefts i 0) (getD roots i 0) side →
+-- r and the binding b answer for the left side of rule i, if its root is the term's
+pub record Tried (bytes : List ℕ) (n : ℕ) (arities lefts : List ℕ) (i : ℕ) (xs : List ℕ) (a len : ℕ) (b : Binding) (r : F.Found) : Type 0 where
+  pub is : (side : Side) → SideAt bytes (getD lefts i 0) n arities side → label side ≡ Symbol.operator (getD xs a 0) →
       match (arity-in arities) (preorder side) a (drop a xs) blank ≡ found r b
   pub bounded : Bounded len b r
 
@@ -187,13 +190,12 @@ pub record Missed (arities : List ℕ) (rules : List Rule) (a : ℕ) (xs : List 
   pub is : rewrite (arity-in arities) rules a xs ≡ flat.Hit.miss
 
 -- of the rules in the tables, rule i is the first that matches, with the binding b, up to offset e
-pub record Hits (bytes : List ℕ) (n : ℕ) (arities lefts roots : List ℕ) (m : ℕ) (xs : List ℕ) (a len : ℕ) (b : Binding) (i e : ℕ) : Type 0 where
-  pub below : i < m
-  pub first : (rules : List Rule) → Lefts bytes n arities lefts roots m rules → First arities rules a xs i e b
+pub record Hits (bytes : List ℕ) (n : ℕ) (arities lefts chain : List ℕ) (m : ℕ) (xs : List ℕ) (a len : ℕ) (b : Binding) (i e : ℕ) : Type 0 where
+  pub first : (rules : List Rule) → Lefts bytes n arities lefts chain m rules → First arities rules a xs i e b
   pub within : Within b len
   pub ends : e ≤ len
 
 -- r and the binding b answer for the rules in the tables
 abbrev pub Chosen : List ℕ → ℕ → List ℕ → List ℕ → List ℕ → ℕ → List ℕ → ℕ → ℕ → Binding → H.Hit → Type 0
-Chosen bytes n arities lefts roots m xs a len b (H.Hit.Rule i e) = Hits bytes n arities lefts roots m xs a len b i e
-Chosen bytes n arities lefts roots m xs a len b H.Hit.None = (rules : List Rule) → Lefts bytes n arities lefts roots m rules → Missed arities rules a xs
+Chosen bytes n arities lefts chain m xs a len b (H.Hit.Rule i e) = Hits bytes n arities lefts chain m xs a len b i e
+Chosen bytes n arities lefts chain m xs a len b H.Hit.None = (rules : List Rule) → Lefts bytes n arities lefts chain m rules → Missed arities rules a xs

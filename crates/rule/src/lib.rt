@@ -1,11 +1,11 @@
 // A packed rule against the present term: its left side matched, its right side filled, and the first rule in book order that matches
 // (document 01, 'Reduction one after the other').
-use side::Symbol;
+use side::Standing;
 ghost use mathlib.Core.Path.{_≡_};
 ghost use Prim.Native.Nat.{_+_, _-_, _<_, _≤_, _^_};
 ghost use lib.ListN.{length, getD, take, drop};
 ghost use Rattle.flat.specs.Symbols as flat;
-ghost use Rattle.rule.specs.Packed.{binding, Within, Holds, head-is, MatchStep, Bounded, Answers, Matched, SizeStep, Sized, ToFill, FillStep, Fillable, Filled, Tried, Chosen};
+ghost use Rattle.rule.specs.Packed.{binding, Within, Holds, head-is, MatchStep, Bounded, Answers, SizeStep, Sized, ToFill, FillStep, Fillable, Filled, Tried, Onward, Chosen};
 
 // The offset behind the term that a left side agrees with.
 pub enum Found {
@@ -44,7 +44,7 @@ fn long(x: u16) -> usize
 }
 
 fn place(x: u32) -> usize
-    ensures { λ r. ⌜ r ≡ x ⌝ }
+    ensures { λ r. ⌜ (r ≡ x) × (r < 2 ^ 32) ⌝ }
 {
     x as usize
 }
@@ -112,16 +112,15 @@ fn match_one(
     requires { ⌜ (length (now book) ≤ 2 ^ 60) × (length (now symbols) ≡ 1024) × (len ≤ 1024) × (offset ≤ len) × (length (now starts) ≡ 16) × (length (now sizes) ≡ 16) × Within (binding (now starts) (now sizes)) len ⌝ }
     ensures { λ r. ⌜ MatchStep (now (book .entry)) at n (now (arities .entry)) (take len (now (symbols .entry))) offset len (binding (now (starts .entry)) (now (sizes .entry))) (now (starts .exit)) (now (sizes .exit)) r ⌝ }
 {
-    match side::read_symbol(book, at, n) {
-        Symbol::Refused(_) => Step::Stops,
-        Symbol::Operator(o, next) => {
+    match side::symbol_at(book, at) {
+        Standing::Operator(o, next) => {
             if stands(symbols, len, offset, o) {
                 Step::Took(arity_of(arities, o), next, 1)
             } else {
                 Step::Stops
             }
         }
-        Symbol::Variable(v, next) => {
+        Standing::Variable(v, next) => {
             let end = term::skip(symbols, len, arities, offset, 1);
             bind(starts, sizes, v, offset, end);
             Step::Took(0, next, end - offset)
@@ -129,8 +128,9 @@ fn match_one(
     }
 }
 
-// The left side at position at of the book, against the term at an offset; bindings come on top of those that are there.
-fn match_from(
+// The rest of a left side, at position at of the book, against the term from an offset on: due terms are to come, in up to 63 symbols, and bindings come
+// on top of those that are there.
+fn match_rest(
     book: &[u8],
     at: usize,
     n: usize,
@@ -138,17 +138,18 @@ fn match_from(
     symbols: &[u8; 1024],
     len: usize,
     offset: usize,
+    due: usize,
     starts: &mut [u16; 16],
     sizes: &mut [u16; 16],
 ) -> Found
-    requires { ⌜ (length (now book) ≤ 2 ^ 60) × (length (now symbols) ≡ 1024) × (len ≤ 1024) × (offset ≤ len) × (length (now starts) ≡ 16) × (length (now sizes) ≡ 16) × Within (binding (now starts) (now sizes)) len ⌝ }
-    ensures { λ r. ⌜ Answers (now (book .entry)) at n (now (arities .entry)) 1 64 (take len (now (symbols .entry))) offset (binding (now (starts .entry)) (now (sizes .entry))) r (binding (now (starts .exit)) (now (sizes .exit))) × Bounded len (binding (now (starts .exit)) (now (sizes .exit))) r ⌝ }
+    requires { ⌜ (length (now book) ≤ 2 ^ 60) × (length (now symbols) ≡ 1024) × (len ≤ 1024) × (offset ≤ len) × (due < 256) × (length (now starts) ≡ 16) × (length (now sizes) ≡ 16) × Within (binding (now starts) (now sizes)) len ⌝ }
+    ensures { λ r. ⌜ Answers (now (book .entry)) at n (now (arities .entry)) due 63 (take len (now (symbols .entry))) offset (binding (now (starts .entry)) (now (sizes .entry))) r (binding (now (starts .exit)) (now (sizes .exit))) × Bounded len (binding (now (starts .exit)) (now (sizes .exit))) r ⌝ }
 {
     let mut p = at;
     let mut q = offset;
-    let mut due = 1;
-    let mut room: usize = 64;
-    while 0 < due && 0 < room {
+    let mut owed = due;
+    let mut room: usize = 63;
+    while 0 < owed && 0 < room {
         let Step::Took(arity, next, size) = match_one(
             book,
             p,
@@ -162,7 +163,7 @@ fn match_from(
         ) else {
             return Found::Differs;
         };
-        due = due - 1 + arity;
+        owed = owed - 1 + arity;
         p = next;
         q += size;
         room -= 1;
@@ -170,34 +171,14 @@ fn match_from(
     Found::Agrees(q)
 }
 
-// The left side at position at of the book, against the term at an offset.
-pub fn match_left(
-    book: &[u8],
-    at: usize,
-    n: usize,
-    arities: &[u8; 256],
-    symbols: &[u8; 1024],
-    len: usize,
-    offset: usize,
-    starts: &mut [u16; 16],
-    sizes: &mut [u16; 16],
-) -> Found
-    requires { ⌜ (length (now book) ≤ 2 ^ 60) × (length (now symbols) ≡ 1024) × (len ≤ 1024) × (offset ≤ len) ⌝ }
-    ensures { λ r. ⌜ Matched (now (book .entry)) at n (now (arities .entry)) (take len (now (symbols .entry))) offset len (binding (now (starts .exit)) (now (sizes .exit))) r ⌝ }
-{
-    clear(starts, sizes);
-    match_from(book, at, n, arities, symbols, len, offset, starts, sizes)
-}
-
 // How many symbols the symbol at position at of a right side gives.
 fn size_one(book: &[u8], at: usize, n: usize, arities: &[u8; 256], sizes: &[u16; 16]) -> Step
     requires { ⌜ length (now book) ≤ 2 ^ 60 ⌝ }
     ensures { λ r. ⌜ SizeStep (now (book .entry)) at n (now (arities .entry)) (now (sizes .entry)) r ⌝ }
 {
-    match side::read_symbol(book, at, n) {
-        Symbol::Refused(_) => Step::Stops,
-        Symbol::Operator(o, next) => Step::Took(arity_of(arities, o), next, 1),
-        Symbol::Variable(v, next) => Step::Took(0, next, held(sizes, v)),
+    match side::symbol_at(book, at) {
+        Standing::Operator(o, next) => Step::Took(arity_of(arities, o), next, 1),
+        Standing::Variable(v, next) => Step::Took(0, next, held(sizes, v)),
     }
 }
 
@@ -244,13 +225,12 @@ fn fill_one(
     requires { ⌜ (length (now book) ≤ 2 ^ 60) × (length (now symbols) ≡ 1024) × (len ≤ 1024) × (length (now scratch) ≡ 1024) × Within (binding (now starts) (now sizes)) len × ToFill (now book) at n (now arities) (take len (now symbols)) (binding (now starts) (now sizes)) k ⌝ }
     ensures { λ r. ⌜ FillStep (now (book .entry)) at n (now (arities .entry)) (take len (now (symbols .entry))) (binding (now (starts .entry)) (now (sizes .entry))) k (now (scratch .entry)) (now (scratch .exit)) r ⌝ }
 {
-    match side::read_symbol(book, at, n) {
-        Symbol::Refused(_) => Step::Stops,
-        Symbol::Operator(o, next) => {
+    match side::symbol_at(book, at) {
+        Standing::Operator(o, next) => {
             scratch[k] = o;
             Step::Took(arity_of(arities, o), next, 1)
         }
-        Symbol::Variable(v, next) => {
+        Standing::Variable(v, next) => {
             let size = held(sizes, v);
             term::copy(scratch, k, symbols, held(starts, v), size);
             Step::Took(0, next, size)
@@ -300,47 +280,54 @@ pub fn fill(
     k
 }
 
-// Rule i against the term at an offset: a rule whose root differs is not read.
+// Rule i, whose root is that of the term at an offset and has due arguments: what stands behind the root's nine bits.
 fn try_rule(
     book: &[u8],
     i: usize,
     n: usize,
     arities: &[u8; 256],
     lefts: &[u32; 256],
-    roots: &[u8; 256],
+    due: usize,
     symbols: &[u8; 1024],
     len: usize,
     offset: usize,
     starts: &mut [u16; 16],
     sizes: &mut [u16; 16],
 ) -> Found
-    requires { ⌜ (length (now book) ≤ 2 ^ 60) × (i < 256) × (length (now symbols) ≡ 1024) × (len ≤ 1024) × (offset ≤ len) ⌝ }
-    ensures { λ r. ⌜ Tried (now (book .entry)) n (now (arities .entry)) (now (lefts .entry)) (now (roots .entry)) i (take len (now (symbols .entry))) offset len (binding (now (starts .exit)) (now (sizes .exit))) r ⌝ }
+    requires { ⌜ (length (now book) ≤ 2 ^ 60) × (i < 256) × (length (now symbols) ≡ 1024) × (len ≤ 1024) × (offset < len) × (due ≡ getD (now arities) (getD (now symbols) offset 0) 0) × (due < 256) ⌝ }
+    ensures { λ r. ⌜ Tried (now (book .entry)) n (now (arities .entry)) (now (lefts .entry)) i (take len (now (symbols .entry))) offset len (binding (now (starts .exit)) (now (sizes .exit))) r ⌝ }
 {
-    if stands(symbols, len, offset, roots[i]) {
-        match_left(
-            book,
-            place(lefts[i]),
-            n,
-            arities,
-            symbols,
-            len,
-            offset,
-            starts,
-            sizes,
-        )
-    } else {
-        Found::Differs
-    }
+    clear(starts, sizes);
+    match_rest(
+        book,
+        place(lefts[i]) + 9,
+        n,
+        arities,
+        symbols,
+        len,
+        offset + 1,
+        due,
+        starts,
+        sizes,
+    )
 }
 
-// The first of m rules that matches the term at an offset.
+// The number of the next rule with the same root as the rule of number k. Numbers only go up, so that every walk ends.
+fn next_rule(chain: &[u8; 768], k: usize) -> usize
+    requires { ⌜ k < 256 ⌝ }
+    ensures { λ r. ⌜ Onward k (getD (now (chain .entry)) (255 + k) 0) r ⌝ }
+{
+    let next = wide(chain[255 + k]);
+    if k < next { next } else { 0 }
+}
+
+// The first of m rules that matches the term at an offset. Only those with the root of the term are tried.
 pub fn find(
     book: &[u8],
     n: usize,
     arities: &[u8; 256],
     lefts: &[u32; 256],
-    roots: &[u8; 256],
+    chain: &[u8; 768],
     m: usize,
     symbols: &[u8; 1024],
     len: usize,
@@ -348,27 +335,32 @@ pub fn find(
     starts: &mut [u16; 16],
     sizes: &mut [u16; 16],
 ) -> Hit
-    requires { ⌜ (length (now book) ≤ 2 ^ 60) × (m ≤ 256) × (length (now symbols) ≡ 1024) × (len ≤ 1024) × (offset ≤ len) ⌝ }
-    ensures { λ r. ⌜ Chosen (now (book .entry)) n (now (arities .entry)) (now (lefts .entry)) (now (roots .entry)) m (take len (now (symbols .entry))) offset len (binding (now (starts .exit)) (now (sizes .exit))) r ⌝ }
+    requires { ⌜ (length (now book) ≤ 2 ^ 60) × (length (now symbols) ≡ 1024) × (len ≤ 1024) × (offset ≤ len) ⌝ }
+    ensures { λ r. ⌜ Chosen (now (book .entry)) n (now (arities .entry)) (now (lefts .entry)) (now (chain .entry)) m (take len (now (symbols .entry))) offset len (binding (now (starts .exit)) (now (sizes .exit))) r ⌝ }
 {
-    let mut i = 0;
-    while i < m {
+    if len <= offset {
+        return Hit::None;
+    }
+    let o = symbols[offset];
+    let due = arity_of(arities, o);
+    let mut k = wide(chain[wide(o)]);
+    while 0 < k {
         if let Found::Agrees(end) = try_rule(
             book,
-            i,
+            k - 1,
             n,
             arities,
             lefts,
-            roots,
+            due,
             symbols,
             len,
             offset,
             starts,
             sizes,
         ) {
-            return Hit::Rule(i, end);
+            return Hit::Rule(k - 1, end);
         }
-        i += 1;
+        k = next_rule(chain, k);
     }
     Hit::None
 }

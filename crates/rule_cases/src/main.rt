@@ -30,12 +30,12 @@ fn try_rewrite(
     arities: &[u8; 256],
     lefts: &[u32; 256],
     rights: &[u32; 256],
-    roots: &[u8; 256],
+    chain: &[u8; 768],
     symbols: &mut [u8; 1024],
     len: usize,
     offset: usize,
 )
-    requires { ⌜ (length (now bytes) ≤ 65536) × Ready (now bytes) (now arities) (now lefts) (now rights) (now roots) n m × (length (now symbols) ≡ 1024) × (len ≤ 1024) × (offset ≤ len) ⌝ }
+    requires { ⌜ (length (now bytes) ≤ 65536) × Ready (now bytes) (now arities) (now lefts) (now rights) (now chain) n m × (length (now symbols) ≡ 1024) × (len ≤ 1024) × (offset ≤ len) ⌝ }
 {
     let mut scratch = [0u8; 1024];
     match rewrite::rewrite(
@@ -45,7 +45,7 @@ fn try_rewrite(
         arities,
         lefts,
         rights,
-        roots,
+        chain,
         symbols,
         len,
         offset,
@@ -94,11 +94,11 @@ fn try_line(
     arities: &[u8; 256],
     lefts: &[u32; 256],
     rights: &[u32; 256],
-    roots: &[u8; 256],
+    chain: &[u8; 768],
     line: &[u8],
     offset: usize,
 )
-    requires { ⌜ (length (now bytes) ≤ 65536) × Ready (now bytes) (now arities) (now lefts) (now rights) (now roots) n m ⌝ }
+    requires { ⌜ (length (now bytes) ≤ 65536) × Ready (now bytes) (now arities) (now lefts) (now rights) (now chain) n m ⌝ }
 {
     match term::check_line(line, n, arities) {
         Line::Refused(k) => say_refused(k),
@@ -116,7 +116,7 @@ fn try_line(
                 arities,
                 lefts,
                 rights,
-                roots,
+                chain,
                 &mut symbols,
                 len,
                 offset,
@@ -132,17 +132,17 @@ fn try_book(bytes: &[u8], line: &[u8], offset: usize)
     let mut laid = [0u8; 4096];
     let mut lefts = [0u32; 256];
     let mut rights = [0u32; 256];
-    let mut roots = [0u8; 256];
+    let mut chain = [0u8; 768];
     match book::read_book(
         bytes,
         &mut arities,
         &mut laid,
         &mut lefts,
         &mut rights,
-        &mut roots,
+        &mut chain,
     ) {
         Book::Refused(k) => say_refused(k),
-        Book::Read(n, m) => try_line(bytes, n, m, &arities, &lefts, &rights, &roots, line, offset),
+        Book::Read(n, m) => try_line(bytes, n, m, &arities, &lefts, &rights, &chain, line, offset),
     }
 }
 

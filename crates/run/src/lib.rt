@@ -51,7 +51,7 @@ pub fn run_schedule(
     laid: &[u8; 4096],
     lefts: &[u32; 256],
     rights: &[u32; 256],
-    roots: &[u8; 256],
+    chain: &[u8; 768],
     m: usize,
     symbols: &mut [u8; 1024],
     len: usize,
@@ -63,8 +63,8 @@ pub fn run_schedule(
     budget: u32,
     schedule: &[u8],
 ) -> Run
-    requires { ⌜ (length (now book) ≤ 65536) × R.Ready (E.Reaches (now book) (now arities) (now laid) (now lefts) (now rights) (now roots) n m budget) (now symbols) (now scratch) len (now work) (now busy) (now heights) units (now schedule) ⌝ }
-    ensures { λ r. ⌜ R.Ran (E.Reaches (now (book .entry)) (now (arities .entry)) (now (laid .entry)) (now (lefts .entry)) (now (rights .entry)) (now (roots .entry)) n m budget) (now (symbols .entry)) len (now (work .entry)) (now (busy .entry)) (now (heights .entry)) units budget (now (schedule .entry)) (now (symbols .exit)) r ⌝ }
+    requires { ⌜ (length (now book) ≤ 65536) × R.Ready (E.Reaches (now book) (now arities) (now laid) (now lefts) (now rights) (now chain) n m budget) (now symbols) (now scratch) len (now work) (now busy) (now heights) units (now schedule) ⌝ }
+    ensures { λ r. ⌜ R.Ran (E.Reaches (now (book .entry)) (now (arities .entry)) (now (laid .entry)) (now (lefts .entry)) (now (rights .entry)) (now (chain .entry)) n m budget) (now (symbols .entry)) len (now (work .entry)) (now (busy .entry)) (now (heights .entry)) units budget (now (schedule .entry)) (now (symbols .exit)) r ⌝ }
 {
     let mut length = len;
     let mut counts = Counts {
@@ -80,7 +80,7 @@ pub fn run_schedule(
             laid,
             lefts,
             rights,
-            roots,
+            chain,
             m,
             symbols,
             length,

@@ -11,9 +11,10 @@ use Rattle.paper.specs.Strategy.{has}
 use Rattle.paper.specs.Book as B
 use Rattle.paper.specs.Book.{Operator, Side, arityAt, symbolArity}
 use Rattle.paper.specs.Reader.{read-symbol, read-symbols, read-side, left-root, left-symbol, right-symbol, variable-of, variables, read-rule}
-use Rattle.paper.specs.Writer.{write-side}
+use Rattle.paper.specs.Writer.{write-symbol, write-side}
 use Rattle.side.specs.Mask.{Masks}
 use Rattle.side.specs.declared.Symbol as Sy
+use Rattle.side.specs.declared.Standing as Sd
 use Rattle.side.specs.declared.Step as St
 use Rattle.side.specs.declared.Rest as Re
 use Rattle.side.specs.declared.Left as Le
@@ -44,6 +45,26 @@ Small n (Sy.Symbol.Refused k) = Unit
 pub record SymbolAt (bytes : List ℕ) (at n : ℕ) (r : Sy.Symbol) : Type 0 where
   pub is : (ops : List Operator) → length ops ≡ n → symbol bytes r ≡ read-symbol ops (bitsAt bytes at)
   pub small : Small n r
+
+-- a symbol that stands there and what follows it
+abbrev pub standing : List ℕ → Sd.Standing → Read B.Symbol
+standing bytes (Sd.Standing.Operator o next) = record { value = B.Symbol.operator o; left = bitsAt bytes next }
+standing bytes (Sd.Standing.Variable v next) = record { value = B.Symbol.variable v; left = bitsAt bytes next }
+
+-- a symbol that the layout can hold
+abbrev pub Held : B.Symbol → Type 0
+Held (B.Symbol.operator o) = o < 256
+Held (B.Symbol.variable v) = v < 16
+
+-- a variable's number is small
+abbrev pub Slight : Sd.Standing → Type 0
+Slight (Sd.Standing.Operator o next) = Unit
+Slight (Sd.Standing.Variable v next) = v < 16
+
+-- r is the symbol that is written at a position, whichever it is
+pub record StandingAt (bytes : List ℕ) (at : ℕ) (r : Sd.Standing) : Type 0 where
+  pub is : (s : B.Symbol) (rest : List ℕ) → Held s → bitsAt bytes at ≡ write-symbol s ++ rest → standing bytes r ≡ record { value = s; left = rest }
+  pub small : Slight r
 
 -- One symbol of a side
 

@@ -1,17 +1,24 @@
 // The symbols, sides and rules of a book, read from its packed bits (document 01, 'The book, bit by bit'; refusals 1 and 4 to 8).
 use bits::Bits;
+use std::num;
 ghost use mathlib.Core.Path.{_≡_};
 ghost use Prim.Native.Nat.{_+_, _<_, _≤_, _^_};
 ghost use lib.ListN.{length, getD};
 ghost use lib.Dec.{eqb};
 ghost use Rattle.side.specs.Mask.{bit};
-ghost use Rattle.side.specs.Side.{SymbolAt, MetAt, StepAt, RestAt, LeftAt, RightAt, RuleAt};
+ghost use Rattle.side.specs.Side.{SymbolAt, StandingAt, MetAt, StepAt, RestAt, LeftAt, RightAt, RuleAt};
 
 // An operator or a variable, by number, and the position behind it; or the number of a refusal, here and below.
 pub enum Symbol {
     Operator(u8, usize),
     Variable(u8, usize),
     Refused(u8),
+}
+
+// A symbol of a book that was read: an operator or a variable, by number, and the position behind it.
+pub enum Standing {
+    Operator(u8, usize),
+    Variable(u8, usize),
 }
 
 // A symbol that a side takes: its arity, the variables met by then, and the position behind it.
@@ -73,6 +80,19 @@ pub fn read_symbol(book: &[u8], at: usize, n: usize) -> Symbol
         return Symbol::Refused(1);
     };
     Symbol::Variable(narrow(v), next)
+}
+
+// The symbol at position at, where one stands: nine bits are an operator, or begin with the five of a variable.
+pub fn symbol_at(book: &[u8], at: usize) -> Standing
+    requires { ⌜ length (now book) ≤ 2 ^ 60 ⌝ }
+    ensures { λ r. ⌜ StandingAt (now (book .entry)) at r ⌝ }
+{
+    let w = bits::nine(book, at);
+    if w < 256 {
+        Standing::Operator(w as u8, num::wrapping_add_usize(at, 9))
+    } else {
+        Standing::Variable((w / 16 % 16) as u8, num::wrapping_add_usize(at, 5))
+    }
 }
 
 // Variables are kept as a mask: the bit v says whether v is among them.

@@ -47,18 +47,15 @@ pub fn check_line(line: &[u8], n: usize, arities: &[u8; 256]) -> Line
     }
 }
 
-// The offset behind the first `terms` terms from offset at on.
+// The offset behind the first `terms` terms from offset at on: they end at `end` at the least, and each argument that is met is one symbol more.
 pub fn skip(symbols: &[u8; 1024], len: usize, arities: &[u8; 256], at: usize, terms: usize) -> usize
     requires { ⌜ (length (now symbols) ≡ 1024) × (len ≤ 1024) × (at ≤ len) × (terms < 2 ^ 32) ⌝ }
     ensures { λ r. ⌜ Skipped (now (arities .entry)) (take len (now (symbols .entry))) at terms len r ⌝ }
 {
-    let mut due = terms;
     let mut p = at;
-    while p < len {
-        if due == 0 {
-            return p;
-        }
-        due = due - 1 + wide(arities[wide(symbols[p])]);
+    let mut end = at + terms;
+    while p < len && p < end {
+        end += wide(arities[wide(symbols[p])]);
         p += 1;
     }
     p

@@ -36,9 +36,9 @@ match-ends arity (Symbol.operator o ∷ ss) a (x ∷ xs) b b′ e h =
     let l = match-ends arity ss (suc a) xs b b′ e (went-on (eqb o x) _ b′ e h) in omega arith
 match-ends arity (Symbol.variable v ∷ ss) a xs b b′ e h = let l = match-ends arity ss (a + skip arity 1 xs) _ _ b′ e h in omega arith
 
-module _ (bytes arities lefts rights roots : List ℕ) (n m : ℕ) (xs : List ℕ) (a : ℕ) (known : All (λ o. o < n) xs) where
+module _ (bytes arities lefts rights chain : List ℕ) (n m : ℕ) (xs : List ℕ) (a : ℕ) (known : All (λ o. o < n) xs) where
   abbrev T : Book → Type 0
-  T = Tabled bytes arities lefts rights roots n m
+  T = Tabled bytes arities lefts rights chain n m
 
   by-book : (B : Book) → T B → rewrite (arity-in arities) (B .rules) a xs ≡ rewrite (arity B) (B .rules) a xs
   by-book B (laid, t) = rewrite-same (arity-in arities) (arity B) (B .rules) a xs (all-map _ _ (arity-at t) xs known)
@@ -46,10 +46,10 @@ module _ (bytes arities lefts rights roots : List ℕ) (n m : ℕ) (xs : List �
   abbrev right : ℕ → Book → Side
   right i B = ruleAt (B .rules) i .right
 
-  pub misses : ((rules : List Rule) → Lefts bytes n arities lefts roots m rules → rule.Missed arities rules a xs) → Each T (Misses a xs)
+  pub misses : ((rules : List Rule) → Lefts bytes n arities lefts chain m rules → rule.Missed arities rules a xs) → Each T (Misses a xs)
   misses f B t = sym (by-book B t) ∙ f (B .rules) (lefts-stand (t .1)) .is
 
-  module _ (i e len : ℕ) (b : Binding) (c : rule.Hits bytes n arities lefts roots m xs a len b i e) where
+  module _ (i e len : ℕ) (b : Binding) (c : rule.Hits bytes n arities lefts chain m xs a len b i e) where
     hit-is : (B : Book) → T B → rewrite (arity B) (B .rules) a xs ≡ Hit.hit (fill (preorder (right i B)) b xs) e
     hit-is B t = sym (by-book B t) ∙ c .first (B .rules) (lefts-stand (t .1)) .is
 
@@ -57,19 +57,22 @@ module _ (bytes arities lefts rights roots : List ℕ) (n m : ℕ) (xs : List �
     ends B t =
         match-ends (arity-in arities) (preorder (ruleAt (B .rules) i .left)) a (drop a xs) blank _ e (c .first (B .rules) (lefts-stand (t .1)) .agrees)
 
+    below : (B : Book) → T B → i < length (B .rules)
+    below B t = c .first (B .rules) (lefts-stand (t .1)) .below
+
     pub small : (B : Book) → T B → i < 256
-    small B t = omega (arith, c .below, t .1 .rules .count, t .1 .good .few-rules)
+    small B t = omega (arith, below B t, t .1 .good .few-rules)
 
     pub spends : (made budget : ℕ) → made ≡ budget → Each T (Hits (λ ys e. spent made budget ≡ true) a xs)
     spends made budget p B t = record { ys = _; e = e; hit = hit-is B t; so = eq-eqb made budget p }
 
-  module _ (i e len : ℕ) (starts sizes : List ℕ) (c : rule.Hits bytes n arities lefts roots m xs a len (binding starts sizes) i e) (long : length xs ≡ len)
+  module _ (i e len : ℕ) (starts sizes : List ℕ) (c : rule.Hits bytes n arities lefts chain m xs a len (binding starts sizes) i e) (long : length xs ≡ len)
       (at size made budget : ℕ) (here : at ≡ getD rights i 0) (s : Sized bytes at n arities sizes size) where
     hit : (B : Book) → T B → rewrite (arity B) (B .rules) a xs ≡ Hit.hit (fill (preorder (right i B)) (binding starts sizes) xs) e
     hit = hit-is i e len (binding starts sizes) c
 
     stands : (B : Book) → T B → SideAt bytes at n arities (right i B)
-    stands B t = rw here (right-stands (t .1) i (c .below))
+    stands B t = rw here (right-stands (t .1) i (omega (arith, below i e len (binding starts sizes) c B t, t .1 .rules .count)))
 
     size-is : (B : Book) → T B → size ≡ length (fill (preorder (right i B)) (binding starts sizes) xs)
     size-is B t = s .is (right i B) (stands B t) starts xs (rw long (c .within))

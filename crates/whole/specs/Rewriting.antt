@@ -23,12 +23,12 @@ use Rattle.whole.specs.declared.Choice as C
 
 -- these are the tables of the book B
 abbrev pub Tabled : List ℕ → List ℕ → List ℕ → List ℕ → List ℕ → ℕ → ℕ → Book → Type 0
-Tabled bytes arities lefts rights roots n m B = (laid : List ℕ) × Tables bytes arities laid lefts rights roots n m B
+Tabled bytes arities lefts rights chain n m B = (laid : List ℕ) × Tables bytes arities laid lefts rights chain n m B
 
 -- a book's tables, and the present term, whose symbols are its operators; a is an offset in it
-pub record Present (bytes arities lefts rights roots : List ℕ) (n m : ℕ) (symbols : List ℕ) (len a : ℕ) : Type 0 where
+pub record Present (bytes arities lefts rights chain : List ℕ) (n m : ℕ) (symbols : List ℕ) (len a : ℕ) : Type 0 where
   pub book : Book
-  pub tabled : Tabled bytes arities lefts rights roots n m book
+  pub tabled : Tabled bytes arities lefts rights chain n m book
   pub short : length bytes ≤ 2 ^ 60
   pub long : length symbols ≡ 1024
   pub most : len ≤ 1024

@@ -70,7 +70,7 @@ fn choose(
     arities: &[u8; 256],
     lefts: &[u32; 256],
     rights: &[u32; 256],
-    roots: &[u8; 256],
+    chain: &[u8; 768],
     m: usize,
     symbols: &[u8; 1024],
     len: usize,
@@ -79,8 +79,8 @@ fn choose(
     made: u32,
     budget: u32,
 ) -> Choice
-    requires { ⌜ R.Present (now book) (now arities) (now lefts) (now rights) (now roots) n m (now symbols) len a × (length (now scratch) ≡ 1024) ⌝ }
-    ensures { λ r. ⌜ R.Chosen (R.Tabled (now (book .entry)) (now (arities .entry)) (now (lefts .entry)) (now (rights .entry)) (now (roots .entry)) n m) (take len (now (symbols .entry))) a len made budget (now (scratch .exit)) r ⌝ }
+    requires { ⌜ R.Present (now book) (now arities) (now lefts) (now rights) (now chain) n m (now symbols) len a × (length (now scratch) ≡ 1024) ⌝ }
+    ensures { λ r. ⌜ R.Chosen (R.Tabled (now (book .entry)) (now (arities .entry)) (now (lefts .entry)) (now (rights .entry)) (now (chain .entry)) n m) (take len (now (symbols .entry))) a len made budget (now (scratch .exit)) r ⌝ }
 {
     let mut starts = [0; 16];
     let mut sizes = [0; 16];
@@ -89,7 +89,7 @@ fn choose(
         n,
         arities,
         lefts,
-        roots,
+        chain,
         m,
         symbols,
         len,
@@ -143,7 +143,7 @@ pub fn rewrite(
     arities: &[u8; 256],
     lefts: &[u32; 256],
     rights: &[u32; 256],
-    roots: &[u8; 256],
+    chain: &[u8; 768],
     m: usize,
     symbols: &mut [u8; 1024],
     len: usize,
@@ -156,8 +156,8 @@ pub fn rewrite(
     made: u32,
     budget: u32,
 ) -> Whole
-    requires { ⌜ R.Present (now book) (now arities) (now lefts) (now rights) (now roots) n m (now symbols) len a × (length (now scratch) ≡ 1024) × R.Placed (now work) (now heights) units u len ⌝ }
-    ensures { λ r. ⌜ R.CarriedOut (R.Tabled (now (book .entry)) (now (arities .entry)) (now (lefts .entry)) (now (rights .entry)) (now (roots .entry)) n m) made budget a (now (symbols .entry)) len (now (work .entry)) (now (heights .entry)) units u (now (symbols .exit)) (now (scratch .exit)) (now (work .exit)) r ⌝ }
+    requires { ⌜ R.Present (now book) (now arities) (now lefts) (now rights) (now chain) n m (now symbols) len a × (length (now scratch) ≡ 1024) × R.Placed (now work) (now heights) units u len ⌝ }
+    ensures { λ r. ⌜ R.CarriedOut (R.Tabled (now (book .entry)) (now (arities .entry)) (now (lefts .entry)) (now (rights .entry)) (now (chain .entry)) n m) made budget a (now (symbols .entry)) len (now (work .entry)) (now (heights .entry)) units u (now (symbols .exit)) (now (scratch .exit)) (now (work .exit)) r ⌝ }
 {
     match choose(
         book,
@@ -165,7 +165,7 @@ pub fn rewrite(
         arities,
         lefts,
         rights,
-        roots,
+        chain,
         m,
         symbols,
         len,

@@ -54,7 +54,7 @@ unfolding writtenOf
 answers-prefix bytes output output′ r h a = record { is = writing-of bytes output (readBook (take 65536 bytes)) (read-prefix bytes h) ∙ a .is }
 
 -- what the book's reader gives
-pub accepted-of : {bytes arities laid lefts rights roots : List ℕ} {n m : ℕ} → BookAt bytes arities laid lefts rights roots (B.Book.Read n m) →
+pub accepted-of : {bytes arities laid lefts rights chain : List ℕ} {n m : ℕ} → BookAt bytes arities laid lefts rights chain (B.Book.Read n m) →
     Accepted bytes n arities
 accepted-of h =
     let t = h .is .tables .operators in

@@ -270,7 +270,7 @@ fn write_short(book: &[u8], output: &mut [u8]) -> Written
     let mut laid = [0u8; 4096];
     let mut lefts = [0u32; 256];
     let mut rights = [0u32; 256];
-    let mut roots = [0u8; 256];
+    let mut chain = [0u8; 768];
     let mut nowhere = [0u8; 1];
     match book::read_book(
         book,
@@ -278,7 +278,7 @@ fn write_short(book: &[u8], output: &mut [u8]) -> Written
         &mut laid,
         &mut lefts,
         &mut rights,
-        &mut roots,
+        &mut chain,
     ) {
         Book::Refused(k) => Written::Refused(k),
         Book::Read(n, _) => write_fitting(book, n, &arities, &mut nowhere, output),

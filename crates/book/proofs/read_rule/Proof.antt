@@ -23,9 +23,9 @@ returns c = rule-refused _ _ _ _ _ _ _ _ _ _ _ _ (rw (c .before .e .given .1) at
 
 returns-2 : tie.Need-returns-2
 returns-2 c =
-    let s = c .before .before .before in
-    rule-read _ _ _ _ _ _ _ _ _ _ _ _ _ _ _ _ (rw (s .root .given .1) at (s .before .before .read-rule .ensures)) (omega arith) (c .before .place .ensures)
-    (c .place2 .ensures) refl refl refl
+    let s = c .before .before .before .before .before in
+    rule-read _ _ _ _ _ _ _ _ _ _ _ _ _ _ _ _ (rw (s .root .given .1) at (s .before .before .read-rule .ensures)) (omega arith)
+    (c .before .before .before .place .ensures) (c .before .before .place2 .ensures) refl refl (c .link .ensures)
 
 pub read-rule-spec : {M : Type 1} → statement M
 read-rule-spec =

@@ -1,6 +1,7 @@
 -- `book::read_rules` meets its contract. The loop's invariant: the first i rules are read, and the tables hold them. The measure is how many
 -- are left. Assumes nothing.
 use Prim.Native.Nat.{_-_, _≤_}
+use mathlib.Core.Path.{refl}
 use native.Mathlib.Omega.{arith}
 use Rattle.book.specs.Answer.{RulesAt}
 use Rattle.book.specs.declared.Part.{Part}
@@ -10,13 +11,13 @@ use Rattle.book.proofs.read_rules.Statement.{statement}
 use Rattle.book.proofs.read_rules.Tie as tie
 
 abbrev Inv-loop : tie.InvT-loop
-Inv-loop book at n arities m lefts₀ rights₀ roots₀ p₀ i₀ lefts rights roots p i = (i ≤ m) × RulesAt book at n arities i lefts rights roots (Part.Read p)
+Inv-loop book at n arities m lefts₀ rights₀ chain₀ p₀ i₀ lefts rights chain p i = (i ≤ m) × RulesAt book at n arities i lefts rights chain (Part.Read p)
 
 abbrev μ-loop : tie.MeasureT-loop
-μ-loop book at n arities m lefts₀ rights₀ roots₀ p₀ i₀ lefts rights roots p i = m - i
+μ-loop book at n arities m lefts₀ rights₀ chain₀ p₀ i₀ lefts rights chain p i = m - i
 
 loop-holds : tie.Need-loop-holds Inv-loop μ-loop
-loop-holds c = (omega arith, rules-none _ _ _ _ _ _ _ (c .before .pre .3))
+loop-holds c = (omega arith, rules-none _ _ _ _ _ _ _ (c .before .before .pre .3) refl)
 
 returns : tie.Need-returns Inv-loop μ-loop
 returns c =

@@ -1,7 +1,7 @@
 -- `rewrite::rewrite` meets its contract: a rule that is found is one of the book's. Assumes nothing.
 use Prim.Native.Nat.{_<_}
 use native.Mathlib.Omega.{arith}
-use Rattle.rewrite.proofs.Laws.{few-rules, right-side}
+use Rattle.rewrite.proofs.Laws.{few-rules, hit-below, right-side}
 use borrow.Author.Needs.{needs}
 use Rattle.rewrite.proofs.rewrite.Statement.{statement}
 use Rattle.rewrite.proofs.rewrite.Tie as tie
@@ -10,8 +10,9 @@ index : (c : tie.After-i) → c .i .given .0 .0 < 256
 index c =
     let f = c .before .before in
     let x = rw (c .i .given .1) at (f .find .ensures) in
-    let h = x .below in
-    let m = few-rules (f .before .before .before .before .before .pre .1) in
+    let r = f .before .before .before .before .before .pre .1 in
+    let h = hit-below r _ x in
+    let m = few-rules r in
     omega arith
 
 mul-place : tie.Need-mul-place
@@ -27,7 +28,7 @@ apply-requires c κs =
     let f = i .before .before in
     let h = f .before .before .before .before .before .pre in
     let t = rw (i .i .given .1) at (f .find .ensures) in
-    (h .0, right-side (h .1) (i .i .given .0 .0) _ (t .below) (p .place .ensures), h .2, h .3, h .4, t .ends, t .within, h .5)
+    (h .0, right-side (h .1) (i .i .given .0 .0) _ (hit-below (h .1) _ t) (p .place .ensures), h .2, h .3, h .4, t .ends, t .within, h .5)
 
 returns-3 : tie.Need-returns-3
 returns-3 c =

@@ -3,48 +3,42 @@ use mathlib.Core.Path.{sym, _∙_}
 use native.Mathlib.Omega.{arith}
 use borrow.Author.Needs.{needs}
 use lib.Seq.{length-take-le}
-use Rattle.rule.proofs.Matches.{step-refused, step-other, step-same, step-variable}
+use Rattle.rule.proofs.Matches.{step-other, step-same, step-variable}
 use Rattle.rule.proofs.match_one.Statement.{statement}
 use Rattle.rule.proofs.match_one.Tie as tie
 
 bind-requires : tie.Need-bind-requires
 bind-requires c κs =
     let v = c .before .before .before .before in
-    let small = rw (v .v .given .1) at (v .before .before .read-symbol .ensures .small) in
+    let small = rw (v .v .given .1) at (v .before .before .symbol-at .ensures .small) in
     (search needs, search needs, small, omega arith, omega arith)
 
 returns : tie.Need-returns
 returns c =
-    let r = c .before .before in
-    let p = r .before .before .pre in
-    step-refused _ _ _ _ _ _ _ _ _ (p .4) (p .5) _ (rw (c .enum-told .given .1) at (r .read-symbol .ensures))
-
-returns-2 : tie.Need-returns-2
-returns-2 c =
     let o = c .before .before .before .before in
     let r = o .before .before in
     let p = r .before .before .pre in
     let l = length-take-le (r .before .before .args .len) (r .before .before .args .symbols .now) (omega arith) in
-    step-same _ _ _ _ _ _ _ _ _ (p .4) (p .5) _ _ (rw (o .o .given .1) at (r .read-symbol .ensures)) _
+    step-same _ _ _ _ _ _ _ _ _ (p .4) (p .5) _ _ (rw (o .o .given .1) at (r .symbol-at .ensures)) _
     (sym (c .before .before .stands .ensures) ∙ c .before .if1 .taken) (c .arity-of .ensures .0) (c .arity-of .ensures .1) (omega arith) (p .6)
 
-returns-3 : tie.Need-returns-3
-returns-3 c =
+returns-2 : tie.Need-returns-2
+returns-2 c =
     let o = c .before .before .before in
     let r = o .before .before in
     let p = r .before .before .pre in
-    step-other _ _ _ _ _ _ _ _ _ (p .4) (p .5) _ _ (rw (o .o .given .1) at (r .read-symbol .ensures)) (sym (c .before .stands .ensures) ∙ c .if1 .left)
+    step-other _ _ _ _ _ _ _ _ _ (p .4) (p .5) _ _ (rw (o .o .given .1) at (r .symbol-at .ensures)) (sym (c .before .stands .ensures) ∙ c .if1 .left)
 
-returns-4 : tie.Need-returns-4
-returns-4 c =
+returns-3 : tie.Need-returns-3
+returns-3 c =
     let k = c .before .before .before in
     let v = k .before .before in
     let r = v .before .before in
     let p = r .before .before .pre in
     let a = r .before .before .args in
-    step-variable _ _ _ _ _ _ _ (a .starts .now) (a .sizes .now) (p .4) (p .5) _ _ _ _ _ (rw (v .v .given .1) at (r .read-symbol .ensures)) (k .skip .ensures .is) (k .skip .ensures .most) (p .6)
+    step-variable _ _ _ _ _ _ _ (a .starts .now) (a .sizes .now) (p .4) (p .5) _ _ _ _ _ (rw (v .v .given .1) at (r .symbol-at .ensures)) (k .skip .ensures .is) (k .skip .ensures .most) (p .6)
     (c .bind .ensures)
 
 pub match-one-spec : {M : Type 1} → statement M
 match-one-spec =
-    tie.close (tie.spec (λ c κs. search needs) (λ c. search needs) (λ c. search needs) (λ c κs. search needs) (λ c κs. search needs) (λ c. search needs) (λ c κs. search needs) bind-requires (λ c. search needs) returns returns-2 returns-3 returns-4)
+    tie.close (tie.spec (λ c κs. search needs) (λ c. search needs) (λ c κs. search needs) (λ c κs. search needs) (λ c. search needs) (λ c κs. search needs) bind-requires (λ c. search needs) returns returns-2 returns-3)

@@ -14,12 +14,12 @@ use Rattle.run.proofs.run_schedule.Statement.{statement}
 use Rattle.run.proofs.run_schedule.Tie as tie
 
 abbrev Inv-loop : tie.InvT-loop
-Inv-loop book n arities laid lefts rights roots m symbols₀ len scratch₀ work₀ busy₀ heights₀ units budget schedule length₀ counts₀ i₀ symbols scratch work busy heights length counts i =
-    Along (Reaches book arities laid lefts rights roots n m budget) symbols₀ len work₀ busy₀ heights₀ units budget schedule symbols scratch length work busy
+Inv-loop book n arities laid lefts rights chain m symbols₀ len scratch₀ work₀ busy₀ heights₀ units budget schedule length₀ counts₀ i₀ symbols scratch work busy heights length counts i =
+    Along (Reaches book arities laid lefts rights chain n m budget) symbols₀ len work₀ busy₀ heights₀ units budget schedule symbols scratch length work busy
     heights counts i × (L.length work ≡ L.length work₀)
 
 abbrev μ-loop : tie.MeasureT-loop
-μ-loop book n arities laid lefts rights roots m symbols₀ len scratch₀ work₀ busy₀ heights₀ units budget schedule length₀ counts₀ i₀ symbols scratch work busy heights length counts i =
+μ-loop book n arities laid lefts rights chain m symbols₀ len scratch₀ work₀ busy₀ heights₀ units budget schedule length₀ counts₀ i₀ symbols scratch work busy heights length counts i =
     L.length schedule - i
 
 -- where the loop's body begins

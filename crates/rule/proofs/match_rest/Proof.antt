@@ -1,4 +1,4 @@
--- `rule::match_from` meets its contract: an answer for the symbols to come is one for the whole side. Assumes nothing.
+-- `rule::match_rest` meets its contract: an answer for the symbols to come is one for all. Assumes nothing.
 use mathlib.Core.Logic.{inl, inr}
 use mathlib.Core.Path.{_≡_, refl}
 use Prim.Native.Nat.{_+_, _*_, _≤_}
@@ -10,17 +10,17 @@ use Rattle.flat.specs.Symbols.{Binding}
 use Rattle.rule.specs.Packed.{binding, Within, Answers}
 use Rattle.rule.specs.declared.Found.{Found}
 use Rattle.rule.proofs.Matches.{ended, stopped, went}
-use Rattle.rule.proofs.match_from.Statement.{statement}
-use Rattle.rule.proofs.match_from.Tie as tie
+use Rattle.rule.proofs.match_rest.Statement.{statement}
+use Rattle.rule.proofs.match_rest.Tie as tie
 
 abbrev Inv-loop : tie.InvT-loop
-Inv-loop book at n arities symbols len offset starts₀ sizes₀ p₀ q₀ due₀ room₀ starts sizes p q due room =
-    (due + 255 * room ≤ 16321) × (q ≤ len) × (length starts ≡ 16) × (length sizes ≡ 16) × Within (binding starts sizes) len
-    × ((r : Found) (b : Binding) → Answers book p n arities due room (take len symbols) q (binding starts sizes) r b →
-    Answers book at n arities 1 64 (take len symbols) offset (binding starts₀ sizes₀) r b)
+Inv-loop book at n arities symbols len offset due starts₀ sizes₀ p₀ q₀ owed₀ room₀ starts sizes p q owed room =
+    (owed + 255 * room ≤ 16320) × (q ≤ len) × (length starts ≡ 16) × (length sizes ≡ 16) × Within (binding starts sizes) len
+    × ((r : Found) (b : Binding) → Answers book p n arities owed room (take len symbols) q (binding starts sizes) r b →
+    Answers book at n arities due 63 (take len symbols) offset (binding starts₀ sizes₀) r b)
 
 abbrev μ-loop : tie.MeasureT-loop
-μ-loop book at n arities symbols len offset starts₀ sizes₀ p₀ q₀ due₀ room₀ starts sizes p q due room = room
+μ-loop book at n arities symbols len offset due starts₀ sizes₀ p₀ q₀ owed₀ room₀ starts sizes p q owed room = room
 
 loop-holds : tie.Need-loop-holds Inv-loop μ-loop
 loop-holds c = (omega arith, search needs, search needs, search needs, search needs, λ r b a. a)
@@ -34,8 +34,8 @@ returns c =
       tt,
     )
 
-add-due : tie.Need-add-due Inv-loop μ-loop
-add-due c =
+add-owed : tie.Need-add-owed Inv-loop μ-loop
+add-owed c =
     let s = rw (c .before .arity .given .1) at (c .before .before .before .match-one .ensures .is) in
     let m = s .0 in omega arith
 
@@ -76,6 +76,6 @@ returns-3 c =
     let i = l .loop .inv in
     (i .5 _ _ (ended _ _ _ _ _ _ _ _ _ (inl (omega arith))), (i .4, i .1))
 
-pub match-from-spec : {M : Type 1} → statement M
-match-from-spec =
-    tie.close (tie.spec Inv-loop μ-loop loop-holds (λ c κs. search needs) (λ c. search needs) (λ c. search needs) returns (λ c. search needs) add-due add-q (λ c. search needs) loop-less loop-again returns-2 returns-3)
+pub match-rest-spec : {M : Type 1} → statement M
+match-rest-spec =
+    tie.close (tie.spec Inv-loop μ-loop loop-holds (λ c κs. search needs) (λ c. search needs) (λ c. search needs) returns (λ c. search needs) add-owed add-q (λ c. search needs) loop-less loop-again returns-2 returns-3)
