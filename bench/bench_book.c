@@ -6,10 +6,10 @@
 
 enum { OPERATORS = 255, RULES = 255, SIDE = 64, TURNS = 301, INNER = 8 };
 
-uint8_t bench_book_read(const uint8_t *book, size_t len, uint8_t *arities, uint8_t *laid, uint32_t *lefts, uint32_t *rights, uint8_t *roots);
+uint8_t bench_book_read(const uint8_t *book, size_t len, uint8_t *arities, uint8_t *laid, uint32_t *lefts, uint32_t *rights, uint8_t *chain);
 
 static int rattle_read_book(const uint8_t *book, size_t len, tables *t) {
-    return bench_book_read(book, len, t->arities, t->laid, t->lefts, t->rights, t->roots);
+    return bench_book_read(book, len, t->arities, t->laid, t->lefts, t->rights, t->chain);
 }
 
 static packer book;

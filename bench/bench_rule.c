@@ -7,9 +7,9 @@
 enum { RULES = 32, TERM = 1000, TURNS = 301, INNER = 256 };
 enum { END, TICK, BOTH, PAIR, OPERATORS };
 
-uint8_t bench_book_read(const uint8_t *book, size_t len, uint8_t *arities, uint8_t *laid, uint32_t *lefts, uint32_t *rights, uint8_t *roots);
+uint8_t bench_book_read(const uint8_t *book, size_t len, uint8_t *arities, uint8_t *laid, uint32_t *lefts, uint32_t *rights, uint8_t *chain);
 size_t bench_rule_rewrite(const uint8_t *book, size_t len, size_t n, size_t m, const uint8_t *arities, const uint32_t *lefts, const uint32_t *rights,
-    const uint8_t *roots, uint8_t *symbols, size_t size, size_t offset, uint8_t *scratch);
+    const uint8_t *chain, uint8_t *symbols, size_t size, size_t offset, uint8_t *scratch);
 
 // The unverified rewrite.
 
@@ -37,9 +37,10 @@ static size_t term_size(const uint8_t *symbols, const uint8_t *arities, size_t a
     return p - at;
 }
 
-// The offset behind the term that a left side agrees with, or 0.
+// The offset behind the term that a left side agrees with, or 0. The root, of nine bits, agrees already.
 static size_t match(side s, const tables *t, const uint8_t *symbols, size_t size, size_t offset, uint16_t *starts, uint16_t *sizes) {
-    size_t q = offset, due = 1;
+    size_t q = offset + 1, due = t->arities[symbols[offset]];
+    s.at += 9;
     while (due) {
         due--;
         if (field(&s, 1)) {
@@ -89,8 +90,9 @@ static size_t fill(side s, const tables *t, const uint8_t *symbols, const uint16
 
 static size_t c_rewrite(const uint8_t *book, size_t len, unsigned m, const tables *t, uint8_t *symbols, size_t size, size_t offset, uint8_t *scratch) {
     uint16_t starts[16], sizes[16];
-    for (unsigned i = 0; i < m; i++) {
-        if (offset >= size || symbols[offset] != t->roots[i]) continue;
+    (void)m;
+    for (unsigned k = offset < size ? t->chain[symbols[offset]] : 0; k; k = t->chain[255 + k]) {
+        unsigned i = k - 1;
         size_t end = match((side){book, 8 * len, t->lefts[i]}, t, symbols, size, offset, starts, sizes);
         if (!end) continue;
         side right = {book, 8 * len, t->rights[i]};
@@ -153,7 +155,7 @@ static size_t make_term(uint8_t *term) {
 static const size_t OFFSET = 202;
 
 static size_t rattle_rewrite(const uint8_t *bytes, size_t len, unsigned m, const tables *t, uint8_t *symbols, size_t size, size_t offset, uint8_t *scratch) {
-    return bench_rule_rewrite(bytes, len, OPERATORS, m, t->arities, t->lefts, t->rights, t->roots, symbols, size, offset, scratch);
+    return bench_rule_rewrite(bytes, len, OPERATORS, m, t->arities, t->lefts, t->rights, t->chain, symbols, size, offset, scratch);
 }
 
 typedef size_t rewriter(const uint8_t *, size_t, unsigned, const tables *, uint8_t *, size_t, size_t, uint8_t *);
@@ -175,7 +177,7 @@ int main(void) {
     static uint8_t term[1024], ours[1024], theirs[1024];
     static double rattle[TURNS], c[TURNS];
     make_book();
-    if (bench_book_read(book.bytes, packed_length(&book), t.arities, t.laid, t.lefts, t.rights, t.roots) || make_term(term) != TERM) return 1;
+    if (bench_book_read(book.bytes, packed_length(&book), t.arities, t.laid, t.lefts, t.rights, t.chain) || make_term(term) != TERM) return 1;
     for (int i = 0; i < TURNS; i++) {
         rattle[i] = timed(rattle_rewrite, &t, term, ours);
         c[i] = timed(c_rewrite, &t, term, theirs);

@@ -28,7 +28,6 @@ typedef struct {
     int8_t more[256];        // arity - 1
     uint8_t joins[256 * 16]; // the count of the next JOIN from a step on
 #ifndef PACKED
-    uint8_t first[256], next[256]; // rules by root operator, in book order, one added to each and 0 for none
     uint8_t decoded[256];
     rule sides[256];
 #endif
@@ -85,11 +84,11 @@ static inline void bind(engine *e, unsigned v, unsigned from, unsigned to) {
 
 #ifdef PACKED
 
-// The offset behind the term at an offset if the rule's left side matches it, or 0.
+// The offset behind the term at an offset if the rule's left side matches it, or 0. The root, of nine bits, agrees already.
 static unsigned match(engine *e, unsigned i, unsigned offset) {
-    size_t at = e->read.lefts[i];
-    unsigned q = offset;
-    for (int due = 1; due > 0;) {
+    size_t at = e->read.lefts[i] + 9;
+    unsigned q = offset + 1;
+    for (int due = 1 + e->more[e->symbols[offset]]; due > 0;) {
         unsigned s = symbol(e, &at);
         if (s & VARIABLE) {
             unsigned from = q;
@@ -131,14 +130,6 @@ static void fill(engine *e, unsigned i) {
     }
 }
 
-// The first rule that matches at an offset, one added, or 0; and the offset behind the term.
-static unsigned find(engine *e, unsigned offset, unsigned *end) {
-    unsigned root = e->symbols[offset];
-    for (unsigned i = 0; i < e->rules; i++)
-        if (e->read.roots[i] == root && (*end = match(e, i, offset))) return i + 1;
-    return 0;
-}
-
 #else
 
 static unsigned decode_side(const engine *e, size_t at, uint16_t *side) {
@@ -159,7 +150,7 @@ static void decode(engine *e, unsigned i) {
     e->decoded[i] = 1;
 }
 
-// As above. The root agrees already.
+// As above.
 static unsigned match(engine *e, unsigned i, unsigned offset) {
     if (!e->decoded[i]) decode(e, i);
     const rule *r = &e->sides[i];
@@ -194,22 +185,14 @@ static void fill(engine *e, unsigned i) {
     }
 }
 
+#endif
+
+// The first rule that matches at an offset, one added, or 0; and the offset behind the term.
 static unsigned find(engine *e, unsigned offset, unsigned *end) {
-    for (unsigned i = e->first[e->symbols[offset]]; i; i = e->next[i - 1])
-        if ((*end = match(e, i - 1, offset))) return i;
+    for (unsigned k = e->read.chain[e->symbols[offset]]; k; k = e->read.chain[255 + k])
+        if ((*end = match(e, k - 1, offset))) return k;
     return 0;
 }
-
-static void list_rules(engine *e) {
-    memset(e->first, 0, sizeof e->first);
-    memset(e->decoded, 0, e->rules);
-    for (unsigned i = e->rules; i-- > 0;) {
-        e->next[i] = e->first[e->read.roots[i]];
-        e->first[e->read.roots[i]] = (uint8_t)(i + 1);
-    }
-}
-
-#endif
 
 // Rewrites.
 
@@ -395,7 +378,7 @@ static uint8_t prepare(engine *e, const uint8_t *book, size_t book_length, const
     memcpy(e->symbols, line, line_length);
     count_joins(e, operators);
 #ifndef PACKED
-    list_rules(e);
+    memset(e->decoded, 0, e->rules);
 #endif
     return 0;
 }

@@ -8,9 +8,9 @@
 typedef uint8_t reducer(const uint8_t *book, size_t book_length, const uint8_t *line, size_t line_length, uint8_t units, uint32_t budget,
     const uint8_t *schedule, size_t schedule_length, uint8_t *work, size_t work_length, uint8_t *output, size_t output_length, uint64_t *answer);
 
-// Decoded sides, rules listed by root operator, no frame looked at that can't move.
+// Decoded sides, no frame looked at that can't move.
 reducer c_reduce;
 
-// The library's own choices: sides stay packed, every rule's root is looked at in book order, every frame is looked at after a rewrite.
+// The library's own choices: sides stay packed, every frame is looked at after a rewrite.
 reducer c_reduce_packed;
 #endif

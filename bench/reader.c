@@ -2,6 +2,7 @@
 #include "reader.h"
 #include <stdint.h>
 #include <stddef.h>
+#include <string.h>
 
 typedef struct {
     const uint8_t *bytes;
@@ -115,14 +116,23 @@ static unsigned side(reader *r, unsigned n, const tables *t, unsigned *vars, int
     return root;
 }
 
+// Rule i becomes the last in the chain of its root.
+static inline void link_rule(uint8_t *chain, unsigned i, unsigned root) {
+    unsigned last = chain[512 + root];
+    chain[last ? 255 + last : root] = chain[512 + root] = (uint8_t)(i + 1);
+}
+
 static void rules(reader *r, unsigned n, unsigned m, tables *t) {
+    memset(t->chain, 0, sizeof t->chain);
     for (unsigned i = 0; i < m && !r->fault; i++) {
         unsigned vars = 0;
         t->lefts[i] = (uint32_t)r->at;
-        t->roots[i] = (uint8_t)side(r, n, t, &vars, 1);
+        unsigned root = side(r, n, t, &vars, 1);
         if (r->fault) return;
         t->rights[i] = (uint32_t)r->at;
         side(r, n, t, &vars, 0);
+        if (r->fault) return;
+        link_rule(t->chain, i, root);
     }
 }
 

@@ -86,7 +86,7 @@ module _ (chain chain′ : List ℕ) (i root e : ℕ) (long : length chain ≡ 7
   link-long = ap length is ∙ length-set two (512 + root) (i + 1) ∙ two-long
 
   entry : (p x : ℕ) → (p ≡ 512 + root → ⊥) → getD two p 0 ≡ x → getD chain′ p 0 ≡ x
-  entry p x lacks h = ap (λ (z : List ℕ). getD z p 0) is ∙ getD-set-other two (512 + root) p (i + 1) 0 lacks ∙ h
+  entry p x other h = ap (λ (z : List ℕ). getD z p 0) is ∙ getD-set-other two (512 + root) p (i + 1) 0 other ∙ h
 
   entry-last : getD chain′ (512 + root) 0 ≡ i + 1
   entry-last = ap (λ (z : List ℕ). getD z (512 + root) 0) is ∙ getD-set-same two (512 + root) (i + 1) 0 (omega (arith, two-long))
@@ -136,14 +136,14 @@ module _ (rules : List Rule) (rule : Rule) (i root : ℕ) (chain chain′ : List
 
     -- the entries of another root
     first-of : (o : ℕ) → o < 256 → (o ≡ root → ⊥) → (o ≡ e → ⊥) → FirstOf (Root more o) 0 (i + 1) (getD chain′ o 0)
-    first-of o l lacks other =
+    first-of o l distinct other =
         rw (kept o (λ q. omega arith) other (λ q. omega arith))
-        (first-other (Root rules o) (Root more o) i (up o) (down o) 0 (getD chain o 0) (λ r. lacks (is-root o r)) (h .first o l))
+        (first-other (Root rules o) (Root more o) i (up o) (down o) 0 (getD chain o 0) (λ r. distinct (is-root o r)) (h .first o l))
 
     next-of : (j o : ℕ) → j < i → Root rules o j → (o ≡ root → ⊥) → (256 + j ≡ e → ⊥) → FirstOf (Root more o) (j + 1) (i + 1) (getD chain′ (256 + j) 0)
-    next-of j o l r lacks other =
+    next-of j o l r distinct other =
         rw (kept (256 + j) (λ q. omega arith) other (λ q. omega arith))
-        (first-other (Root rules o) (Root more o) i (up o) (down o) (j + 1) (getD chain (256 + j) 0) (λ r. lacks (is-root o r)) (h .next j o l r))
+        (first-other (Root rules o) (Root more o) i (up o) (down o) (j + 1) (getD chain (256 + j) 0) (λ r. distinct (is-root o r)) (h .next j o l r))
 
     last-of : (o : ℕ) → o < 256 → LastOf (Root more o) (i + 1) (getD chain′ (512 + o) 0)
     last-of o l = elim (eqb-cases o root) [

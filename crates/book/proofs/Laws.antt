@@ -1,4 +1,4 @@
--- What the tables of a book tell a run: arities, orders, the chains of rules, and sides symbol by symbol; and that a refusal is answered exactly where the
+-- What the tables of a book tell a run: arities, orders, and sides symbol by symbol; and that a refusal is answered exactly where the
 -- paper refuses. Assumes nothing.
 use mathlib.Core.List.{List, [], _∷_, _++_, append-assoc}
 use mathlib.Core.Path.{_≡_, sym, ap, _∙_}

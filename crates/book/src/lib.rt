@@ -99,7 +99,7 @@ fn byte(x: u8) -> usize
     x as usize
 }
 
-// A rule's number in the chain: its index plus 1.
+// A rule's number in the chains: its index plus 1; 0 is none.
 fn number(i: usize) -> u8
     requires { ⌜ i < 255 ⌝ }
     ensures { λ r. ⌜ r ≡ i + 1 ⌝ }
@@ -115,7 +115,8 @@ fn place_behind(last: usize, root: usize) -> usize
     if last == 0 { root } else { 255 + last }
 }
 
-// Rule i becomes the last in the chain of its root.
+// Rule i becomes the last in the chain of its root. At a root stands the number of its first rule, from 256 on at a rule that of the next one with the
+// same root, from 512 on at a root that of its last rule so far.
 fn link(chain: &mut [u8; 768], i: usize, root: u8)
     requires { ⌜ i < 255 ⌝ }
     ensures { λ _. ⌜ Link (now (chain .entry)) i root (now (chain .exit)) ⌝ }
