@@ -86,6 +86,8 @@ module _ (book line : List ℕ) (units budget : ℕ) (schedule work output : Lis
     pub used : A .entries ≤ length schedule
     pub fits : length (preorder (A .term)) ≤ 1024
 
+  -- Book, line and schedule are lent to be read, so they are unchanged. The answer and the output are said by `answered`, which is asked with the
+  -- work area's length alone, so nothing depends on what it held (proofs/Laws, forgets).
   pub record Reduced (work′ output′ : List ℕ) (r : D.Answer) : Type 0 where
     -- the answer is the definition's
     pub answer : values r ≡ values-of answered
