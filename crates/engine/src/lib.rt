@@ -128,8 +128,8 @@ fn post(
         schedule,
     );
     term.length = run.length;
-    let left = term.length;
-    hand_out(&term.symbols, left, output);
+    let length = term.length;
+    hand_out(&term.symbols, length, output);
     stack::clear(work);
     run
 }
