@@ -8,6 +8,7 @@ pub mod Trees
 pub mod Line
 pub mod Rules
 pub mod Bytes
+pub mod Lengths
 pub mod Books
 pub mod Prefix
 pub mod Matching
@@ -30,3 +31,4 @@ pub mod Course
 pub mod Joined
 pub mod Demand3
 pub mod OneUnit
+pub mod Refusals

@@ -9,7 +9,7 @@ use lib.Dec.{eqb}
 use lib.ListN.{length, take, drop, replicate, length-append, length-replicate, take-append-drop}
 use lib.Seq.{take-at, drop-at, length-take-le, getD-drop}
 use Rattle.paper.specs.Result.{accepted, Read, return, refuse, if, _>>=_, repeat}
-use Rattle.paper.specs.Bits.{toBits, value, bitsOf, bytesFrom, bytesOf, field}
+use Rattle.paper.specs.Bits.{toBits, value, bitsOf, bytesOf, field}
 use Rattle.paper.specs.Book.{Operator, Book}
 use Rattle.paper.specs.Reader.{read-operator, read-count, read-bits, readBook}
 use Rattle.paper.specs.Writer.{concat, write-operator, write-rule, writeBook}
@@ -17,7 +17,7 @@ use Rattle.paper.specs.Sound.{All}
 use Rattle.paper.proofs.Lists.{all-append, all-split}
 use Rattle.paper.proofs.Readers.{accepted-injective, refused-accepted, then-accepted, return-accepted, bind-accepted}
 use Rattle.paper.proofs.Bits.{length-toBits, value-toBits, field-read, all-take}
-use Rattle.paper.proofs.Bytes.{bits-below, length-bitsOf, bitsOf-append, bits-bytes, bytes-below}
+use Rattle.paper.proofs.Bytes.{bits-below, length-bitsOf, bitsOf-append, length-bytesOf, bits-bytes, bytes-below}
 use Rattle.side.specs.Side.{bitsAt}
 use Rattle.book.specs.Answer.{read-tail}
 use Rattle.writer.specs.Put.{Put, Bytes, OperatorsAt, RulesAt, BookAt}
@@ -58,15 +58,6 @@ unfolding toBits
 zeros zero = refl
 zeros (suc z) = ap₂ (λ (x : ℕ) (xs : List ℕ). x % 2 ∷ xs) (zero-div (2 ^ z)) (zeros z)
 
-bytesFrom-long : (n : ℕ) (xs : List ℕ) → length (bytesFrom n xs) ≡ n
-unfolding bytesFrom
-bytesFrom-long zero xs = refl
-bytesFrom-long (suc n) xs = ap suc (bytesFrom-long n (drop 8 xs))
-
-bytesOf-long : (xs : List ℕ) → length (bytesOf xs) ≡ (length xs + 7) / 8
-unfolding bytesOf
-bytesOf-long xs = bytesFrom-long ((length xs + 7) / 8) (xs ++ replicate 7 0)
-
 -- bits with zero bits up to a whole byte are the bytes that hold them
 module _ (xs out out′ : List ℕ) (z all size : ℕ) (z-is : z ≡ (8 - length xs % 8) % 8) (size-is : size ≡ all / 8)
     (w : Put 0 (xs ++ toBits z 0) out out′ all) where
@@ -74,7 +65,7 @@ module _ (xs out out′ : List ℕ) (z all size : ℕ) (z-is : z ≡ (8 - length
   total = w .ends ∙ omega (arith, length-append xs (toBits z 0), length-toBits z 0)
 
   pub size-of : size ≡ length (bytesOf xs)
-  size-of = let t = total in omega (arith, bytesOf-long xs)
+  size-of = let t = total in omega (arith, length-bytesOf xs)
 
   whole : 8 * size ≡ all
   whole = let t = total in omega arith
@@ -89,7 +80,7 @@ module _ (xs out out′ : List ℕ) (z all size : ℕ) (z-is : z ≡ (8 - length
       all-split (λ x. x < 2) xs (toBits z 0) (subst (All (λ x. x < 2)) front (all-take all (bitsOf out′) (bits-below out′))) .0 in
       let (k, l, f) = bits-bytes xs bits in
       let same : z ≡ k =
-      omega (arith, bytesOf-long xs, length-bitsOf (bytesOf xs), ap length f, length-append xs (replicate k 0), length-replicate {A = ℕ} k 0) in
+      omega (arith, length-bytesOf xs, length-bitsOf (bytesOf xs), ap length f, length-append xs (replicate k 0), length-replicate {A = ℕ} k 0) in
       bytes-same out′ (bytesOf xs ++ drop size out) (all-bytes out′ b′)
       (all-append (λ x. x < 256) (bytesOf xs) (drop size out) (bytes-below xs bits)
       (all-bytes (drop size out) (λ i. rw (getD-drop size out i 0) (b (size + i)))))

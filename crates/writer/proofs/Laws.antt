@@ -1,7 +1,8 @@
--- The writer's answers, and what a caller has of them: a book that was written reads as the one that was given, and a refusal leaves the output
--- as it was. Assumes nothing.
+-- The writer's answers, and what a caller has of them: a book that was written reads as the one that was given and is no longer, a refusal leaves
+-- the output as it was, and 16 does not come where the output is as long as the book given. Assumes nothing.
 use mathlib.Core.Bool.{Bool, true, false}
 use mathlib.Core.List.{List, _++_}
+use mathlib.Core.Logic.{_⊎_, inl, inr}
 use mathlib.Core.Path.{_≡_, refl, sym, ap, _∙_}
 use Prim.Native.Nat.{ℕ, _≤_, _<_}
 use native.Mathlib.Omega.{arith}
@@ -16,7 +17,8 @@ use Rattle.paper.specs.Writer.{writeBook}
 use Rattle.paper.specs.Page.{writtenOf}
 use Rattle.paper.proofs.Tests.{ltb-true, ltb-false}
 use Rattle.paper.proofs.Books.{read-book-good, round-trip}
-use Rattle.paper.proofs.Prefix.{read-prefix}
+use Rattle.paper.proofs.Lengths.{written-no-longer, book-refused-by}
+use Rattle.paper.proofs.Prefix.{longest-book, read-prefix}
 use Rattle.book.specs.Answer.{BookAt}
 use Rattle.book.specs.declared.Book as B
 use Rattle.writer.specs.declared.Written as D
@@ -65,13 +67,18 @@ few {bytes} a = let c = a .table .count in let g = read-book-good bytes (a .book
 
 -- The caller's laws
 
--- the first n bytes of the output read as the book does, and the others are as they were
+-- the first n bytes of the output read as the book does, and the others are as they were; the book given had no fewer
 pub record Returned (book output output′ : List ℕ) (n : ℕ) : Type 0 where
   pub read : Book
   pub book-is : readBook book ≡ accepted read
   pub written-is : readBook (take n output′) ≡ accepted read
   pub others : drop n output′ ≡ drop n output
   pub fits : n ≤ length output
+  pub no-longer : n ≤ length book
+
+-- an output as long as the book given, or as the longest book
+abbrev pub LongEnough : List ℕ → List ℕ → Type 0
+LongEnough book output = (length book ≤ length output) ⊎ (40962 ≤ length output)
 
 module _ {book output output′ : List ℕ} where
   pub returned : {n : ℕ} → Answers book output output′ (D.Written.Length n) → Returned book output output′ n
@@ -94,6 +101,7 @@ module _ {book output output′ : List ℕ} where
             written-is = ap readBook (ap (take n) (sym g) ∙ take-at (writeBook B) (drop n output) n l) ∙ round-trip book B e;
             others = ap (drop n) (sym g) ∙ drop-at (writeBook B) (drop n output) n l;
             fits = omega (arith, not-below (length output) (length (writeBook B)) f);
+            no-longer = omega (arith, written-no-longer book B e);
           }
 
       go : (x : Result Book) → readBook book ≡ x → Returned book output output′ n
@@ -118,3 +126,24 @@ module _ {book output output′ : List ℕ} where
               let i = ap (λ (o : Outcome). o .answer) h in
               let z : _≡_ {A = ℕ} 0 1 = cc in
               absurd (omega arith)
+
+  -- an output that is long enough is never refused by 16: a refusal is the book's own, by 1 to 9
+  pub own-refusal : {k : ℕ} → LongEnough book output → Answers book output output′ (D.Written.Refused k) →
+      (readBook book ≡ refused k) × (0 < k) × (k < 10)
+  own-refusal {k} h a = go (readBook book) refl
+    where
+      fits : (B : Book) → readBook book ≡ accepted B → LongEnough book output → length (writeBook B) ≤ length output
+      fits B e (inl l) = omega (arith, written-no-longer book B e)
+      fits B e (inr l) = omega (arith, written-no-longer book B e, longest-book book B e)
+
+      go : (x : Result Book) → readBook book ≡ x → (readBook book ≡ refused k) × (0 < k) × (k < 10)
+      go (refused j) e =
+          let i = ap (λ (o : Outcome). o .answer) (sym (answers-refused book output j e .is) ∙ a .is) in
+          let f : readBook book ≡ refused k = e ∙ cc in
+          let (l, m) = book-refused-by book k f in
+          (f, l, m)
+      go (accepted B) e =
+          let w = answers-written book output B e _ refl _ _ refl (fits B e h) refl in
+          let i = ap (λ (o : Outcome). o .answer) (sym (w .is) ∙ a .is) in
+          let z : _≡_ {A = ℕ} 0 1 = cc in
+          absurd (omega arith)
