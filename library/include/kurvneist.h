@@ -93,7 +93,8 @@ uint8_t kurvneist_reduce(const uint8_t *book, size_t book_length,
 
 /*
  * Writes a book with its strategies settled to the front of `output`; the output's other bytes are as they were. A
- * written book is never longer than the book given.
+ * written book is never longer than the book given, so an output of book_length bytes, or of KURVNEIST_LONGEST_BOOK, is
+ * never refused by 16.
  *
  * The result is 0, or the number of a refusal: 1 to 9, or 16. `length` has one element: the bytes written, or 0 after a
  * refusal, which leaves `output` as it was.

@@ -96,16 +96,18 @@ pub fn reduce(request: &Request, work: &mut [u8], output: &mut [u8]) -> Result<A
 
 /// Writes a book with its strategies settled to the front of the output and answers the written length. The output's
 /// other bytes stay, and after a refusal all do.
+///
+/// A written book is never longer than the book given, so an output of that length, or of [`LONGEST_BOOK`] bytes, is
+/// never refused by 16.
 pub fn write_book(book: &[u8], output: &mut [u8]) -> Result<usize, Refusal> {
     let mut length = 0;
     Refusal::check(raw::write_book(book, output, &mut length))?;
     Ok(usize::try_from(length).expect("what is written fits the output"))
 }
 
-/// The book with its strategies settled. The refusal 16 can't come.
-///
-/// One buffer of the given book's length is enough: settling only shortens lists, and rules are written as they stand.
-/// What is longer than [`LONGEST_BOOK`] is no book and is refused, so no more than that is set aside.
+/// The book with its strategies settled. The refusal 16 can't come: it is proved that one buffer of the given book's
+/// length is enough, since settling only shortens lists and rules are written as they stand, and so is one of
+/// [`LONGEST_BOOK`] bytes, since what is longer is no book and is refused.
 ///
 /// ```
 /// // Two constants, the second with the list (0), which is the default.

@@ -48,7 +48,7 @@ impl Refusal {
         CONDITIONS[self.0 as usize - 1]
     }
 
-    /// `Ok` for 0. The library is proved to answer 0 or one of its refusals.
+    /// `Ok` for 0. The library is proved to answer 0 or one of its refusals, which are 1 to 16.
     pub(crate) fn check(number: u8) -> Result<(), Refusal> {
         match number {
             0 => Ok(()),
