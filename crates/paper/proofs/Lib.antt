@@ -23,6 +23,7 @@ pub mod Moves
 pub mod Invariant
 pub mod Local
 pub mod Starred
+pub mod Examples
 pub mod Fork
 pub mod Exit
 pub mod Entry

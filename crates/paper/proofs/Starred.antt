@@ -1,7 +1,5 @@
--- The starred cases of document 01 ('The program and its page') in one statement, and more of its examples in another, all of them computed.
--- Assumes nothing.
-use mathlib.Core.Bool.{true}
-use mathlib.Core.List.{List, [], _∷_, _++_, map}
+-- The starred cases of document 01 ('The program and its page') in one statement, all of them computed; proofs/Examples has more. Assumes nothing.
+use mathlib.Core.List.{List, [], _∷_, _++_}
 use mathlib.Core.Option.{some}
 use mathlib.Core.Path.{_≡_, refl}
 use Prim.Native.Char.{code}
@@ -11,13 +9,12 @@ use lib.ListN.{length, drop, replicate}
 use Rattle.paper.specs.Result.{refused, accepted}
 use Rattle.paper.specs.Tree.{Tree, node, nil, cons}
 use Rattle.paper.specs.Strategy.{Item, settle}
-use Rattle.paper.specs.Book.{Operator, Symbol, Term, Side, Rule, Book}
+use Rattle.paper.specs.Book.{Operator, Symbol, Term, Side, Book}
 use Rattle.paper.specs.Reader.{items, readBook}
-use Rattle.paper.specs.Writer.{numbers, writeBook}
+use Rattle.paper.specs.Writer.{numbers}
 use Rattle.paper.specs.Line.{readLine}
-use Rattle.paper.specs.Match.{rewrite}
-use Rattle.paper.specs.Machine.{Order, worker, Event, Ending, Limits}
-use Rattle.paper.specs.Run.{run, Moment, moments, events}
+use Rattle.paper.specs.Machine.{Event, Limits}
+use Rattle.paper.specs.Run.{moments, events}
 use Rattle.paper.specs.Page.{pageOf, writtenOf}
 
 -- Bytes
@@ -36,10 +33,19 @@ P-bytes =
 abbrev pub P-line : List ℕ
 P-line = 2 ∷ 1 ∷ 0 ∷ 1 ∷ 0 ∷ []
 
--- the standard input of a run on P: the line, U, a budget below 256, the schedule
+-- some bytes behind their length in two bytes
+unfoldable pub counted : List ℕ → List ℕ
+counted bs = length bs / 256 ∷ length bs % 256 ∷ bs
+
+-- the standard input of a run: the book, the line, U, a budget below 256, the schedule
+unfoldable pub input-on : List ℕ → List ℕ → ℕ → ℕ → List ℕ → List ℕ
+unfolding counted
+input-on book line units budget schedule = counted book ++ (counted line ++ (units ∷ 0 ∷ 0 ∷ 0 ∷ budget ∷ schedule))
+
+-- that of a run on P
 unfoldable pub input : List ℕ → ℕ → ℕ → List ℕ → List ℕ
-input line units budget schedule =
-    (0 ∷ length P-bytes ∷ P-bytes) ++ ((length line / 256 ∷ length line % 256 ∷ line) ++ (units ∷ 0 ∷ 0 ∷ 0 ∷ budget ∷ schedule))
+unfolding input-on
+input = input-on P-bytes
 
 -- n entries, 0 1 0 1 ..
 unfoldable pub turns : ℕ → List ℕ
@@ -97,6 +103,16 @@ tick t = one-of 1 t
 abbrev pub both : Term → Term → Term
 both t u = two-of 2 t u
 
+-- 3 `dup` with (0 1 0): dup(X) gives both(X, X)
+abbrev pub Q : Book
+Q = record {
+  operators = P-operators ++ (record { arity = 1; strategy = Item.whole ∷ Item.argument 0 ∷ Item.whole ∷ [] } ∷ []);
+  rules = record { left = one-of (Symbol.operator 3) x; right = two-of (Symbol.operator 2) x x } ∷ [];
+}
+
+abbrev pub dup : Term → Term
+dup t = one-of 3 t
+
 -- budget 9 and a limit of n symbols
 abbrev pub limits : ℕ → Limits
 limits n = record { budget = 9; symbols = some n }
@@ -137,71 +153,4 @@ starred = record {
   constant = refl;
   written = refl;
   no-operator = refl;
-}
-
--- n symbols of one argument over a term or a side
-unfoldable pub chain : {A : Type 0} → ℕ → A → Tree A → Tree A
-chain zero a t = t
-chain (suc n) a t = one-of a (chain n a t)
-
--- the rule tick(tick(.. X)), with n ticks, gives X
-unfoldable pub long : ℕ → Book
-unfolding chain
-long n = record { operators = P-operators; rules = record { left = chain n (Symbol.operator 1) x; right = x } ∷ [] }
-
--- both(X, Y) gives X; longer and more special: both(tick(X), Y) gives Y
-abbrev pub general : Rule
-general = record { left = two-of (Symbol.operator 2) x y; right = x }
-
-abbrev pub special : Rule
-special = record { left = two-of (Symbol.operator 2) (one-of (Symbol.operator 1) x) y; right = y }
-
--- 3 `dup` with (0 1 0): dup(X) gives both(X, X)
-abbrev pub Q : Book
-Q = record {
-  operators = P-operators ++ (record { arity = 1; strategy = Item.whole ∷ Item.argument 0 ∷ Item.whole ∷ [] } ∷ []);
-  rules = record { left = one-of (Symbol.operator 3) x; right = two-of (Symbol.operator 2) x x } ∷ [];
-}
-
-abbrev pub dup : Term → Term
-dup t = one-of 3 t
-
-pub record Examples : Type 0 where
-  -- the first rule in book order is applied, also where the second is more special
-  pub first-general : rewrite (general ∷ special ∷ []) (both (tick end) end) ≡ some (tick end)
-  pub first-special : rewrite (special ∷ general ∷ []) (both (tick end) end) ≡ some end
-  -- a variable's copies are all counted: both(X, X) with 3 symbols for X has 7
-  pub too-long : run Q (limits 6) 1 (replicate 99 0) (dup (tick (tick end))) ≡
-      record { ending = Ending.full; rewrites = 0; entries = 2; granted = 0; kept = 0; term = dup (tick (tick end)) }
-  pub just-fits : run Q (limits 7) 1 (replicate 99 0) (dup (tick (tick end))) ≡
-      record { ending = Ending.finished; rewrites = 1; entries = 19; granted = 0; kept = 1; term = both (tick (tick end)) (tick (tick end)) }
-  -- a rewrite forgets its own term's orders, here VISIT and WHOLE of the part dup(end), and no other
-  pub forgotten : map (λ (m : Moment). m .state .units) (drop 2 (moments Q (limits 9) 1 (replicate 3 0) (tick (dup end)))) ≡
-      (worker true (Order.visit (0 ∷ []) ∷ Order.whole [] 0 ∷ Order.bingo ∷ []) ∷ []) ∷ []
-  -- the outer JOIN's part exits and its unit wakes; on top of that unit is the inner JOIN, whose part has not exited
-  pub woken : drop 9 (events (moments P (limits 9) 3 (0 ∷ 0 ∷ 0 ∷ 0 ∷ 0 ∷ 0 ∷ 0 ∷ 1 ∷ 1 ∷ 1 ∷ 0 ∷ []) (both end (both end end)))) ≡
-      Event.exited (0 ∷ []) 0 ∷ Event.waited ∷ []
-  -- U of 0 and 9; a line of 1,024 symbols and of 1,025; a side of 64 and of 65
-  pub no-unit : pageOf (input P-line 0 9 []) ≡ ascii "REDUCE 1\nrefused 13\n"
-  pub nine-units : pageOf (input P-line 9 9 []) ≡ ascii "REDUCE 1\nrefused 13\n"
-  pub line-1024 : readLine P (replicate 1023 1 ++ (0 ∷ [])) ≡ accepted (chain 1023 1 end)
-  pub line-1025 : readLine P (replicate 1024 1 ++ (0 ∷ [])) ≡ refused 12
-  pub side-64 : readBook (writeBook (long 63)) ≡ accepted (long 63)
-  pub side-65 : readBook (writeBook (long 64)) ≡ refused 8
-
-pub examples : Examples
-unfolding ascii input pageOf chain long rewrite run moments events readLine readBook writeBook
-examples = record {
-  first-general = refl;
-  first-special = refl;
-  too-long = refl;
-  just-fits = refl;
-  forgotten = refl;
-  woken = refl;
-  no-unit = refl;
-  nine-units = refl;
-  line-1024 = refl;
-  line-1025 = refl;
-  side-64 = refl;
-  side-65 = refl;
 }
