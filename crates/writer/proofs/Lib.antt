@@ -4,3 +4,4 @@ pub mod Operators
 pub mod Rules
 pub mod Books
 pub mod Laws
+pub mod Examples
