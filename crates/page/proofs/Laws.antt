@@ -1,15 +1,16 @@
--- Laws of the page for whoever calls: it begins with its fixed line, and an input that is longer than any request is told by its front. Assumes nothing.
+-- Laws of the page: it begins with its fixed line, an input that is longer than any request is told by its front, and so what was read to a buffer of
+-- 163,848 bytes tells the page of the standard input. Assumes nothing.
 use mathlib.Core.Bool.{true}
-use mathlib.Core.List.{List}
-use mathlib.Core.Path.{_≡_, refl, sym, ap, _∙_}
+use mathlib.Core.List.{List, _++_}
+use mathlib.Core.Path.{_≡_, refl, sym, ap, subst, _∙_}
 use Prim.Native.Nat.{ℕ, _+_, _≤_, _<_}
 use native.Mathlib.Omega.{arith}
 use native.Mathlib.Decide.{decLt}
 use lib.ListN.{length, getD, take, drop, length-append, length-take, List·getD-eq-default}
-use lib.Seq.{length-take-le, getD-take}
+use lib.Seq.{take-all, take-length, getD-take}
 use Rattle.paper.specs.Result.{refused}
 use Rattle.paper.specs.Page.{number, read-request, pageOf}
-use Rattle.page.specs.Page.{Paged, begins, fixed-line, Counted}
+use Rattle.page.specs.Page.{Paged, Bytes, StandardInput, PagedFrom, begins, fixed-line, Counted}
 use Rattle.page.specs.declared.Place as P
 use Rattle.page.proofs.Input.{number-two, counted-at, cut-over}
 use Rattle.page.proofs.Lines.{page-cut}
@@ -18,10 +19,6 @@ use Rattle.page.proofs.Prefix.{begins-front}
 pub page-begins : (input : List ℕ) → begins fixed-line (pageOf input) ≡ true
 unfolding pageOf
 page-begins input = begins-front fixed-line _
-
--- elements are bytes
-abbrev pub Bytes : List ℕ → Type 0
-Bytes xs = (i : ℕ) → getD xs i 0 < 256
 
 bytes-take : (n : ℕ) (xs : List ℕ) → Bytes xs → Bytes (take n xs)
 bytes-take n xs h i = go (decLt i n)
@@ -52,18 +49,36 @@ long-refused input h k =
     cut-over input book line (omega arith) .is
 
 -- so that a program may stop reading there
-pub page-prefix : (input : List ℕ) → Bytes input → 163848 ≤ length input → pageOf input ≡ pageOf (take 163848 input)
-page-prefix input h k =
-    sym (page-cut input (long-refused input h k))
-    ∙ page-cut (take 163848 input)
-    (long-refused (take 163848 input) (bytes-take 163848 input h) (omega (arith, length-take-le 163848 input k)))
+pub page-prefix : (input buffer : List ℕ) → Bytes input → take (length buffer) input ≡ buffer → 163848 ≤ length buffer → pageOf input ≡ pageOf buffer
+page-prefix input buffer h e k =
+    sym (page-cut input (long-refused input h (omega (arith, length-take (length buffer) input, ap length e))))
+    ∙ page-cut buffer (long-refused buffer (subst Bytes e (bytes-take (length buffer) input h)) k)
 
 -- THE BUFFER
 
-module _ {input page page′ : List ℕ} {r : ℕ} (p : Paged input page page′ r) where
-  -- the page lies within its buffer
-  pub paged-within : r ≤ length page′
-  paged-within = omega (arith, p .size, ap length (p .is), length-append (pageOf input) (drop r page))
+-- a page lies within its buffer
+paged-within : {input page page′ : List ℕ} {r : ℕ} → Paged input page page′ r → r ≤ length page′
+paged-within {input} {page} {page′} {r} p = omega (arith, p .size, ap length (p .is), length-append (pageOf input) (drop r page))
 
-  pub paged-part : r ≡ length (take r page′)
-  paged-part = sym (length-take-le r page′ paged-within)
+module _ {buffer page page′ : List ℕ} {n r : ℕ} where
+  -- the input was read to its end
+  pub paged-ended : n < length buffer → Paged (take n buffer) page page′ r → PagedFrom buffer n page page′ r
+  paged-ended h p = record { is = λ input s. subst (λ (i : List ℕ). Paged i page page′ r) (sym (s .ended h)) p; within = paged-within p }
+
+  -- the buffer is full
+  pub paged-filled : 163848 ≤ length buffer → length buffer ≤ n → Paged buffer page page′ r → PagedFrom buffer n page page′ r
+  paged-filled l h p =
+      record {
+        is = λ input s.
+            let e : pageOf input ≡ pageOf buffer = page-prefix input buffer (s .filled h .1) (s .filled h .0) l in
+            record { size = p .size ∙ ap length (sym e); is = p .is ∙ ap (λ (x : List ℕ). x ++ drop r page) (sym e) };
+        within = paged-within p;
+      }
+
+-- what was read is itself such an input: PagedFrom speaks of a page that there is
+pub as-read : (buffer : List ℕ) (n : ℕ) → Bytes buffer → StandardInput buffer n (take n buffer)
+as-read buffer n h =
+    record {
+      ended = λ k. refl;
+      filled = λ k. (ap (take (length buffer)) (take-all n buffer k) ∙ take-length buffer, bytes-take n buffer h);
+    }

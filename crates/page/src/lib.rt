@@ -1,4 +1,4 @@
-// The program's page for a whole standard input (document 01, 'The program and its page').
+// The program's page for its standard input (document 01, 'The program and its page').
 use engine::Answer;
 use run::Ending;
 use run::Run;
@@ -13,6 +13,10 @@ ghost use Rattle.page.specs.Page as P;
 
 // The length that a page has room in.
 pub const PAGE: usize = 8192;
+
+// The length of a buffer for the standard input: one byte more than the longest input that 17 does not refuse, so that 17 tells of every input that
+// fills it.
+pub const INPUT: usize = 163848;
 
 // How many schedule bytes may follow.
 const SCHEDULE: usize = 32768;
@@ -234,7 +238,7 @@ fn run_page(input: &[u8], book: usize, line: usize, page: &mut [u8; 8192], at: u
 }
 
 // The page of a whole standard input, at the front of the buffer; how many bytes it has.
-pub fn page(input: &[u8], page: &mut [u8; 8192]) -> usize
+fn page(input: &[u8], page: &mut [u8; 8192]) -> usize
     requires { ⌜ length (now page) ≡ 8192 ⌝ }
     ensures { λ r. ⌜ P.Paged (now (input .entry)) (now (page .entry)) (now (page .exit)) r ⌝ }
 {
@@ -243,6 +247,19 @@ pub fn page(input: &[u8], page: &mut [u8; 8192]) -> usize
         Frame::Cut => line(b"refused", 17, page, at),
         Frame::Whole(book, line) => run_page(input, book, line, page, at),
     }
+}
+
+// The page of the standard input of which n bytes were read to the front of the buffer, up to its end or until the buffer was full. The page stands
+// at the front of the sheet; how many bytes it has.
+pub fn of_buffer(buffer: &[u8; INPUT], n: usize, sheet: &mut [u8; PAGE]) -> usize
+    requires { ⌜ length (now sheet) ≡ 8192 ⌝ }
+    ensures { λ r. ⌜ P.PagedFrom (now (buffer .entry)) n (now (sheet .entry)) (now (sheet .exit)) r ⌝ }
+{
+    let bytes: &[u8] = buffer;
+    if n < bytes.len() {
+        return page(&bytes[..n], sheet);
+    }
+    page(bytes, sheet)
 }
 
 // Do the bytes begin with this line?
