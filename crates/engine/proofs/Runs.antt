@@ -9,9 +9,6 @@ use borrow.Author.Tests.{le-ltb}
 use Rattle.paper.specs.Result.{accepted}
 use Rattle.paper.specs.Tree.{Correct, size, preorder}
 use Rattle.paper.specs.Book.{Book, arity}
-use Rattle.paper.specs.Reduction as Reduction
-use Rattle.paper.specs.Reduction.{Reduces}
-use Rattle.paper.specs.Machine.{Ending}
 use Rattle.paper.specs.Run.{Answer, run}
 use Rattle.paper.specs.Demand3.{Demand3}
 use Rattle.paper.specs.Page.{Request}
@@ -20,7 +17,8 @@ use Rattle.paper.proofs.Readers.{accepted-injective, refused-accepted}
 use Rattle.paper.proofs.Books.{read-sound}
 use Rattle.paper.proofs.Line.{line-correct}
 use Rattle.paper.proofs.Trees.{size-preorder}
-use Rattle.paper.proofs.Demand3.{demand-3, forks-counted}
+use Rattle.paper.proofs.Demand3.{demand-3}
+use Rattle.paper.proofs.OneUnit.{grants}
 use Rattle.flat.specs.Machine.{FlatState, flat-start}
 use Rattle.flat.specs.Run.{flat-run, flatten}
 use Rattle.flat.proofs.Run.{Reached, reached-start, same-run-read}
@@ -125,9 +123,6 @@ module _ {book line : List ℕ} {units budget : ℕ} {schedule work output ariti
       demand : Demand3 rules (limits budget) units schedule (s .term)
       demand = demand-3 book line rules (s .term) (s .opened .book-read) (s .line-read) units budget schedule
 
-      forks : A .ending ≡ Ending.finished → Reduces rules Reduction.forks (s .term) (A .granted + A .kept) (A .term)
-      forks = forks-counted rules (read-sound book rules (s .opened .book-read)) (s .term) (of-line .0) (limits budget) units schedule
-
       run-of : RunOf book line units budget schedule work output A
       unfolding flatten
       run-of = record {
@@ -139,7 +134,7 @@ module _ {book line : List ℕ} {units budget : ℕ} {schedule work output ariti
         is = refl;
         demand-3 = demand;
         posting = demand .posting;
-        grants = λ e. (A .granted + A .kept, omega arith, forks e);
+        grants = grants rules (read-sound book rules (s .opened .book-read)) (s .term) (of-line .0) (limits budget) units schedule;
         allowed = let e = holds .rewrites-are in let h = ran .allowed in omega arith;
         used = let e = holds .entries-are in let h = ran .used in omega arith;
         fits = let e = length-is in let h = ran .most in omega arith;

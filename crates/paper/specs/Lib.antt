@@ -11,5 +11,6 @@ pub mod Sound
 pub mod Reduction
 pub mod Machine
 pub mod Run
+pub mod OneUnit
 pub mod Demand3
 pub mod Page
