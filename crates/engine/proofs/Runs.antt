@@ -20,8 +20,8 @@ use Rattle.paper.proofs.Trees.{size-preorder}
 use Rattle.paper.proofs.Demand3.{demand-3}
 use Rattle.paper.proofs.OneUnit.{grants}
 use Rattle.flat.specs.Machine.{FlatState, flat-start}
-use Rattle.flat.specs.Run.{flat-run, flatten}
-use Rattle.flat.proofs.Run.{Reached, reached-start, same-run-read}
+use Rattle.flat.specs.Run.{flat-run, Reached, flatten}
+use Rattle.flat.proofs.Run.{same-run-read}
 use Rattle.units.specs.Units.{Started, units-of}
 use Rattle.entry.specs.Entry.{limits, Reaches}
 use Rattle.run.specs.Run.{Starts, Ready, Holds, Ran}
@@ -61,7 +61,7 @@ module _ {book line : List ℕ} {units budget : ℕ} {schedule work output ariti
       let z = size-preorder (s .term) in
       let h : size (s .term) ≤ 1024 = omega (arith, ap length e) in
       subst (λ (xs : List ℕ). Reached rules (limits budget) (flat-start units xs)) e
-      (reached-start rules (limits budget) units (s .term) c (le-ltb 1024 (size (s .term)) h))
+      (Reached.first units (s .term) c (le-ltb 1024 (size (s .term)) h))
 
   reaches-first : Reaches book arities laid lefts rights chain n m budget first rules
   unfolding flat-start

@@ -8,6 +8,7 @@ pub mod Writer
 pub mod Line
 pub mod Match
 pub mod Sound
+pub mod WellFormed
 pub mod Reduction
 pub mod Machine
 pub mod Run
