@@ -14,8 +14,9 @@ use Rattle.paper.specs.Book.{Operator, Symbol, arity, operatorAt, steps}
 use Rattle.paper.specs.Reader.{read-symbol, readBook}
 use Rattle.paper.specs.Writer.{concat, write-symbol}
 use Rattle.paper.specs.Sound.{All}
+use Rattle.paper.specs.WellFormed.{Fits, GoodRule}
 use Rattle.paper.proofs.Readers.{accepted-injective, refused-accepted}
-use Rattle.paper.proofs.Rules.{Fits, GoodRule, symbol-written}
+use Rattle.paper.proofs.Rules.{symbol-written}
 use Rattle.strategy.specs.Rows.{code, row, row-at}
 use Rattle.strategy.proofs.Bound.{at-most-15}
 use Rattle.strategy.proofs.Rows.{step-code, step-none}

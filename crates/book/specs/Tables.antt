@@ -8,7 +8,7 @@ use Rattle.paper.specs.Tree.{node, nil, label, preorder}
 use Rattle.paper.specs.Strategy.{layout}
 use Rattle.paper.specs.Book.{Operator, Symbol, Rule, Book, operatorAt}
 use Rattle.paper.specs.Writer.{concat, write-symbol}
-use Rattle.paper.proofs.Books.{GoodBook}
+use Rattle.paper.specs.WellFormed.{GoodBook}
 use Rattle.strategy.specs.Rows.{row, row-at}
 use Rattle.side.specs.Side.{bitsAt}
 

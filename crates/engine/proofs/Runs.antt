@@ -9,9 +9,6 @@ use borrow.Author.Tests.{le-ltb}
 use Rattle.paper.specs.Result.{accepted}
 use Rattle.paper.specs.Tree.{Correct, size, preorder}
 use Rattle.paper.specs.Book.{Book, arity}
-use Rattle.paper.specs.Reduction as Reduction
-use Rattle.paper.specs.Reduction.{Reduces}
-use Rattle.paper.specs.Machine.{Ending}
 use Rattle.paper.specs.Run.{Answer, run}
 use Rattle.paper.specs.Demand3.{Demand3}
 use Rattle.paper.specs.Page.{Request}
@@ -20,10 +17,11 @@ use Rattle.paper.proofs.Readers.{accepted-injective, refused-accepted}
 use Rattle.paper.proofs.Books.{read-sound}
 use Rattle.paper.proofs.Line.{line-correct}
 use Rattle.paper.proofs.Trees.{size-preorder}
-use Rattle.paper.proofs.Demand3.{demand-3, forks-counted}
+use Rattle.paper.proofs.Demand3.{demand-3}
+use Rattle.paper.proofs.OneUnit.{grants}
 use Rattle.flat.specs.Machine.{FlatState, flat-start}
-use Rattle.flat.specs.Run.{flat-run, flatten}
-use Rattle.flat.proofs.Run.{Reached, reached-start, same-run-read}
+use Rattle.flat.specs.Run.{flat-run, Reached, flatten}
+use Rattle.flat.proofs.Run.{same-run-read}
 use Rattle.units.specs.Units.{Started, units-of}
 use Rattle.entry.specs.Entry.{limits, Reaches}
 use Rattle.run.specs.Run.{Starts, Ready, Holds, Ran}
@@ -63,7 +61,7 @@ module _ {book line : List ℕ} {units budget : ℕ} {schedule work output ariti
       let z = size-preorder (s .term) in
       let h : size (s .term) ≤ 1024 = omega (arith, ap length e) in
       subst (λ (xs : List ℕ). Reached rules (limits budget) (flat-start units xs)) e
-      (reached-start rules (limits budget) units (s .term) c (le-ltb 1024 (size (s .term)) h))
+      (Reached.first units (s .term) c (le-ltb 1024 (size (s .term)) h))
 
   reaches-first : Reaches book arities laid lefts rights chain n m budget first rules
   unfolding flat-start
@@ -125,9 +123,6 @@ module _ {book line : List ℕ} {units budget : ℕ} {schedule work output ariti
       demand : Demand3 rules (limits budget) units schedule (s .term)
       demand = demand-3 book line rules (s .term) (s .opened .book-read) (s .line-read) units budget schedule
 
-      forks : A .ending ≡ Ending.finished → Reduces rules Reduction.forks (s .term) (A .granted + A .kept) (A .term)
-      forks = forks-counted rules (read-sound book rules (s .opened .book-read)) (s .term) (of-line .0) (limits budget) units schedule
-
       run-of : RunOf book line units budget schedule work output A
       unfolding flatten
       run-of = record {
@@ -139,7 +134,7 @@ module _ {book line : List ℕ} {units budget : ℕ} {schedule work output ariti
         is = refl;
         demand-3 = demand;
         posting = demand .posting;
-        grants = λ e. (A .granted + A .kept, omega arith, forks e);
+        grants = grants rules (read-sound book rules (s .opened .book-read)) (s .term) (of-line .0) (limits budget) units schedule;
         allowed = let e = holds .rewrites-are in let h = ran .allowed in omega arith;
         used = let e = holds .entries-are in let h = ran .used in omega arith;
         fits = let e = length-is in let h = ran .most in omega arith;

@@ -11,9 +11,10 @@ use Rattle.paper.specs.Tree.{preorder}
 use Rattle.paper.specs.Book.{Term, Book}
 use Rattle.paper.specs.Reader.{readBook}
 use Rattle.paper.specs.Line.{readLine}
-use Rattle.paper.specs.Reduction.{rewrites, forks, Reduces}
+use Rattle.paper.specs.Reduction.{rewrites, Reduces}
 use Rattle.paper.specs.Machine.{Ending}
 use Rattle.paper.specs.Run.{Answer, run}
+use Rattle.paper.specs.OneUnit.{Grants}
 use Rattle.paper.specs.Demand3.{Demand3}
 use Rattle.paper.specs.Page.{Request, all-below, frame-fault, answerOf}
 use Rattle.book.specs.Tables.{Tables}
@@ -78,8 +79,8 @@ module _ (book line : List ℕ) (units budget : ℕ) (schedule work output : Lis
     pub demand-3 : Demand3 rules (limits budget) units schedule term
     -- a posting: term and rewrites of a finished run are those of reduction one after the other
     pub posting : A .ending ≡ Ending.finished → Reduces rules rewrites term (A .rewrites) (A .term)
-    -- FORKs granted in a finished run are at most the FORKs of that reduction
-    pub grants : A .ending ≡ Ending.finished → (f : ℕ) × (A .granted ≤ f) × Reduces rules forks term f (A .term)
+    -- FORKs granted in a finished run are at most the FORK orders of a one-unit run without symbol limit
+    pub grants : A .ending ≡ Ending.finished → Grants rules budget term A
     -- The papers leave free which ending comes where one order of units ends full and another finishes: it is that of this schedule. Whichever
     -- comes, these hold.
     pub allowed : A .rewrites ≤ budget

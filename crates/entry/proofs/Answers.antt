@@ -14,8 +14,7 @@ use Rattle.units.specs.Units.{units-of, Area, Top, Stacks}
 use Rattle.entry.specs.Entry.{limits, Arrays, Shows, Reaches, Ready, Entered}
 use Rattle.entry.specs.declared.Counts as C
 use Rattle.entry.specs.declared.Entry as D
-use Rattle.entry.proofs.Facts.{idle-entry, entry-is, unit-small, height-is}
-use Rattle.entry.proofs.Tops.{stack-some}
+use Rattle.entry.proofs.Facts.{idle-entry, entry-is, unit-small, height-is, stack-there}
 
 -- the arrays with other units
 pub with-area : {symbols scratch w y h w′ y′ h′ : List ℕ} {len n : ℕ} → Arrays symbols scratch w y h len n → Area w′ y′ h′ →
@@ -71,5 +70,5 @@ module _ {bytes arities laid lefts rights chain : List ℕ} {n m budget : ℕ} {
   top-asks = (
     q .arrays .area .stacks,
     unit-small (q .arrays) (q .one) (q .reaches) (q .shows),
-    omega (arith, height-is (q .arrays) (q .one) (q .reaches) (q .shows) u (q .one), stack-some (q .reaches .reached) u),
+    omega (arith, height-is (q .arrays) (q .one) (q .reaches) (q .shows) u (q .one), stack-there (q .arrays) (q .one) (q .reaches) (q .shows) u),
   )

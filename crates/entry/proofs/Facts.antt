@@ -19,6 +19,7 @@ use Rattle.flat.specs.Symbols.{argument}
 use Rattle.flat.specs.Machine.{Frame, FlatUnit, flat-unit, unit, FlatState, going, do-step, carry-out, turn, flat-entry}
 use Rattle.flat.specs.Rules.{stack, Rules, Numbers}
 use Rattle.flat.proofs.Steps.{Settled, good-settled}
+use Rattle.flat.proofs.Run.{reached-inv}
 use Rattle.flat.proofs.Rules.{rules, numbers}
 use Rattle.flat.proofs.Inside.{argument-inside, room-next}
 use Rattle.strategy.specs.Rows.{code}
@@ -31,6 +32,7 @@ use Rattle.orders.proofs.Rows.{all-at, code-here, few-here}
 use Rattle.orders.proofs.Tables.{row-said, said, step-is, within-said}
 use Rattle.entry.specs.Entry.{limits, Arrays, Shows, Reaches, Working}
 use Rattle.entry.specs.declared.Counts as C
+use Rattle.entry.proofs.Tops.{stack-some}
 
 -- the order k of a job is its step k - 1
 carried : (B : Book) (L : Limits) (u : ℕ) (s : FlatState) (fs : List Frame) (a k d : ℕ) → 1 ≤ k →
@@ -67,6 +69,9 @@ module _ {bytes arities laid lefts rights chain : List ℕ} {n m budget : ℕ} {
 
   pub numbers-hold : Numbers s
   numbers-hold = numbers B (R .tables .good) (limits budget) s rules-hold
+
+  pub stack-there : (v : ℕ) → 0 < length (stack s v)
+  stack-there v = stack-some (reached-inv B (limits budget) is-sound is-settled (R .reached)) v
 
   pub len-is : length (s .symbols) ≡ len
   len-is = ap length (S .symbols-are) ∙ length-take-le len symbols (omega (arith, z .most, z .symbols-long))

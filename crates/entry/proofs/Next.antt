@@ -4,10 +4,8 @@ use mathlib.Core.List.{List}
 use Prim.Native.Nat.{ℕ, _<_}
 use Rattle.paper.specs.Book.{Book}
 use Rattle.paper.specs.Sound.{All}
-use Rattle.paper.proofs.Books.{good-book-sound}
 use Rattle.flat.specs.Machine.{FlatState, going, flat-entry}
-use Rattle.flat.proofs.Steps.{good-settled}
-use Rattle.flat.proofs.Run.{reached-next}
+use Rattle.flat.specs.Run.{Reached}
 use Rattle.flat.proofs.Inside.{known-entry}
 use Rattle.entry.specs.Entry.{limits, Reaches}
 
@@ -19,7 +17,7 @@ reaches-next {budget = budget} {s = s} {s′ = s′} {B = B} r u e =
     let k = r .tables .operators .count in
     record {
       tables = r .tables;
-      reached = reached-next B (limits budget) (good-book-sound B g) (good-settled B g) s s′ u (r .reached) e;
+      reached = Reached.next (r .reached) u e;
       known = subst (λ (x : ℕ). All (λ o. o < x) (s′ .symbols)) k
           (known-entry B g (limits budget) u s s′ (subst (λ (x : ℕ). All (λ o. o < x) (s .symbols)) (sym k) (r .known)) e);
     }

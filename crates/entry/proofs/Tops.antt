@@ -16,7 +16,7 @@ use Rattle.flat.specs.Machine.{FlatUnit, FlatState}
 use Rattle.flat.specs.Rules.{stack}
 use Rattle.flat.specs.Relation.{Placed, at, list-of}
 use Rattle.flat.proofs.Stacks.{stack-length, list-at, unit-at}
-use Rattle.flat.proofs.Run.{Reached, reached}
+use Rattle.flat.proofs.Run.{FlatInv, flat-inv}
 
 -- the orders of a unit's blocks are some
 root-some : (D : Ghost) (bs : List Block) → Same bs (all D) → 1 ≤ length (Blocks.list-of 0 bs)
@@ -43,8 +43,8 @@ unfolding list-of
 frames-some B [] h = absurd (omega arith)
 frames-some B (g ∷ gs) h = omega arith
 
-pub stack-some : {B : Book} {L : Limits} {s : FlatState} → Reached B L s → (u : ℕ) → 0 < length (stack s u)
-stack-some {B} (reached t U n j D bs e good inv sz) u =
+pub stack-some : {B : Book} {L : Limits} {s : FlatState} → FlatInv B L s → (u : ℕ) → 0 < length (stack s u)
+stack-some {B} (flat-inv t U n j D bs e good inv sz) u =
     let l = frames-some B (at U u .frames) (omega (arith, orders-some u D bs (inv .same), ap length (sym (inv .fits u .0) ∙ list-at B U u))) in
     omega (
       arith,

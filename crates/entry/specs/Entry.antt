@@ -11,7 +11,7 @@ use Rattle.paper.specs.Line.{symbol-limit}
 use Rattle.paper.specs.Machine.{Ending, Limits}
 use Rattle.paper.specs.Sound.{All}
 use Rattle.flat.specs.Machine.{Frame, FlatState, FlatOutcome, going, ended, flat-entry}
-use Rattle.flat.proofs.Run.{Reached}
+use Rattle.flat.specs.Run.{Reached}
 use Rattle.book.specs.Tables.{Tables}
 use Rattle.units.specs.Units.{units-of, Area, Top}
 use Rattle.entry.specs.declared.Counts as C

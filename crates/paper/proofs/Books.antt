@@ -15,13 +15,14 @@ use Rattle.paper.specs.Book.{Operator, Symbol, Side, Rule, Book, arity, 
 use Rattle.paper.specs.Reader.{read-operator, read-rule, read-count, all-zero, read-end, read-bits, readBook}
 use Rattle.paper.specs.Writer.{concat, numbers, same, write-strategy, write-operator, write-symbol, write-side, write-rule, writeBook}
 use Rattle.paper.specs.Sound.{All, Distinct, Within, SoundRule, Sound}
+use Rattle.paper.specs.WellFormed.{GoodOperator, GoodRule, GoodBook}
 use Rattle.paper.proofs.Lists.{all-append, all-map}
 use Rattle.paper.proofs.Tests.{ltb-true}
 use Rattle.paper.proofs.Readers.{accepted-injective, refused-accepted, return-accepted, then-accepted, bind-accepted, bind-return}
 use Rattle.paper.proofs.Bits.{field-toBits, field-bounded}
 use Rattle.paper.proofs.Bytes.{toBits-below, bits-below, bits-bytes}
-use Rattle.paper.proofs.Operators.{GoodOperator, good-distinct, good-within, read-operator-good, write-operator-read}
-use Rattle.paper.proofs.Rules.{GoodRule, read-rule-good, write-rule-read, good-sound}
+use Rattle.paper.proofs.Operators.{good-distinct, good-within, read-operator-good, write-operator-read}
+use Rattle.paper.proofs.Rules.{read-rule-good, write-rule-read, good-sound}
 
 -- some bits
 abbrev AllBits : List ℕ → Type 0
@@ -148,13 +149,6 @@ unfolding read-end
 end-read B k l = rw (length-replicate {A = ℕ} k 0, ltb-true k 8 l, all-zero-zeros k)
 
 -- The whole book
-
-pub record GoodBook (B : Book) : Type 0 where
-  pub some-operators : 0 < length (B .operators)
-  pub few-operators : length (B .operators) < 256
-  pub operators : All GoodOperator (B .operators)
-  pub few-rules : length (B .rules) < 256
-  pub rules : All (GoodRule (B .operators)) (B .rules)
 
 -- the reader and the writer behind the operators
 read-rules : List Operator → Reader Book

@@ -15,10 +15,11 @@ use Rattle.paper.specs.Book.{Operator}
 use Rattle.paper.specs.Reader.{allowed, grouped-after, read-numbers, items, group-items, read-strategy, read-operator}
 use Rattle.paper.specs.Writer.{numbers, same, concat, write-strategy, write-operator}
 use Rattle.paper.specs.Sound.{All, Distinct, Within}
+use Rattle.paper.specs.WellFormed.{ItemsWithin, EndsAfter, EndsWhole, GoodOperator}
 use Rattle.paper.proofs.Tests.{either, eqb-false, eqb-equal, ltb-true, ltb-false, ltb-less}
 use Rattle.paper.proofs.Readers.{bind-accepted, bind-return, return-accepted, refused-accepted}
 use Rattle.paper.proofs.Bits.{field-toBits, field-bounded}
-use Rattle.paper.proofs.Settling.{ItemsWithin, EndsAfter, EndsWhole, within-more, layout-within}
+use Rattle.paper.proofs.Settling.{within-more, layout-within}
 use Rattle.paper.proofs.Settling.{settle-twice, settled-distinct, settled-within, settled-ends, settled-length}
 use Rattle.paper.proofs.Settling.{default-settled, default-items, default-ends, default-length}
 
@@ -275,14 +276,6 @@ numbers-allowed a b (Item.group js ∷ is) l w n = (
 )
 
 -- Operators
-
--- what a read operator has
-pub record GoodOperator (o : Operator) : Type 0 where
-  pub arity : o .arity < 8
-  pub settled : settle (o .strategy) ≡ o .strategy
-  pub within : ItemsWithin (o .arity) (o .strategy)
-  pub ends : EndsWhole (o .strategy)
-  pub short : length (numbers (o .strategy)) < 32
 
 pub good-distinct : (o : Operator) → GoodOperator o → Distinct (layout (o .strategy))
 good-distinct o g = subst (λ (is : List Item). Distinct (layout is)) (g .settled) (settled-distinct (o .strategy))

@@ -4,14 +4,7 @@ use mathlib.Core.Path.{_≡_, refl, sym, ap, ap₂, _∙_, subst}
 use Prim.Native.Nat.{ℕ, zero, suc, _+_, _-_, _≤_}
 use native.Mathlib.Omega.{arith}
 use lib.ListN.{length, length-append}
-use Rattle.paper.specs.Tree.{Tree, node, Forest, nil, cons, count, preorder, preorders, size, sizes, first-trees, other-trees, trees, Correct, Corrects}
-
--- exactly `due` terms are spelt by the symbols
-abbrev pub Complete : {A : Type 0} → (A → ℕ) → ℕ → List A → Type 0
-Complete arity zero [] = Unit {0}
-Complete arity zero (x ∷ xs) = ⊥
-Complete arity (suc due) [] = ⊥
-Complete arity (suc due) (x ∷ xs) = Complete arity (arity x + due) xs
+use Rattle.paper.specs.Tree.{Tree, node, Forest, nil, cons, count, preorder, preorders, size, sizes, first-trees, other-trees, trees, Correct, Corrects, Complete}
 
 module _ {A : Type 0} where
   -- one forest before another

@@ -8,8 +8,10 @@ pub mod Writer
 pub mod Line
 pub mod Match
 pub mod Sound
+pub mod WellFormed
 pub mod Reduction
 pub mod Machine
 pub mod Run
+pub mod OneUnit
 pub mod Demand3
 pub mod Page

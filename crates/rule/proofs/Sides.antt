@@ -11,12 +11,12 @@ use Rattle.paper.specs.Bits.{toBits, bitsOf}
 use Rattle.paper.specs.Book.{Operator, Symbol}
 use Rattle.paper.specs.Reader.{read-symbol}
 use Rattle.paper.specs.Sound.{All}
+use Rattle.paper.specs.Tree.{Complete}
+use Rattle.paper.specs.WellFormed as paper
 use Rattle.paper.specs.Writer.{concat, write-symbol}
 use Rattle.paper.proofs.Bits.{length-toBits}
 use Rattle.paper.proofs.Readers.{accepted-injective}
-use Rattle.paper.proofs.Rules as paper
 use Rattle.paper.proofs.Rules.{symbol-written}
-use Rattle.paper.proofs.Trees.{Complete}
 use Rattle.side.specs.Side.{bitsAt, standing, Held, StandingAt}
 use Rattle.side.specs.declared.Standing as Sd
 use Rattle.term.specs.Line.{arity-in}

@@ -4,13 +4,13 @@ use mathlib.Core.Path.{_≡_, refl, sym}
 use Prim.Native.Nat.{ℕ, zero, suc, _+_, _≤_, _<_}
 use native.Mathlib.Omega.{arith}
 use lib.ListN.{length, getD}
-use Rattle.paper.specs.Tree.{nil, cons, count, preorder}
+use Rattle.paper.specs.Tree.{nil, cons, count, preorder, Complete}
 use Rattle.paper.specs.Book.{Operator, Symbol, Side, Book, symbolArity}
 use Rattle.paper.specs.Sound.{All}
+use Rattle.paper.specs.WellFormed as paper
+use Rattle.paper.specs.WellFormed.{GoodSide}
 use Rattle.paper.proofs.Lists.{all-map}
-use Rattle.paper.proofs.Rules as paper
-use Rattle.paper.proofs.Rules.{GoodSide}
-use Rattle.paper.proofs.Trees.{Complete, correct-complete}
+use Rattle.paper.proofs.Trees.{correct-complete}
 use Rattle.book.specs.Tables.{Stand, ruleAt, Tables}
 use Rattle.book.proofs.Laws.{arity-at, rule-good, left-at, right-at}
 use Rattle.rule.specs.Packed.{symbol-arity, Fits, SideAt, binding, Within, Sized, Fillable, Lefts}

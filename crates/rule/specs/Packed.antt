@@ -6,10 +6,9 @@ use mathlib.Core.Path.{_≡_}
 use Prim.Native.Nat.{ℕ, _+_, _-_, _*_, _≤_, _<_}
 use lib.Dec.{eqb}
 use lib.ListN.{length, getD, take, drop}
-use Rattle.paper.specs.Tree.{label, preorder}
+use Rattle.paper.specs.Tree.{label, preorder, Complete}
 use Rattle.paper.specs.Book.{Symbol, Side, Rule}
 use Rattle.paper.specs.Sound.{All, IsOperator}
-use Rattle.paper.proofs.Trees.{Complete}
 use Rattle.flat.specs.Symbols as flat
 use Rattle.flat.specs.Symbols.{segment, Binding, blank, match, fill, rewrite}
 use Rattle.book.specs.Tables.{Stand, ruleAt, Chained}

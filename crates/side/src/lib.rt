@@ -63,11 +63,11 @@ pub fn read_symbol(book: &[u8], at: usize, n: usize) -> Symbol
     requires { ⌜ length (now book) ≤ 2 ^ 60 ⌝ }
     ensures { λ r. ⌜ SymbolAt (now (book .entry)) at n r ⌝ }
 {
-    let Bits::Value(kind, p) = bits::field(book, at, 1) else {
+    let Bits::Value(kind, p) = reader::field(book, at, 1) else {
         return Symbol::Refused(1);
     };
     if kind == 0 {
-        let Bits::Value(x, next) = bits::field(book, p, 8) else {
+        let Bits::Value(x, next) = reader::field(book, p, 8) else {
             return Symbol::Refused(1);
         };
         let o = narrow(x);
@@ -76,7 +76,7 @@ pub fn read_symbol(book: &[u8], at: usize, n: usize) -> Symbol
         }
         return Symbol::Operator(o, next);
     }
-    let Bits::Value(v, next) = bits::field(book, p, 4) else {
+    let Bits::Value(v, next) = reader::field(book, p, 4) else {
         return Symbol::Refused(1);
     };
     Symbol::Variable(narrow(v), next)

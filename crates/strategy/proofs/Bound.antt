@@ -11,8 +11,9 @@ use Rattle.paper.specs.Result.{if}
 use Rattle.paper.specs.Strategy.{Item, Step, drop-groups, drop-repeats, group-steps, layout}
 use Rattle.paper.specs.Sound.{All, Once, Unnamed, Distinct, Within}
 use Rattle.paper.specs.Book.{Operator}
+use Rattle.paper.specs.WellFormed.{GoodOperator}
 use Rattle.paper.proofs.Tests.{eqb-cases}
-use Rattle.paper.proofs.Operators.{GoodOperator, good-distinct, good-within}
+use Rattle.paper.proofs.Operators.{good-distinct, good-within}
 use Rattle.strategy.proofs.OnePass.{merge-after, settle-merges}
 
 -- Distinct numbers below n are at most n

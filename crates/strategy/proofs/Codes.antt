@@ -14,7 +14,7 @@ use Rattle.paper.specs.Result.{if}
 use Rattle.paper.specs.Strategy.{Item, Step, group-steps, layout}
 use Rattle.paper.specs.Writer.{numbers}
 use Rattle.paper.specs.Sound.{All}
-use Rattle.paper.proofs.Settling.{ItemsWithin}
+use Rattle.paper.specs.WellFormed.{ItemsWithin}
 use Rattle.strategy.specs.declared.Placed.{Placed}
 use Rattle.strategy.specs.Rows.{code, placed, placing, unless-0, codes}
 

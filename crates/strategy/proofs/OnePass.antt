@@ -13,8 +13,9 @@ use Rattle.paper.specs.Strategy.{Item, has, unseen, drop-repeats, drop-groups, 
 use Rattle.paper.specs.Reader.{items}
 use Rattle.paper.specs.Writer.{numbers}
 use Rattle.paper.specs.Sound.{All}
+use Rattle.paper.specs.WellFormed.{ItemsWithin}
 use Rattle.paper.proofs.Tests.{either, eqb-true, eqb-false, eqb-equal, ltb-true}
-use Rattle.paper.proofs.Settling.{ItemsWithin, within-more}
+use Rattle.paper.proofs.Settling.{within-more}
 use Rattle.paper.proofs.Operators.{items-numbers}
 use Rattle.strategy.specs.Settling.{ends-in-zero, closed, settling}
 

@@ -18,7 +18,8 @@ use Rattle.paper.proofs.Bits.{all-drop, field-bounded}
 use Rattle.paper.proofs.Bytes.{bits-below}
 use Rattle.paper.proofs.Settling.{within-more}
 use Rattle.paper.specs.Sound.{All}
-use Rattle.paper.proofs.Operators.{rest, read-numbers-suc, rest-allowed, rest-refused, read-spelt, read-strategy-good, GoodOperator, items-numbers}
+use Rattle.paper.specs.WellFormed.{GoodOperator}
+use Rattle.paper.proofs.Operators.{rest, read-numbers-suc, rest-allowed, rest-refused, read-spelt, read-strategy-good, items-numbers}
 use Rattle.strategy.specs.declared.Turn.{Turn}
 use Rattle.strategy.specs.declared.Numbers.{Numbers}
 use Rattle.strategy.specs.declared.Strategy.{Strategy}

@@ -10,7 +10,7 @@ use Rattle.paper.specs.Bits.{bitsOf, field}
 use Rattle.paper.specs.Strategy.{Item}
 use Rattle.paper.specs.Reader.{allowed, grouped-after, read-numbers, read-strategy}
 use Rattle.paper.specs.Writer.{numbers}
-use Rattle.paper.proofs.Operators.{GoodOperator}
+use Rattle.paper.specs.WellFormed.{GoodOperator}
 use Rattle.strategy.specs.declared.Turn.{Turn}
 use Rattle.strategy.specs.declared.Numbers.{Numbers}
 use Rattle.strategy.specs.declared.Strategy.{Strategy}

@@ -103,7 +103,7 @@ fn read_numbers(book: &[u8], at: usize, arity: u8, count: usize, items: &mut [u8
     let mut grouped = false;
     let mut k = 0;
     while k < count {
-        let Bits::Value(v, next) = bits::field(book, pos, 4) else {
+        let Bits::Value(v, next) = reader::field(book, pos, 4) else {
             return Numbers::Refused(1);
         };
         let Turn::Go(inside) = item(v, arity, grouped, count - k - 1) else {
@@ -240,7 +240,7 @@ fn read_given(book: &[u8], at: usize, arity: u8, items: &mut [u8; 32]) -> Strate
     requires { ⌜ (length (now book) ≤ 2 ^ 60) × (arity < 8) × (length (now items) ≡ 32) ⌝ }
     ensures { λ r. ⌜ GivenRead (now (book .entry)) at arity (now (items .exit)) r ⌝ }
 {
-    let Bits::Value(count, next) = bits::field(book, at, 5) else {
+    let Bits::Value(count, next) = reader::field(book, at, 5) else {
         return Strategy::Refused(1);
     };
     let n = count as usize;
@@ -256,7 +256,7 @@ pub fn read_strategy(book: &[u8], at: usize, arity: u8, items: &mut [u8; 32]) ->
     requires { ⌜ (length (now book) ≤ 2 ^ 60) × (arity < 8) × (length (now items) ≡ 32) ⌝ }
     ensures { λ r. ⌜ StrategyRead (now (book .entry)) at arity (now (items .exit)) r ⌝ }
 {
-    let Bits::Value(given, next) = bits::field(book, at, 1) else {
+    let Bits::Value(given, next) = reader::field(book, at, 1) else {
         return Strategy::Refused(1);
     };
     if given == 0 {

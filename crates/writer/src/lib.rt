@@ -136,7 +136,7 @@ fn write_operator(book: &[u8], at: usize, out: &mut [u8], to: usize) -> Places
     requires { ⌜ (length (now book) ≤ 65536) × (to ≤ 2 ^ 37) ⌝ }
     ensures { λ r. ⌜ OperatorAt (now (book .entry)) at to (now (out .entry)) (now (out .exit)) (r .from) (r .to) × (r .to ≤ to + 133) ⌝ }
 {
-    let Bits::Value(a, p) = bits::field(book, at, 3) else {
+    let Bits::Value(a, p) = reader::field(book, at, 3) else {
         return Places { from: at, to };
     };
     let arity = narrow(a);
@@ -198,7 +198,7 @@ fn copy(book: &[u8], from: usize, k: usize, out: &mut [u8], to: usize) -> usize
     let mut left = k;
     while 0 < left {
         let n = some_of(left);
-        let Bits::Value(v, next) = bits::field(book, p, n) else {
+        let Bits::Value(v, next) = reader::field(book, p, n) else {
             return q;
         };
         q = emit(out, q, n, v);
@@ -220,7 +220,7 @@ fn write_rules(
     requires { ⌜ (length (now book) ≤ 65536) × (to ≤ 2 ^ 37) ⌝ }
     ensures { λ r. ⌜ RulesAt (now (book .entry)) at n (now (arities .entry)) to (now (out .entry)) (now (out .exit)) r × (r ≤ to + 524288) ⌝ }
 {
-    let Bits::Value(m, p) = bits::field(book, at, 8) else {
+    let Bits::Value(m, p) = reader::field(book, at, 8) else {
         return to;
     };
     let end = rules_end(book, p, n, arities, count(m));

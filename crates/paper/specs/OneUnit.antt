@@ -1,0 +1,26 @@
+-- The one-unit run without symbol limit, and what is said of the FORKs granted against it (document 01, 'How a run ends': "FORKs granted (in a
+-- finished run at most the FORK orders of a one-unit run without symbol limit)"). Assumes nothing.
+use mathlib.Core.Option.{none}
+use mathlib.Core.Path.{_≡_}
+use Prim.Native.Nat.{ℕ, _≤_}
+use lib.ListN.{replicate}
+use Rattle.paper.specs.Book.{Term, Book}
+use Rattle.paper.specs.Machine.{Ending, Limits}
+use Rattle.paper.specs.Run.{Answer, run}
+
+-- a budget, and no limit of symbols
+abbrev pub unlimited : ℕ → Limits
+unlimited budget = record { budget = budget; symbols = none }
+
+-- the run of one unit over n entries
+abbrev pub alone : Book → ℕ → Term → ℕ → Answer
+alone B budget t n = run B (unlimited budget) 1 (replicate n 0) t
+
+-- what holds of the answer A of a finished run
+pub record Grants (B : Book) (budget : ℕ) (t : Term) (A : Answer) : Type 0 where
+  -- the one-unit run finishes too, if it has entries enough
+  pub finishes : (n : ℕ) × (alone B budget t n .ending ≡ Ending.finished)
+  -- it has no unit to grant a FORK to, so the FORK orders that it carries out are those that it kept
+  pub none-granted : (n : ℕ) → alone B budget t n .granted ≡ 0
+  -- wherever it finishes, at most so many are granted
+  pub at-most : (n : ℕ) → alone B budget t n .ending ≡ Ending.finished → A .granted ≤ alone B budget t n .kept

@@ -1,0 +1,67 @@
+-- What a book that is read has, field by field of the layout (document 01, 'The book, bit by bit' and 'Strategies, settled'; refusals 2 to 8). `Sound`
+-- is what a run needs of it; this is all of it, so that such a book is written and read back as itself. Assumes nothing.
+use mathlib.Core.Bool.{Bool, true, false}
+use mathlib.Core.List.{List, [], _∷_}
+use mathlib.Core.Path.{_≡_}
+use Prim.Native.Nat.{ℕ, _≤_, _<_}
+use lib.ListN.{length}
+use Rattle.paper.specs.Tree.{label, preorder, Correct}
+use Rattle.paper.specs.Strategy.{Item, settle}
+use Rattle.paper.specs.Book.{Operator, Symbol, Side, Rule, Book, symbolArity}
+use Rattle.paper.specs.Reader.{variables}
+use Rattle.paper.specs.Writer.{numbers}
+use Rattle.paper.specs.Sound.{In, All, Once, IsOperator}
+
+-- every argument that is named, in a group or not, is one of n
+abbrev pub ItemsWithin : ℕ → List Item → Type 0
+ItemsWithin n [] = Unit {0}
+ItemsWithin n (Item.whole ∷ is) = ItemsWithin n is
+ItemsWithin n (Item.argument i ∷ is) = (i < n) × ItemsWithin n is
+ItemsWithin n (Item.group js ∷ is) = All (λ j. j < n) js × ItemsWithin n is
+
+-- the list ends in 0, behind an item that is 0 or not
+abbrev pub EndsAfter : Bool → List Item → Type 0
+EndsAfter true [] = Unit {0}
+EndsAfter false [] = ⊥
+EndsAfter b (Item.whole ∷ is) = EndsAfter true is
+EndsAfter b (Item.argument i ∷ is) = EndsAfter false is
+EndsAfter b (Item.group js ∷ is) = EndsAfter false is
+
+-- empty, or its last item is 0
+abbrev pub EndsWhole : List Item → Type 0
+EndsWhole = EndsAfter true
+
+-- an arity of 3 bits, and a settled strategy of at most 31 items within it that is empty or ends in 0
+pub record GoodOperator (o : Operator) : Type 0 where
+  pub arity : o .arity < 8
+  pub settled : settle (o .strategy) ≡ o .strategy
+  pub within : ItemsWithin (o .arity) (o .strategy)
+  pub ends : EndsWhole (o .strategy)
+  pub short : length (numbers (o .strategy)) < 32
+
+-- an operator of the book, or a variable of 4 bits
+abbrev pub Fits : List Operator → Symbol → Type 0
+Fits ops (Symbol.operator o) = o < length ops
+Fits ops (Symbol.variable v) = v < 16
+
+-- one term of at most 64 such symbols
+pub record GoodSide (ops : List Operator) (t : Side) : Type 0 where
+  pub correct : Correct (symbolArity ops) t
+  pub short : length (preorder t) ≤ 64
+  pub fits : All (Fits ops) (preorder t)
+
+-- two sides: the left one no variable and no variable twice in it, the right one with no other variables
+pub record GoodRule (ops : List Operator) (r : Rule) : Type 0 where
+  pub left : GoodSide ops (r .left)
+  pub right : GoodSide ops (r .right)
+  pub root : IsOperator (label (r .left))
+  pub once : Once (variables (preorder (r .left)))
+  pub bound : (v : ℕ) → In v (variables (preorder (r .right))) → In v (variables (preorder (r .left)))
+
+-- 1 to 255 operators, and at most 255 rules over them
+pub record GoodBook (B : Book) : Type 0 where
+  pub some-operators : 0 < length (B .operators)
+  pub few-operators : length (B .operators) < 256
+  pub operators : All GoodOperator (B .operators)
+  pub few-rules : length (B .rules) < 256
+  pub rules : All (GoodRule (B .operators)) (B .rules)
