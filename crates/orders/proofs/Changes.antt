@@ -5,7 +5,7 @@ use mathlib.Core.Logic.{_≢_}
 use Prim.Native.Nat.{ℕ, zero, suc, _+_, _*_, _-_, _≤_, _<_}
 use native.Mathlib.Omega.{arith}
 use native.Mathlib.Numerals.{add-one}
-use lib.ListN.{length, getD, take, drop, replicate}
+use lib.ListN.{length, getD, take, drop}
 use lib.Seq.{length-take-le, getD-take}
 use Rattle.paper.specs.Book.{Book, arity, steps}
 use Rattle.flat.specs.Symbols.{argument}
@@ -14,7 +14,7 @@ use Rattle.term.specs.Line.{arity-in}
 use Rattle.term.proofs.Skipping.{argument-book}
 use Rattle.stack.specs.Frames.{height}
 use Rattle.stack.specs.Stacks.{stackOf}
-use Rattle.units.specs.Units.{unit-of, units-of, Stacks, Area, idled, dropped, at, Change, Turned, Restacked}
+use Rattle.units.specs.Units.{height-in, unit-of, units-of, Area, idled, dropped, at, Change, Turned}
 use Rattle.units.proofs.Units.{length-units, unit-at, height-at, units-changed, at-same, at-else, change-then, change-as}
 use Rattle.orders.specs.Orders.{
   Row-of,
@@ -35,70 +35,59 @@ use Rattle.orders.specs.Orders.{
 }
 use Rattle.orders.proofs.Rows.{all-at, goes-some, goes-none}
 
--- any bytes do where only the stacks matter
-pub area-of : {w h : List ℕ} → Stacks w h → Area w (replicate 8 0) h
-area-of s = record { stacks = s; flags = refl }
-
-pub ready-area : {w y h : List ℕ} {u a k c : ℕ} → Ready w h u a k c → length y ≡ 8 → Area w y h
-ready-area r q = record { stacks = r .stacks; flags = q }
-
 -- nothing has changed
-pub change-none : {w b h : List ℕ} → Area w b h → (u : ℕ) (g : FlatUnit → FlatUnit) → g (unit-of w b h u) ≡ unit-of w b h u → Change u g w b h w b h
-change-none {w} {b} {h} a u g e = record { area = a; units = units-changed w b h w b h u g (λ v n. refl) (sym e) }
+pub change-none : {w cs : List ℕ} → Area w cs → (u : ℕ) (g : FlatUnit → FlatUnit) → g (unit-of w cs u) ≡ unit-of w cs u → Change u g w cs w cs
+change-none {w} {cs} a u g e = record { area = a; units = units-changed w cs w cs u g (λ v n. refl) (sym e) }
 
 -- the heights after a change at unit u
-module _ {w b h w′ b′ h′ : List ℕ} {u : ℕ} {g : FlatUnit → FlatUnit} (c : Change u g w b h w′ b′ h′) where
-  pub height-same : getD h′ u 0 ≡ length (g (unit-of w b h u) .stack)
+module _ {w cs w′ cs′ : List ℕ} {u : ℕ} {g : FlatUnit → FlatUnit} (c : Change u g w cs w′ cs′) where
+  pub height-same : height-in cs′ u ≡ length (g (unit-of w cs u) .stack)
   height-same =
       let l : u < u + 1 = omega arith in
-      sym (height-at w′ b′ h′ (u + 1) u l) ∙ ap (λ (us : List FlatUnit). length (unit us u .stack)) (c .units (u + 1))
-      ∙ ap (λ (x : FlatUnit). length (x .stack)) (at-same u (units-of w b h (u + 1)) g (omega (arith, length-units w b h 0 (u + 1))))
-      ∙ ap (λ (x : FlatUnit). length (g x .stack)) (unit-at w b h (u + 1) u l)
+      sym (height-at w′ cs′ (u + 1) u l) ∙ ap (λ (us : List FlatUnit). length (unit us u .stack)) (c .units (u + 1))
+      ∙ ap (λ (x : FlatUnit). length (x .stack)) (at-same u (units-of w cs (u + 1)) g (omega (arith, length-units w cs 0 (u + 1))))
+      ∙ ap (λ (x : FlatUnit). length (g x .stack)) (unit-at w cs (u + 1) u l)
 
-  pub height-other : (v : ℕ) → v ≢ u → getD h′ v 0 ≡ getD h v 0
+  pub height-other : (v : ℕ) → v ≢ u → height-in cs′ v ≡ height-in cs v
   height-other v n =
       let l : v < v + 1 = omega arith in
-      sym (height-at w′ b′ h′ (v + 1) v l) ∙ ap (λ (us : List FlatUnit). length (unit us v .stack)) (c .units (v + 1))
-      ∙ ap (λ (x : FlatUnit). length (x .stack)) (at-else u (units-of w b h (v + 1)) g v n)
-      ∙ height-at w b h (v + 1) v l
+      sym (height-at w′ cs′ (v + 1) v l) ∙ ap (λ (us : List FlatUnit). length (unit us v .stack)) (c .units (v + 1))
+      ∙ ap (λ (x : FlatUnit). length (x .stack)) (at-else u (units-of w cs (v + 1)) g v n)
+      ∙ height-at w cs (v + 1) v l
 
 -- the step k is there, over what g leaves of the stack, or it isn't
-module _ {w h laid : List ℕ} (s : Stacks w h) (u o a k c : ℕ) (l : k ≤ 15) where
-  pub went : (g : List Frame → List Frame) {w′ h′ : List ℕ} → getD laid (16 * o + k) 0 ≢ 0 →
-      Restacked u (λ (x : FlatUnit). flat-unit (x .busy) (Frame.job a (k + 1) c ∷ g (x .stack))) w h w′ h′ →
-      Done (Row-of laid o) (λ (B : Book) (fs : List Frame). goes o a k c B (g fs)) u w h w′ h′
+module _ {w cs laid : List ℕ} (s : Area w cs) (u o a k c : ℕ) (l : k ≤ 15) where
+  pub went : (g : List Frame → List Frame) {w′ cs′ : List ℕ} → getD laid (16 * o + k) 0 ≢ 0 →
+      Change u (λ (x : FlatUnit). flat-unit (x .busy) (Frame.job a (k + 1) c ∷ g (x .stack))) w cs w′ cs′ →
+      Done (Row-of laid o) (λ (B : Book) (fs : List Frame). goes o a k c B (g fs)) u w cs w′ cs′
   went g n p = record {
-    stacks = p (replicate 8 0) (area-of s) .area .stacks;
-    change = λ B r b q.
-        change-as (p b q) (λ (x : FlatUnit). flat-unit (x .busy) (goes o a k c B (g (x .stack))))
-        (let fs = g (unit-of w b h u .stack) in
-        ap (flat-unit (unit-of w b h u .busy)) (ap (λ (j : ℕ). Frame.job a j c ∷ fs) (add-one k) ∙ sym (goes-some r k (omega arith) n a c fs)));
+    area = p .area;
+    change = λ B r.
+        change-as p (λ (x : FlatUnit). flat-unit (x .busy) (goes o a k c B (g (x .stack))))
+        (let fs = g (unit-of w cs u .stack) in
+        ap (flat-unit (unit-of w cs u .busy)) (ap (λ (j : ℕ). Frame.job a j c ∷ fs) (add-one k) ∙ sym (goes-some r k (omega arith) n a c fs)));
   }
 
-  pub went-none : getD laid (16 * o + k) 0 ≡ 0 → Done (Row-of laid o) (goes o a k c) u w h w h
+  pub went-none : getD laid (16 * o + k) 0 ≡ 0 → Done (Row-of laid o) (goes o a k c) u w cs w cs
   went-none e = record {
-    stacks = s;
-    change = λ B r b q.
-        change-none q u (λ (x : FlatUnit). flat-unit (x .busy) (goes o a k c B (x .stack)))
-        (ap (flat-unit (unit-of w b h u .busy)) (goes-none r k (omega arith) e a c (unit-of w b h u .stack)));
+    area = s;
+    change = λ B r.
+        change-none s u (λ (x : FlatUnit). flat-unit (x .busy) (goes o a k c B (x .stack)))
+        (ap (flat-unit (unit-of w cs u .busy)) (goes-none r k (omega arith) e a c (unit-of w cs u .stack)));
   }
 
 -- the top frame is dropped first
-module _ {w h h₁ : List ℕ} {u : ℕ} (s : Stacks w h) (d : Restacked u dropped w h w h₁) where
-  pub drop-stacks : Stacks w h₁
-  drop-stacks = d (replicate 8 0) (area-of s) .area .stacks
-
-  pub drop-then : {K : Book → Type 0} {f : Book → List Frame → List Frame} {w′ h′ : List ℕ} → Done K f u w h₁ w′ h′ →
-      Done K (λ (B : Book) (fs : List Frame). f B (drop 1 fs)) u w h w′ h′
-  drop-then c = record { stacks = c .stacks; change = λ B q b a. change-then (d b a) (c .change B q b (d b a .area)) }
+pub drop-then : {w cs cs₁ : List ℕ} {u : ℕ} → Change u dropped w cs w cs₁ → {K : Book → Type 0} {f : Book → List Frame → List Frame} {w′ cs′ : List ℕ} →
+    Done K f u w cs₁ w′ cs′ → Done K (λ (B : Book) (fs : List Frame). f B (drop 1 fs)) u w cs w′ cs′
+drop-then d c = record { area = c .area; change = λ B q. change-then d (c .change B q) }
 
 -- a count that is next-count of the steps left
-pub counted : {laid : List ℕ} {o k c : ℕ} → Counted laid o k c → (f : ℕ → Book → List Frame → List Frame) {u : ℕ} {w h w′ h′ : List ℕ} →
-    Done (Row-of laid o) (f c) u w h w′ h′ → Done (Row-of laid o) (λ (B : Book). f (next-count (drop k (steps B o))) B) u w h w′ h′
-counted {o = o} n f {u} {w} {h} {w′} {h′} d = record {
-  stacks = d .stacks;
+pub counted : {laid : List ℕ} {o k c : ℕ} → Counted laid o k c → (f : ℕ → Book → List Frame → List Frame) {u : ℕ} {w cs w′ cs′ : List ℕ} →
+    Done (Row-of laid o) (f c) u w cs w′ cs′ → Done (Row-of laid o) (λ (B : Book). f (next-count (drop k (steps B o))) B) u w cs w′ cs′
+counted {o = o} n f {u} {w} {cs} {w′} {cs′} d = record {
+  area = d .area;
   change = λ B r.
-      subst (λ (y : ℕ). Restacked u (λ (x : FlatUnit). flat-unit (x .busy) (f y B (x .stack))) w h w′ h′) (n .is (steps B o) r) (d .change B r);
+      subst (λ (y : ℕ). Change u (λ (x : FlatUnit). flat-unit (x .busy) (f y B (x .stack))) w cs w′ cs′) (n .is (steps B o) r) (d .change B r);
 }
 
 -- an argument's offset is small
@@ -128,48 +117,47 @@ module _ {arities laid symbols : List ℕ} {len o a i b p : ℕ} {B : Book} (s :
   argument-enters fs =
       ap₂ (λ (x y : ℕ). proceed x 1 (next-count (steps B y)) (steps B y) fs) argument-is (at-p ∙ ap (λ (j : ℕ). getD (take len symbols) j 0) argument-is)
 
-  pub argument-room : (k c : ℕ) {u : ℕ} {w h w₁ h₁ : List ℕ} → Stacks w h → Done (Row-of laid o) (proceeds o a k c) u w h w₁ h₁ →
-      length (visits-argument (take len symbols) o a k c i B (stackOf w (u * height) (getD h u 0))) ≤ height → Free laid p 0 h₁ u
-  argument-room k c {u} {w} {h} z d r n =
-      let fs = proceeds o a k c B (stackOf w (u * height) (getD h u 0)) in
+  pub argument-room : (k c : ℕ) {u : ℕ} {w cs w₁ cs₁ : List ℕ} → Done (Row-of laid o) (proceeds o a k c) u w cs w₁ cs₁ →
+      length (visits-argument (take len symbols) o a k c i B (stackOf w (u * height) (height-in cs u))) ≤ height → Free laid p 0 cs₁ u
+  argument-room k c {u} {w} {cs} d r n =
+      let fs = proceeds o a k c B (stackOf w (u * height) (height-in cs u)) in
       let e = ap length (sym (argument-enters fs) ∙ goes-some argument-row 0 (omega arith) n b (next-count (steps B p)) fs) in
-      omega (arith, e, r, height-same (d .change B (s .rows o (s .operator)) (replicate 8 0) (area-of z)))
+      omega (arith, e, r, height-same (d .change B (s .rows o (s .operator))))
 
-pub visited-argument : (k c : ℕ) {arities laid symbols : List ℕ} {len o a i b p u : ℕ} {w h w₁ h₁ w₂ h₂ : List ℕ} → Inside arities symbols len a i →
-    b ≡ argument-in arities symbols len a i → p ≡ getD symbols b 0 → Done (Row-of laid o) (proceeds o a k c) u w h w₁ h₁ →
-    Done (Row-of laid p) (enters p b) u w₁ h₁ w₂ h₂ →
-    Done (Says arities laid (take len symbols) o) (visits-argument (take len symbols) o a k c i) u w h w₂ h₂
-visited-argument k c {symbols = symbols} {len = len} {o = o} {a = a} {i = i} {u = u} {w = w} {h = h} q eb ep d e = record {
-  stacks = e .stacks;
-  change = λ B s y z.
-      let f = d .change B (s .rows o (s .operator)) y z in
-      change-as (change-then f (e .change B (argument-row s q eb ep) y (f .area)))
+pub visited-argument : (k c : ℕ) {arities laid symbols : List ℕ} {len o a i b p u : ℕ} {w cs w₁ cs₁ w₂ cs₂ : List ℕ} → Inside arities symbols len a i →
+    b ≡ argument-in arities symbols len a i → p ≡ getD symbols b 0 → Done (Row-of laid o) (proceeds o a k c) u w cs w₁ cs₁ →
+    Done (Row-of laid p) (enters p b) u w₁ cs₁ w₂ cs₂ →
+    Done (Says arities laid (take len symbols) o) (visits-argument (take len symbols) o a k c i) u w cs w₂ cs₂
+visited-argument k c {symbols = symbols} {len = len} {o = o} {a = a} {i = i} {u = u} {w = w} {cs = cs} q eb ep d e = record {
+  area = e .area;
+  change = λ B s.
+      change-as (change-then (d .change B (s .rows o (s .operator))) (e .change B (argument-row s q eb ep)))
       (λ (x : FlatUnit). flat-unit (x .busy) (visits-argument (take len symbols) o a k c i B (x .stack)))
-      (ap (flat-unit (unit-of w y h u .busy)) (argument-enters s q eb ep (proceeds o a k c B (unit-of w y h u .stack))));
+      (ap (flat-unit (unit-of w cs u .busy)) (argument-enters s q eb ep (proceeds o a k c B (unit-of w cs u .stack))));
 }
 
 -- JOIN passes, or the unit waits
-pub join-passes : {laid : List ℕ} {o u a k c d : ℕ} {w b h w′ h′ : List ℕ} → Area w b h → c ≡ 0 → Counted laid o k d →
-    Done (Row-of laid o) (proceeds o a k d) u w h w′ h′ → Joined laid o u a k c w b h w′ b h′
-join-passes {o = o} {u = u} {a = a} {k = k} {w = w} {b = b} {h = h} {w′ = w′} {h′ = h′} q e n d = record {
+pub join-passes : {laid : List ℕ} {o u a k c d : ℕ} {w cs w′ cs′ : List ℕ} → c ≡ 0 → Counted laid o k d →
+    Done (Row-of laid o) (proceeds o a k d) u w cs w′ cs′ → Joined laid o u a k c w cs w′ cs′
+join-passes {o = o} {u = u} {a = a} {k = k} {w = w} {cs = cs} {w′ = w′} {cs′ = cs′} e n d = record {
   change = λ B r.
-      subst (λ (y : ℕ). Change u (joins o a k y B) w b h w′ b h′) (sym e)
-      (counted n (λ (y : ℕ). proceeds o a k y) d .change B r b q);
+      subst (λ (y : ℕ). Change u (joins o a k y B) w cs w′ cs′) (sym e)
+      (counted n (λ (y : ℕ). proceeds o a k y) d .change B r);
 }
 
-pub join-waits : {laid : List ℕ} {o u a k : ℕ} {w b h b′ h′ : List ℕ} → Area w b h → (c : ℕ) → c ≢ 0 → Turned u idled b h b′ h′ →
-    Joined laid o u a k c w b h w b′ h′
+pub join-waits : {laid : List ℕ} {o u a k : ℕ} {w cs cs′ : List ℕ} → Area w cs → (c : ℕ) → c ≢ 0 → Turned u idled cs cs′ →
+    Joined laid o u a k c w cs w cs′
 join-waits q zero n t = absurd (n refl)
 join-waits {w = w} q (suc c) n t = record { change = λ B r. t .change w q }
 
 -- EXIT
-pub exit-index : {w b h w₁ b₁ h₁ : List ℕ} {u : ℕ} {g : FlatUnit → FlatUnit} → Change u g w b h w₁ b₁ h₁ → (v i : ℕ) → v ≢ u → i < getD h v 0 →
-    (v′ i′ : ℕ) → v′ ≡ v → i′ ≡ i → i′ < getD h₁ v′ 0
-exit-index {h₁ = h₁} c v i n l v′ i′ ev ei = omega (arith, height-other c v n, ap (λ (x : ℕ). getD h₁ x 0) ev)
+pub exit-index : {w cs w₁ cs₁ : List ℕ} {u : ℕ} {g : FlatUnit → FlatUnit} → Change u g w cs w₁ cs₁ → (v i : ℕ) → v ≢ u → i < height-in cs v →
+    (v′ i′ : ℕ) → v′ ≡ v → i′ ≡ i → i′ < height-in cs₁ v′
+exit-index {cs₁ = cs₁} c v i n l v′ i′ ev ei = omega (arith, height-other c v n, ap (λ (x : ℕ). height-in cs₁ x) ev)
 
-pub exited : {u v i v′ i′ : ℕ} {w b h h₁ w′ b′ h′ : List ℕ} → Area w b h → Restacked u dropped w h w h₁ → v′ ≡ v → i′ ≡ i →
-    Change v′ (arrive i′) w b h₁ w′ b′ h′ → Exited u v i w b h w′ b′ h′
-exited {v = v} {i = i} {w = w} {b = b} {h₁ = h₁} a d ev ei c = record {
+pub exited : {u v i v′ i′ : ℕ} {w cs cs₁ w′ cs′ : List ℕ} → Change u dropped w cs w cs₁ → v′ ≡ v → i′ ≡ i →
+    Change v′ (arrive i′) w cs₁ w′ cs′ → Exited u v i w cs w′ cs′
+exited {v = v} {i = i} {w = w} {cs₁ = cs₁} d ev ei c = record {
   area = c .area;
-  units = λ n. c .units n ∙ ap₂ (λ (x y : ℕ). at x (arrive y) (units-of w b h₁ n)) ev ei ∙ ap (at v (arrive i)) (d b a .units n);
+  units = λ n. c .units n ∙ ap₂ (λ (x y : ℕ). at x (arrive y) (units-of w cs₁ n)) ev ei ∙ ap (at v (arrive i)) (d .units n);
 }

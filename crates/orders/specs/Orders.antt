@@ -16,7 +16,7 @@ use Rattle.strategy.specs.Rows.{row, row-at}
 use Rattle.term.specs.Line.{arity-in, Tables}
 use Rattle.stack.specs.Frames.{height}
 use Rattle.stack.specs.Stacks.{stackOf}
-use Rattle.units.specs.Units.{units-of, Stacks, Area, dropped, idled, at, Change, Restacked}
+use Rattle.units.specs.Units.{height-in, units-of, Area, dropped, idled, at, Change}
 
 -- TABLES
 
@@ -73,20 +73,20 @@ pub record Small (a k c : ℕ) : Type 0 where
   pub count : c < 64
 
 -- unit u's stack has a top frame, which a job with these numbers can take the place of
-pub record Ready (w h : List ℕ) (u a k c : ℕ) : Type 0 where
-  pub stacks : Stacks w h
+pub record Ready (w cs : List ℕ) (u a k c : ℕ) : Type 0 where
+  pub area : Area w cs
   pub unit : u < 8
-  pub high : 0 < getD h u 0
+  pub high : 0 < height-in cs u
   pub small : Small a k c
 
 -- if operator o has a step k, there is room for a frame on unit u's stack
 abbrev pub Free : List ℕ → ℕ → ℕ → List ℕ → ℕ → Type 0
-Free laid o k h u = getD laid (16 * o + k) 0 ≢ 0 → getD h u 0 < height
+Free laid o k cs u = getD laid (16 * o + k) 0 ≢ 0 → height-in cs u < height
 
 -- by each book of which K holds, unit u's stack has been changed by f; it is busy or idle as it was
-pub record Done (K : Book → Type 0) (f : Book → List Frame → List Frame) (u : ℕ) (w h w′ h′ : List ℕ) : Type 0 where
-  pub stacks : Stacks w′ h′
-  pub change : (B : Book) → K B → Restacked u (λ (x : FlatUnit). flat-unit (x .busy) (f B (x .stack))) w h w′ h′
+pub record Done (K : Book → Type 0) (f : Book → List Frame → List Frame) (u : ℕ) (w cs w′ cs′ : List ℕ) : Type 0 where
+  pub area : Area w′ cs′
+  pub change : (B : Book) → K B → Change u (λ (x : FlatUnit). flat-unit (x .busy) (f B (x .stack))) w cs w′ cs′
 
 -- the term at offset a, of operator o, goes on with its step k: over the stack; in place of the top job
 abbrev pub goes : ℕ → ℕ → ℕ → ℕ → Book → List Frame → List Frame
@@ -107,19 +107,19 @@ abbrev pub visits-argument : List ℕ → ℕ → ℕ → ℕ → ℕ → ℕ �
 visits-argument xs o a k c i B fs = visit B xs (argument (arity B) xs a i) (proceeds o a k c B fs)
 
 -- there is a book of which K holds, and room for unit u's stack once f has changed it
-pub record Room (K : Book → Type 0) (f : Book → List Frame → List Frame) (u : ℕ) (w h : List ℕ) : Type 0 where
+pub record Room (K : Book → Type 0) (f : Book → List Frame → List Frame) (u : ℕ) (w cs : List ℕ) : Type 0 where
   pub book : Book
   pub holds : K book
-  pub room : length (f book (stackOf w (u * height) (getD h u 0))) ≤ height
+  pub room : length (f book (stackOf w (u * height) (height-in cs u))) ≤ height
 
 -- what VISIT of an argument asks, and what it does
-pub record Visitable (arities laid symbols : List ℕ) (len u o a k c i : ℕ) (w h : List ℕ) : Type 0 where
-  pub ready : Ready w h u a k c
+pub record Visitable (arities laid symbols : List ℕ) (len u o a k c i : ℕ) (w cs : List ℕ) : Type 0 where
+  pub ready : Ready w cs u a k c
   pub inside : Inside arities symbols len a i
-  pub room : Room (Says arities laid (take len symbols) o) (visits-argument (take len symbols) o a k c i) u w h
+  pub room : Room (Says arities laid (take len symbols) o) (visits-argument (take len symbols) o a k c i) u w cs
 
 abbrev pub Visited : List ℕ → List ℕ → List ℕ → ℕ → ℕ → ℕ → ℕ → ℕ → ℕ → List ℕ → List ℕ → List ℕ → List ℕ → Type 0
-Visited arities laid xs u o a k c i w h w′ h′ = Done (Says arities laid xs o) (visits-argument xs o a k c i) u w h w′ h′
+Visited arities laid xs u o a k c i w cs w′ cs′ = Done (Says arities laid xs o) (visits-argument xs o a k c i) u w cs w′ cs′
 
 -- UNITS
 
@@ -128,21 +128,21 @@ abbrev pub joins : ℕ → ℕ → ℕ → ℕ → Book → FlatUnit → FlatUni
 joins o a k zero B x = flat-unit (x .busy) (proceeds o a k (next-count (drop k (steps B o))) B (x .stack))
 joins o a k (suc c) B x = idled x
 
-pub record Joined (laid : List ℕ) (o u a k c : ℕ) (w b h w′ b′ h′ : List ℕ) : Type 0 where
-  pub change : (B : Book) → Row-of laid o B → Change u (joins o a k c B) w b h w′ b′ h′
+pub record Joined (laid : List ℕ) (o u a k c : ℕ) (w cs w′ cs′ : List ℕ) : Type 0 where
+  pub change : (B : Book) → Row-of laid o B → Change u (joins o a k c B) w cs w′ cs′
 
 -- EXIT: the top frame goes, and it arrives at unit v, which is another and has a frame i
-pub record Exitable (u v i : ℕ) (w b h : List ℕ) : Type 0 where
-  pub area : Area w b h
+pub record Exitable (u v i : ℕ) (w cs : List ℕ) : Type 0 where
+  pub area : Area w cs
   pub unit : u < 8
-  pub high : 0 < getD h u 0
+  pub high : 0 < height-in cs u
   pub join-unit : v < 8
   pub other : v ≢ u
-  pub index : i < getD h v 0
+  pub index : i < height-in cs v
 
-pub record Exited (u v i : ℕ) (w b h w′ b′ h′ : List ℕ) : Type 0 where
-  pub area : Area w′ b′ h′
-  pub units : (n : ℕ) → units-of w′ b′ h′ n ≡ at v (arrive i) (at u dropped (units-of w b h n))
+pub record Exited (u v i : ℕ) (w cs w′ cs′ : List ℕ) : Type 0 where
+  pub area : Area w′ cs′
+  pub units : (n : ℕ) → units-of w′ cs′ n ≡ at v (arrive i) (at u dropped (units-of w cs n))
 
 -- FORK of the term at offset b: it is kept; an idle unit gets it, over an EXIT for the job at index i of unit u
 abbrev pub keeps : ℕ → ℕ → ℕ → ℕ → ℕ → Book → List Frame → List Frame
@@ -155,19 +155,18 @@ given u i b x = flat-unit true (Frame.job b 0 0 ∷ Frame.exit u i ∷ x .stack)
 abbrev pub restack : ℕ → (List Frame → List Frame) → List FlatUnit → List FlatUnit
 restack u f us = at u (λ (x : FlatUnit). flat-unit (x .busy) (f (x .stack))) us
 
-pub record Grantable (laid : List ℕ) (o u a k c b v : ℕ) (w y h : List ℕ) : Type 0 where
-  pub ready : Ready w h u a k c
-  pub flags : length y ≡ 8
+pub record Grantable (laid : List ℕ) (o u a k c b v : ℕ) (w cs : List ℕ) : Type 0 where
+  pub ready : Ready w cs u a k c
   pub coded : Coded laid o
   pub offset : b < 1024
   pub idle-unit : v < 8
   pub other : v ≢ u
-  pub room : getD h v 0 + 2 ≤ height
+  pub room : height-in cs v + 2 ≤ height
 
-pub record Granted (laid : List ℕ) (o u a k c b v : ℕ) (w y h w′ y′ h′ : List ℕ) : Type 0 where
-  pub area : Area w′ y′ h′
+pub record Granted (laid : List ℕ) (o u a k c b v : ℕ) (w cs w′ cs′ : List ℕ) : Type 0 where
+  pub area : Area w′ cs′
   pub units : (B : Book) → Row-of laid o B → (n : ℕ) →
-      units-of w′ y′ h′ n ≡ at v (given u (getD h u 0 - 1) b) (restack u (proceeds o a k c B) (units-of w y h n))
+      units-of w′ cs′ n ≡ at v (given u (height-in cs u - 1) b) (restack u (proceeds o a k c B) (units-of w cs n))
 
 -- by the answer of the search for an idle unit; h is the height of unit u's stack
 abbrev pub forks : ℕ → ℕ → ℕ → ℕ → ℕ → ℕ → ℕ → Book → List FlatUnit → Option ℕ → List FlatUnit
@@ -179,19 +178,18 @@ grants none = false
 grants (some v) = true
 
 -- what FORK asks; there is room on unit u's stack if no unit is idle, and for two frames on the idle unit's, which is another
-pub record Forkable (arities laid symbols : List ℕ) (len n u o a k c i : ℕ) (w y h : List ℕ) : Type 0 where
-  pub ready : Ready w h u a k c
-  pub flags : length y ≡ 8
+pub record Forkable (arities laid symbols : List ℕ) (len n u o a k c i : ℕ) (w cs : List ℕ) : Type 0 where
+  pub ready : Ready w cs u a k c
   pub few : n ≤ 8
   pub inside : Inside arities symbols len a i
   pub book : Book
   pub says : Says arities laid (take len symbols) o book
-  pub kept : idle (units-of w y h n) ≡ none →
-      length (keeps o a k c (argument (arity book) (take len symbols) a i) book (stackOf w (u * height) (getD h u 0))) ≤ height
-  pub granted : (v : ℕ) → idle (units-of w y h n) ≡ some v → (v ≢ u) × (getD h v 0 + 2 ≤ height)
+  pub kept : idle (units-of w cs n) ≡ none →
+      length (keeps o a k c (argument (arity book) (take len symbols) a i) book (stackOf w (u * height) (height-in cs u))) ≤ height
+  pub granted : (v : ℕ) → idle (units-of w cs n) ≡ some v → (v ≢ u) × (height-in cs v + 2 ≤ height)
 
-pub record Forked (arities laid xs : List ℕ) (n u o a k c i : ℕ) (w y h w′ y′ h′ : List ℕ) (r : Bool) : Type 0 where
-  pub area : Area w′ y′ h′
+pub record Forked (arities laid xs : List ℕ) (n u o a k c i : ℕ) (w cs w′ cs′ : List ℕ) (r : Bool) : Type 0 where
+  pub area : Area w′ cs′
   pub units : (B : Book) → Says arities laid xs o B →
-      units-of w′ y′ h′ n ≡ forks u (getD h u 0) o a k c (argument (arity B) xs a i) B (units-of w y h n) (idle (units-of w y h n))
-  pub answer : r ≡ grants (idle (units-of w y h n))
+      units-of w′ cs′ n ≡ forks u (height-in cs u) o a k c (argument (arity B) xs a i) B (units-of w cs n) (idle (units-of w cs n))
+  pub answer : r ≡ grants (idle (units-of w cs n))

@@ -52,18 +52,18 @@ pub fn next_count(laid: &[u8; 4096], o: u8, k: u8) -> u8
 fn go_on(
     laid: &[u8; 4096],
     work: &mut [u8],
-    heights: &mut [u16; 8],
+    cells: &mut [u16; 8],
     u: usize,
     o: u8,
     a: u16,
     k: u8,
     c: u8,
 )
-    requires { ⌜ U.Stacks (now work) (now heights) × (u < 8) × O.Small a k c × O.Free (now laid) o k (now heights) u ⌝ }
-    ensures { λ _. ⌜ O.Done (O.Row-of (now (laid .entry)) o) (O.goes o a k c) u (now (work .entry)) (now (heights .entry)) (now (work .exit)) (now (heights .exit)) ⌝ }
+    requires { ⌜ U.Area (now work) (now cells) × (u < 8) × O.Small a k c × O.Free (now laid) o k (now cells) u ⌝ }
+    ensures { λ _. ⌜ O.Done (O.Row-of (now (laid .entry)) o) (O.goes o a k c) u (now (work .entry)) (now (cells .entry)) (now (work .exit)) (now (cells .exit)) ⌝ }
 {
     if code_at(laid, o, k) != 0 {
-        units::push(work, heights, u, Frame::Job(a, k + 1, c));
+        units::push(work, cells, u, Frame::Job(a, k + 1, c));
     }
 }
 
@@ -72,39 +72,39 @@ fn go_on(
 pub fn proceed(
     laid: &[u8; 4096],
     work: &mut [u8],
-    heights: &mut [u16; 8],
+    cells: &mut [u16; 8],
     u: usize,
     o: u8,
     a: u16,
     k: u8,
     c: u8,
 )
-    requires { ⌜ O.Ready (now work) (now heights) u a k c ⌝ }
-    ensures { λ _. ⌜ O.Done (O.Row-of (now (laid .entry)) o) (O.proceeds o a k c) u (now (work .entry)) (now (heights .entry)) (now (work .exit)) (now (heights .exit)) ⌝ }
+    requires { ⌜ O.Ready (now work) (now cells) u a k c ⌝ }
+    ensures { λ _. ⌜ O.Done (O.Row-of (now (laid .entry)) o) (O.proceeds o a k c) u (now (work .entry)) (now (cells .entry)) (now (work .exit)) (now (cells .exit)) ⌝ }
 {
     if code_at(laid, o, k) != 0 {
-        units::set_top(work, heights, u, Frame::Job(a, k + 1, c));
+        units::set_top(work, cells, u, Frame::Job(a, k + 1, c));
     } else {
-        units::drop_top(heights, u);
+        units::drop_top(cells, u);
     }
 }
 
 // The orders of the term at offset a, of operator o, are put on top of unit u's stack.
-fn enter(laid: &[u8; 4096], work: &mut [u8], heights: &mut [u16; 8], u: usize, o: u8, a: u16)
-    requires { ⌜ U.Stacks (now work) (now heights) × (u < 8) × (a < 1024) × O.Coded (now laid) o × O.Free (now laid) o 0 (now heights) u ⌝ }
-    ensures { λ _. ⌜ O.Done (O.Row-of (now (laid .entry)) o) (O.enters o a) u (now (work .entry)) (now (heights .entry)) (now (work .exit)) (now (heights .exit)) ⌝ }
+fn enter(laid: &[u8; 4096], work: &mut [u8], cells: &mut [u16; 8], u: usize, o: u8, a: u16)
+    requires { ⌜ U.Area (now work) (now cells) × (u < 8) × (a < 1024) × O.Coded (now laid) o × O.Free (now laid) o 0 (now cells) u ⌝ }
+    ensures { λ _. ⌜ O.Done (O.Row-of (now (laid .entry)) o) (O.enters o a) u (now (work .entry)) (now (cells .entry)) (now (work .exit)) (now (cells .exit)) ⌝ }
 {
     let c = next_count(laid, o, 0);
-    go_on(laid, work, heights, u, o, a, 0, c);
+    go_on(laid, work, cells, u, o, a, 0, c);
 }
 
 // VISIT of the job on top of unit u's stack, of the term at offset a and operator o.
-pub fn visit(laid: &[u8; 4096], work: &mut [u8], heights: &mut [u16; 8], u: usize, o: u8, a: u16)
-    requires { ⌜ O.Ready (now work) (now heights) u a 0 0 × O.Coded (now laid) o ⌝ }
-    ensures { λ _. ⌜ O.Done (O.Row-of (now (laid .entry)) o) (O.visits o a) u (now (work .entry)) (now (heights .entry)) (now (work .exit)) (now (heights .exit)) ⌝ }
+pub fn visit(laid: &[u8; 4096], work: &mut [u8], cells: &mut [u16; 8], u: usize, o: u8, a: u16)
+    requires { ⌜ O.Ready (now work) (now cells) u a 0 0 × O.Coded (now laid) o ⌝ }
+    ensures { λ _. ⌜ O.Done (O.Row-of (now (laid .entry)) o) (O.visits o a) u (now (work .entry)) (now (cells .entry)) (now (work .exit)) (now (cells .exit)) ⌝ }
 {
     let c = next_count(laid, o, 0);
-    proceed(laid, work, heights, u, o, a, 0, c);
+    proceed(laid, work, cells, u, o, a, 0, c);
 }
 
 // The operator at offset a.
@@ -130,7 +130,7 @@ pub fn visit_argument(
     len: usize,
     arities: &[u8; 256],
     work: &mut [u8],
-    heights: &mut [u16; 8],
+    cells: &mut [u16; 8],
     u: usize,
     o: u8,
     a: u16,
@@ -138,45 +138,44 @@ pub fn visit_argument(
     c: u8,
     i: u8,
 )
-    requires { ⌜ O.Visitable (now arities) (now laid) (now symbols) len u o a k c i (now work) (now heights) ⌝ }
-    ensures { λ _. ⌜ O.Visited (now (arities .entry)) (now (laid .entry)) (take len (now (symbols .entry))) u o a k c i (now (work .entry)) (now (heights .entry)) (now (work .exit)) (now (heights .exit)) ⌝ }
+    requires { ⌜ O.Visitable (now arities) (now laid) (now symbols) len u o a k c i (now work) (now cells) ⌝ }
+    ensures { λ _. ⌜ O.Visited (now (arities .entry)) (now (laid .entry)) (take len (now (symbols .entry))) u o a k c i (now (work .entry)) (now (cells .entry)) (now (work .exit)) (now (cells .exit)) ⌝ }
 {
     let b = argument(symbols, len, arities, a, i);
     let p = operator_at(symbols, b);
-    proceed(laid, work, heights, u, o, a, k, c);
-    enter(laid, work, heights, u, p, b);
+    proceed(laid, work, cells, u, o, a, k, c);
+    enter(laid, work, cells, u, p, b);
 }
 
 // JOIN at count 0 passes, and the job on top of unit u's stack goes on with its step k; otherwise the unit waits.
 pub fn join(
     laid: &[u8; 4096],
     work: &mut [u8],
-    busy: &mut [u8; 8],
-    heights: &mut [u16; 8],
+    cells: &mut [u16; 8],
     u: usize,
     o: u8,
     a: u16,
     k: u8,
     c: u8,
 )
-    requires { ⌜ O.Ready (now work) (now heights) u a k c × (length (now busy) ≡ 8) × O.Coded (now laid) o ⌝ }
-    ensures { λ _. ⌜ O.Joined (now (laid .entry)) o u a k c (now (work .entry)) (now (busy .entry)) (now (heights .entry)) (now (work .exit)) (now (busy .exit)) (now (heights .exit)) ⌝ }
+    requires { ⌜ O.Ready (now work) (now cells) u a k c × O.Coded (now laid) o ⌝ }
+    ensures { λ _. ⌜ O.Joined (now (laid .entry)) o u a k c (now (work .entry)) (now (cells .entry)) (now (work .exit)) (now (cells .exit)) ⌝ }
 {
     if c == 0 {
         let d = next_count(laid, o, k);
-        proceed(laid, work, heights, u, o, a, k, d);
+        proceed(laid, work, cells, u, o, a, k, d);
     } else {
-        units::wait_unit(busy, heights, u);
+        units::wait_unit(cells, u);
     }
 }
 
 // EXIT on top of unit u's stack, for the JOIN of the job at index i of unit v's stack.
-pub fn exit(work: &mut [u8], busy: &mut [u8; 8], heights: &mut [u16; 8], u: usize, v: u8, i: u16)
-    requires { ⌜ O.Exitable u v i (now work) (now busy) (now heights) ⌝ }
-    ensures { λ _. ⌜ O.Exited u v i (now (work .entry)) (now (busy .entry)) (now (heights .entry)) (now (work .exit)) (now (busy .exit)) (now (heights .exit)) ⌝ }
+pub fn exit(work: &mut [u8], cells: &mut [u16; 8], u: usize, v: u8, i: u16)
+    requires { ⌜ O.Exitable u v i (now work) (now cells) ⌝ }
+    ensures { λ _. ⌜ O.Exited u v i (now (work .entry)) (now (cells .entry)) (now (work .exit)) (now (cells .exit)) ⌝ }
 {
-    units::drop_top(heights, u);
-    units::arrive(work, busy, heights, wide(v), wider(i));
+    units::drop_top(cells, u);
+    units::arrive(work, cells, wide(v), wider(i));
 }
 
 fn lower(count: u8) -> u8
@@ -192,7 +191,7 @@ fn lower(count: u8) -> u8
 fn keep(
     laid: &[u8; 4096],
     work: &mut [u8],
-    heights: &mut [u16; 8],
+    cells: &mut [u16; 8],
     u: usize,
     o: u8,
     a: u16,
@@ -200,38 +199,36 @@ fn keep(
     c: u8,
     b: u16,
 )
-    requires { ⌜ O.Ready (now work) (now heights) u a k c × (b < 1024) × O.Room (O.Row-of (now laid) o) (O.keeps o a k c b) u (now work) (now heights) ⌝ }
-    ensures { λ _. ⌜ O.Done (O.Row-of (now (laid .entry)) o) (O.keeps o a k c b) u (now (work .entry)) (now (heights .entry)) (now (work .exit)) (now (heights .exit)) ⌝ }
+    requires { ⌜ O.Ready (now work) (now cells) u a k c × (b < 1024) × O.Room (O.Row-of (now laid) o) (O.keeps o a k c b) u (now work) (now cells) ⌝ }
+    ensures { λ _. ⌜ O.Done (O.Row-of (now (laid .entry)) o) (O.keeps o a k c b) u (now (work .entry)) (now (cells .entry)) (now (work .exit)) (now (cells .exit)) ⌝ }
 {
     let d = lower(c);
-    proceed(laid, work, heights, u, o, a, k, d);
-    units::push(work, heights, u, Frame::Job(b, 0, 0));
+    proceed(laid, work, cells, u, o, a, k, d);
+    units::push(work, cells, u, Frame::Job(b, 0, 0));
 }
 
 // The term at offset b is put on unit v's stack, over an EXIT for the job at index i of unit u's stack.
 fn give(
     work: &mut [u8],
-    busy: &mut [u8; 8],
-    heights: &mut [u16; 8],
+    cells: &mut [u16; 8],
     v: usize,
     u: u8,
     i: u16,
     b: u16,
 )
-    requires { ⌜ U.Area (now work) (now busy) (now heights) × (v < 8) × (u < 8) × (b < 1024) × (getD (now heights) v 0 + 2 ≤ height) ⌝ }
-    ensures { λ _. ⌜ U.Change v (O.given u i b) (now (work .entry)) (now (busy .entry)) (now (heights .entry)) (now (work .exit)) (now (busy .exit)) (now (heights .exit)) ⌝ }
+    requires { ⌜ U.Area (now work) (now cells) × (v < 8) × (u < 8) × (b < 1024) × (U.height-in (now cells) v + 2 ≤ height) ⌝ }
+    ensures { λ _. ⌜ U.Change v (O.given u i b) (now (work .entry)) (now (cells .entry)) (now (work .exit)) (now (cells .exit)) ⌝ }
 {
-    units::push(work, heights, v, Frame::Exit(u, i));
-    units::push(work, heights, v, Frame::Job(b, 0, 0));
-    units::wake_unit(busy, heights, v);
+    units::push(work, cells, v, Frame::Exit(u, i));
+    units::push(work, cells, v, Frame::Job(b, 0, 0));
+    units::wake_unit(cells, v);
 }
 
 // FORK with an idle unit v: it gets the argument at offset b.
 fn grant(
     laid: &[u8; 4096],
     work: &mut [u8],
-    busy: &mut [u8; 8],
-    heights: &mut [u16; 8],
+    cells: &mut [u16; 8],
     u: usize,
     o: u8,
     a: u16,
@@ -240,12 +237,12 @@ fn grant(
     b: u16,
     v: usize,
 )
-    requires { ⌜ O.Grantable (now laid) o u a k c b v (now work) (now busy) (now heights) ⌝ }
-    ensures { λ _. ⌜ O.Granted (now (laid .entry)) o u a k c b v (now (work .entry)) (now (busy .entry)) (now (heights .entry)) (now (work .exit)) (now (busy .exit)) (now (heights .exit)) ⌝ }
+    requires { ⌜ O.Grantable (now laid) o u a k c b v (now work) (now cells) ⌝ }
+    ensures { λ _. ⌜ O.Granted (now (laid .entry)) o u a k c b v (now (work .entry)) (now (cells .entry)) (now (work .exit)) (now (cells .exit)) ⌝ }
 {
-    let i = heights[u] - 1;
-    proceed(laid, work, heights, u, o, a, k, c);
-    give(work, busy, heights, v, u as u8, i, b);
+    let i = units::top_index(cells, u);
+    proceed(laid, work, cells, u, o, a, k, c);
+    give(work, cells, v, u as u8, i, b);
 }
 
 // FORK of argument i, by unit u of n: the lowest-numbered idle unit gets it, or it is kept; whether it was granted.
@@ -255,8 +252,7 @@ pub fn fork(
     len: usize,
     arities: &[u8; 256],
     work: &mut [u8],
-    busy: &mut [u8; 8],
-    heights: &mut [u16; 8],
+    cells: &mut [u16; 8],
     n: usize,
     u: usize,
     o: u8,
@@ -265,17 +261,17 @@ pub fn fork(
     c: u8,
     i: u8,
 ) -> bool
-    requires { ⌜ O.Forkable (now arities) (now laid) (now symbols) len n u o a k c i (now work) (now busy) (now heights) ⌝ }
-    ensures { λ r. ⌜ O.Forked (now (arities .entry)) (now (laid .entry)) (take len (now (symbols .entry))) n u o a k c i (now (work .entry)) (now (busy .entry)) (now (heights .entry)) (now (work .exit)) (now (busy .exit)) (now (heights .exit)) r ⌝ }
+    requires { ⌜ O.Forkable (now arities) (now laid) (now symbols) len n u o a k c i (now work) (now cells) ⌝ }
+    ensures { λ r. ⌜ O.Forked (now (arities .entry)) (now (laid .entry)) (take len (now (symbols .entry))) n u o a k c i (now (work .entry)) (now (cells .entry)) (now (work .exit)) (now (cells .exit)) r ⌝ }
 {
     let b = argument(symbols, len, arities, a, i);
-    match units::lowest_idle(busy, n) {
+    match units::lowest_idle(cells, n) {
         Idle::Unit(v) => {
-            grant(laid, work, busy, heights, u, o, a, k, c, b, v);
+            grant(laid, work, cells, u, o, a, k, c, b, v);
             true
         }
         Idle::None => {
-            keep(laid, work, heights, u, o, a, k, c, b);
+            keep(laid, work, cells, u, o, a, k, c, b);
             false
         }
     }

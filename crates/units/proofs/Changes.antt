@@ -2,125 +2,138 @@
 use mathlib.Core.Path.{_≡_, refl, sym, ap, ap₂, subst, _∙_}
 use mathlib.Core.Bool.{Bool, true, false}
 use mathlib.Core.List.{List, _∷_}
-use Prim.Native.Nat.{ℕ, _+_, _*_, _≤_, _<_}
+use Prim.Native.Nat.{ℕ, _+_, _*_, _-_, _%_, _≤_, _<_}
 use native.Mathlib.Omega.{arith}
 use native.Mathlib.Decide.{ℕ-discrete}
-use lib.Dec.{eqb}
+use lib.Dec.{ltb}
 use lib.ListN.{length, getD, set, drop, length-set}
 use lib.Seq.{getD-set-same, getD-set-other, set-getD}
+use borrow.Author.Tests.{lt-ltb, le-ltb, ltb-true, ltb-false}
 use Rattle.flat.specs.Machine.{Frame, FlatUnit, flat-unit, arrive, fall, zero-in}
 use Rattle.stack.specs.Frames.{height, frameAt, Fits, Kept, Put}
 use Rattle.stack.specs.Stacks.{stackOf, Lowered}
 use Rattle.stack.proofs.Frames.{kept-none}
 use Rattle.stack.proofs.Stacks.{top, push, kept-unit}
-use Rattle.units.specs.Units.{unit-of, Area, flag, woken, dropped, pushed, topped, Change, Turned, Restacked, Top}
+use Rattle.units.specs.Units.{cell, busy-in, height-in, unit-of, Area, woken, dropped, pushed, topped, Change, Turned, Top}
 use Rattle.units.proofs.Units.{unit-at, units-changed, change-then, change-as}
 
--- the heights with another for unit u
-set-most : (h : List ℕ) (u y : ℕ) → ((v : ℕ) → getD h v 0 ≤ height) → u < length h → y ≤ height → (v : ℕ) → getD (set h u y) v 0 ≤ height
-set-most h u y m l k v =
-    elim (ℕ-discrete v u) [
-      | yes d ↦ rw d (omega (arith, getD-set-same h u y 0 l))
-      | no d ↦ omega (arith, getD-set-other h u v y 0 d, m v)
-    ]
+-- a cell, read as it was made
+pub cell-busy : (t : Bool) (y : ℕ) → y < 2048 → ltb (cell t y) 2048 ≡ t
+cell-busy true y l = lt-ltb y 2048 l
+cell-busy false y l = le-ltb (y + 2048) 2048 (omega arith)
 
--- unit u is stored anew, and frames of its region are written; the others are as they were
-module _ (w b h w′ b′ h′ : List ℕ) (u x y : ℕ) (eb : b′ ≡ set b u x) (eh : h′ ≡ set h u y) where
-  pub store-same : u < length b → u < length h → unit-of w′ b′ h′ u ≡ flat-unit (eqb x 1) (stackOf w′ (u * height) y)
-  store-same lb lh = rw (eb, eh, getD-set-same b u x 0 lb, getD-set-same h u y 0 lh)
+pub cell-height : (t : Bool) (y : ℕ) → y < 2048 → cell t y % 2048 ≡ y
+cell-height true y l = omega arith
+cell-height false y l = omega arith
 
-  pub store-other : (k m : ℕ) → Kept w k m w′ → u * height ≤ k → m ≤ u * height + height → (v : ℕ) → (v ≡ u → ⊥) → getD h v 0 ≤ height →
-      unit-of w′ b′ h′ v ≡ unit-of w b h v
-  store-other k m q p r v n l = rw (eb, eh, getD-set-other b u v x 0 n, getD-set-other h u v y 0 n, kept-unit q u v (getD h v 0) p r n l)
+-- a cell that is one higher says the same of busy
+next-busy : (x : ℕ) → x % 2048 < height → ltb (x + 1) 2048 ≡ ltb x 2048
+next-busy x l = go (ltb x 2048) refl
+  where
+    go : (t : Bool) → ltb x 2048 ≡ t → ltb (x + 1) 2048 ≡ t
+    go true e = let k = ltb-true x 2048 e in lt-ltb (x + 1) 2048 (omega arith)
+    go false e = let k = ltb-false x 2048 e in le-ltb (x + 1) 2048 (omega arith)
 
-  pub stored : (g : FlatUnit → FlatUnit) → Area w b h → u < 8 → (k m : ℕ) → Kept w k m w′ → u * height ≤ k → m ≤ u * height + height → y ≤ height →
-      flat-unit (eqb x 1) (stackOf w′ (u * height) y) ≡ g (unit-of w b h u) → Change u g w b h w′ b′ h′
+-- unit u's cell is x, which says t and y, and frames of its region are written; the others are as they were
+module _ (w cs w′ cs′ : List ℕ) (u x : ℕ) (t : Bool) (y : ℕ) (ec : cs′ ≡ set cs u x) (et : ltb x 2048 ≡ t) (ey : x % 2048 ≡ y) where
+  at-u : u < length cs → getD cs′ u 0 ≡ x
+  at-u l = rw (ec, getD-set-same cs u x 0 l)
+
+  at-v : (v : ℕ) → (v ≡ u → ⊥) → getD cs′ v 0 ≡ getD cs v 0
+  at-v v n = rw (ec, getD-set-other cs u v x 0 n)
+
+  pub store-same : u < length cs → unit-of w′ cs′ u ≡ flat-unit t (stackOf w′ (u * height) y)
+  store-same l = rw (at-u l, et, ey)
+
+  pub store-other : (k m : ℕ) → Kept w k m w′ → u * height ≤ k → m ≤ u * height + height → (v : ℕ) → (v ≡ u → ⊥) → height-in cs v ≤ height →
+      unit-of w′ cs′ v ≡ unit-of w cs v
+  store-other k m q p r v n l = rw (at-v v n, kept-unit q u v (height-in cs v) p r n l)
+
+  set-most : ((v : ℕ) → height-in cs v ≤ height) → u < length cs → y ≤ height → (v : ℕ) → height-in cs′ v ≤ height
+  set-most m l ly v = elim (ℕ-discrete v u) [ yes d ↦ rw (d, at-u l, ey) ly | no d ↦ rw (at-v v d) (m v) ]
+
+  pub stored : (g : FlatUnit → FlatUnit) → Area w cs → u < 8 → (k m : ℕ) → Kept w k m w′ → u * height ≤ k → m ≤ u * height + height → y ≤ height →
+      flat-unit t (stackOf w′ (u * height) y) ≡ g (unit-of w cs u) → Change u g w cs w′ cs′
   stored g a l k m q p r ly e =
-      let lb : u < length b = omega (arith, a .flags) in
-      let lh : u < length h = omega (arith, a .stacks .heights) in
+      let lc : u < length cs = omega (arith, a .cells) in
       record {
         area = record {
-          stacks = record {
-            bytes = omega (arith, q .size, a .stacks .bytes);
-            heights = rw (eh, length-set) (a .stacks .heights);
-            most = rw eh (set-most h u y (a .stacks .most) lh ly);
-          };
-          flags = rw (eb, length-set) (a .flags);
+          bytes = omega (arith, q .size, a .bytes);
+          cells = rw (ec, length-set) (a .cells);
+          most = set-most (a .most) lc ly;
         };
-        units = units-changed w b h w′ b′ h′ u g (λ v n. store-other k m q p r v n (a .stacks .most v)) (store-same lb lh ∙ e);
+        units = units-changed w cs w′ cs′ u g (λ v n. store-other k m q p r v n (a .most v)) (store-same lc ∙ e);
       }
 
--- the stack alone, to height y: the byte of unit u is as it was
-restacked : (w h w′ h′ : List ℕ) (u y k m : ℕ) (g : List Frame → List Frame) → u < 8 → h′ ≡ set h u y → Kept w k m w′ → u * height ≤ k →
-    m ≤ u * height + height → y ≤ height → stackOf w′ (u * height) y ≡ g (stackOf w (u * height) (getD h u 0)) →
-    Restacked u (λ (x : FlatUnit). flat-unit (x .busy) (g (x .stack))) w h w′ h′
-restacked w h w′ h′ u y k m g l eh q p r ly e b a =
-    stored w b h w′ b h′ u (getD b u 0) y (sym (set-getD b u 0)) eh (λ (x : FlatUnit). flat-unit (x .busy) (g (x .stack))) a l k m q p r ly
-    (ap (flat-unit (eqb (getD b u 0) 1)) e)
+-- the stack alone, to height y: unit u is busy or idle as it was
+restacked : (w cs w′ cs′ : List ℕ) (u x y k m : ℕ) (g : List Frame → List Frame) → u < 8 → cs′ ≡ set cs u x → ltb x 2048 ≡ busy-in cs u → x % 2048 ≡ y →
+    Kept w k m w′ → u * height ≤ k → m ≤ u * height + height → y ≤ height → stackOf w′ (u * height) y ≡ g (stackOf w (u * height) (height-in cs u)) →
+    Area w cs → Change u (λ (x : FlatUnit). flat-unit (x .busy) (g (x .stack))) w cs w′ cs′
+restacked w cs w′ cs′ u x y k m g l ec et ey q p r ly e a =
+    stored w cs w′ cs′ u x (busy-in cs u) y ec et ey (λ (x : FlatUnit). flat-unit (x .busy) (g (x .stack))) a l k m q p r ly
+    (ap (flat-unit (busy-in cs u)) e)
 
--- the byte alone
-flag-is : (t : Bool) → eqb (flag t) 1 ≡ t
-flag-is true = refl
-flag-is false = refl
-
-pub turned : (b h b′ h′ : List ℕ) (u y : ℕ) (t s : Bool) → u < 8 → b′ ≡ set b u (flag s) → h′ ≡ set h u y → s ≡ t → y ≡ getD h u 0 →
-    Turned u (λ (x : FlatUnit). flat-unit t (x .stack)) b h b′ h′
-turned b h b′ h′ u y t s l eb eh es ey = record {
+-- the cell alone
+pub turned : (cs cs′ : List ℕ) (u y : ℕ) (t s : Bool) → u < 8 → y < 2048 → cs′ ≡ set cs u (cell s y) → s ≡ t → y ≡ height-in cs u →
+    Turned u (λ (x : FlatUnit). flat-unit t (x .stack)) cs cs′
+turned cs cs′ u y t s l ly ec es ey = record {
   change = λ w a.
-      stored w b h w b′ h′ u (flag s) y eb eh (λ (x : FlatUnit). flat-unit t (x .stack)) a l (u * height) (u * height) (kept-none w (u * height) (u * height))
-      (omega arith) (omega arith) (omega (arith, a .stacks .most u)) (rw (es, flag-is t, ey));
-  heights = rw (eh, ey) (set-getD h u 0);
+      stored w cs w cs′ u (cell s y) s y ec (cell-busy s y ly) (cell-height s y ly) (λ (x : FlatUnit). flat-unit t (x .stack)) a l (u * height) (u * height)
+      (kept-none w (u * height) (u * height)) (omega arith) (omega arith) (omega (arith, a .most u)) (rw (es, ey));
 }
 
 -- the top frame, and the stack below it, of height y
 under : (w : List ℕ) (base h y : ℕ) → h ≡ y + 1 → stackOf w base y ≡ drop 1 (stackOf w base h)
 under w base h y e = sym (ap (λ (fs : List Frame). drop 1 fs) (top w base h y (base + y) e refl))
 
-pub topmost : (w h : List ℕ) (u y k : ℕ) (f : Frame) → f ≡ frameAt w k → Fits f → getD h u 0 ≡ y + 1 → k ≡ u * height + y → Top u f w h
-topmost w h u y k f ef q e ek = record {
-  stack = λ b n l.
-      let s = ap (λ (x : FlatUnit). x .stack) (unit-at w b h n u l) in
-      s ∙ top w (u * height) (getD h u 0) y k e ek ∙ ap₂ (λ (g : Frame) (fs : List Frame). g ∷ fs) (sym ef) (under w (u * height) (getD h u 0) y e)
+pub topmost : (w cs : List ℕ) (u y k : ℕ) (f : Frame) → f ≡ frameAt w k → Fits f → height-in cs u ≡ y + 1 → k ≡ u * height + y → Top u f w cs
+topmost w cs u y k f ef q e ek = record {
+  stack = λ n l.
+      let s = ap (λ (x : FlatUnit). x .stack) (unit-at w cs n u l) in
+      s ∙ top w (u * height) (height-in cs u) y k e ek ∙ ap₂ (λ (g : Frame) (fs : List Frame). g ∷ fs) (sym ef) (under w (u * height) (height-in cs u) y e)
       ∙ ap (λ (fs : List Frame). f ∷ drop 1 fs) (sym s);
   fits = q;
 }
 
-pub drops : (w h h′ : List ℕ) (u y : ℕ) → u < 8 → getD h u 0 ≡ y + 1 → h′ ≡ set h u y → Restacked u dropped w h w h′
-drops w h h′ u y l e eh b a =
-    restacked w h w h′ u y (u * height) (u * height) (λ (fs : List Frame). drop 1 fs) l eh (kept-none w (u * height) (u * height)) (omega arith) (omega arith)
-    (omega (arith, a .stacks .most u)) (under w (u * height) (getD h u 0) y e) b a
+pub drops : (cs cs′ : List ℕ) (u z : ℕ) → u < 8 → 0 < height-in cs u → z + 1 ≡ getD cs u 0 → cs′ ≡ set cs u z → (w : List ℕ) → Area w cs →
+    Change u dropped w cs w cs′
+drops cs cs′ u z l p e ec w a =
+    restacked w cs w cs′ u z (z % 2048) (u * height) (u * height) (λ (fs : List Frame). drop 1 fs) l ec
+    (sym (next-busy z (omega (arith, a .most u))) ∙ ap (λ (x : ℕ). ltb x 2048) e) refl (kept-none w (u * height) (u * height)) (omega arith) (omega arith)
+    (omega (arith, a .most u)) (under w (u * height) (height-in cs u) (z % 2048) (omega arith)) a
 
-pub tops : {w w′ : List ℕ} {k : ℕ} {f : Frame} → Put w k f w′ → (h : List ℕ) (u y : ℕ) → u < 8 → getD h u 0 ≡ y + 1 → k ≡ u * height + y →
-    Restacked u (topped f) w h w′ h
-tops {w} {w′} {k} {f} p h u y l e ek b a =
-    let m = a .stacks .most u in
-    restacked w h w′ h u (getD h u 0) k (k + 1) (λ (fs : List Frame). f ∷ drop 1 fs) l (sym (set-getD h u 0)) (p .kept) (omega arith) (omega arith) m
-    (push p (u * height) y (getD h u 0) ek e ∙ ap (λ (fs : List Frame). f ∷ fs) (under w (u * height) (getD h u 0) y e)) b a
+pub tops : {w w′ : List ℕ} {k : ℕ} {f : Frame} → Put w k f w′ → (cs : List ℕ) (u y : ℕ) → u < 8 → height-in cs u ≡ y + 1 → k ≡ u * height + y → Area w cs →
+    Change u (topped f) w cs w′ cs
+tops {w} {w′} {k} {f} p cs u y l e ek a =
+    let m = a .most u in
+    restacked w cs w′ cs u (getD cs u 0) (height-in cs u) k (k + 1) (λ (fs : List Frame). f ∷ drop 1 fs) l (sym (set-getD cs u 0)) refl refl (p .kept)
+    (omega arith) (omega arith) m
+    (push p (u * height) y (height-in cs u) ek e ∙ ap (λ (fs : List Frame). f ∷ fs) (under w (u * height) (height-in cs u) y e)) a
 
-pub pushes : {w w′ : List ℕ} {k : ℕ} {f : Frame} → Put w k f w′ → (h h′ : List ℕ) (u y : ℕ) → u < 8 → getD h u 0 < height → k ≡ u * height + getD h u 0 →
-    y ≡ getD h u 0 + 1 → h′ ≡ set h u y → Restacked u (pushed f) w h w′ h′
-pushes {w} {w′} {k} {f} p h h′ u y l m ek ey eh =
-    restacked w h w′ h′ u y k (k + 1) (λ (fs : List Frame). f ∷ fs) l eh (p .kept) (omega arith) (omega arith) (omega arith)
-    (push p (u * height) (getD h u 0) y ek ey)
+pub pushes : {w w′ : List ℕ} {k : ℕ} {f : Frame} → Put w k f w′ → (cs cs′ : List ℕ) (u : ℕ) → u < 8 → height-in cs u < height →
+    k ≡ u * height + height-in cs u → cs′ ≡ set cs u (getD cs u 0 + 1) → Area w cs → Change u (pushed f) w cs w′ cs′
+pushes {w} {w′} {k} {f} p cs cs′ u l m ek ec =
+    restacked w cs w′ cs′ u (getD cs u 0 + 1) (height-in cs u + 1) k (k + 1) (λ (fs : List Frame). f ∷ fs) l ec (next-busy (getD cs u 0) m) (omega arith)
+    (p .kept) (omega arith) (omega arith) (omega arith) (push p (u * height) (height-in cs u) (height-in cs u + 1) ek refl)
 
 -- EXIT arrives: the count is now 0, or it isn't
-module _ (w w₁ b h : List ℕ) (v i base : ℕ) (a : Area w b h) (l : v < 8) (li : i < getD h v 0) (eb : base ≡ v * height) (q : Lowered w base i w₁) where
+module _ (w w₁ cs : List ℕ) (v i base : ℕ) (a : Area w cs) (l : v < 8) (li : i < height-in cs v) (eb : base ≡ v * height) (q : Lowered w base i w₁) where
   low : Lowered w (v * height) i w₁
   low = subst (λ (k : ℕ). Lowered w k i w₁) eb q
 
-  fallen : Change v (λ (x : FlatUnit). flat-unit (x .busy) (fall i (x .stack))) w b h w₁ b h
+  fallen : Change v (λ (x : FlatUnit). flat-unit (x .busy) (fall i (x .stack))) w cs w₁ cs
   fallen =
-      restacked w h w₁ h v (getD h v 0) (v * height + i) (v * height + i + 1) (fall i) l (sym (set-getD h v 0)) (low .kept) (omega arith)
-      (omega (arith, a .stacks .most v)) (a .stacks .most v) (low .stack (getD h v 0) li) b a
+      restacked w cs w₁ cs v (getD cs v 0) (height-in cs v) (v * height + i) (v * height + i + 1) (fall i) l (sym (set-getD cs v 0)) refl refl (low .kept)
+      (omega arith) (omega (arith, a .most v)) (a .most v) (low .stack (height-in cs v) li) a
 
-  module _ (t : Bool) (z : zero-in i (stackOf w₁ base (getD h v 0)) ≡ t) where
-    zero-is : zero-in i (fall i (unit-of w b h v .stack)) ≡ t
-    zero-is = ap (zero-in i) (sym (low .stack (getD h v 0) li) ∙ ap (λ (k : ℕ). stackOf w₁ k (getD h v 0)) (sym eb)) ∙ z
+  module _ (t : Bool) (z : zero-in i (stackOf w₁ base (height-in cs v)) ≡ t) where
+    zero-is : zero-in i (fall i (unit-of w cs v .stack)) ≡ t
+    zero-is = ap (zero-in i) (sym (low .stack (height-in cs v) li) ∙ ap (λ (k : ℕ). stackOf w₁ k (height-in cs v)) (sym eb)) ∙ z
 
-  pub arrive-last : zero-in i (stackOf w₁ base (getD h v 0)) ≡ true → (b′ h′ : List ℕ) → Turned v woken b h b′ h′ → Change v (arrive i) w b h w₁ b′ h′
+  pub arrive-last : zero-in i (stackOf w₁ base (height-in cs v)) ≡ true → (cs′ : List ℕ) → Turned v woken cs cs′ → Change v (arrive i) w cs w₁ cs′
   unfolding arrive
-  arrive-last z b′ h′ t = change-as (change-then fallen (t .change w₁ (fallen .area))) (arrive i) (rw (zero-is true z, arrive))
+  arrive-last z cs′ t = change-as (change-then fallen (t .change w₁ (fallen .area))) (arrive i) (rw (zero-is true z, arrive))
 
-  pub arrive-more : zero-in i (stackOf w₁ base (getD h v 0)) ≡ false → Change v (arrive i) w b h w₁ b h
+  pub arrive-more : zero-in i (stackOf w₁ base (height-in cs v)) ≡ false → Change v (arrive i) w cs w₁ cs
   unfolding arrive
   arrive-more z = change-as fallen (arrive i) (rw (zero-is false z, arrive))

@@ -1,9 +1,9 @@
-// The states and the stacks of all units (document 01, 'Orders of a unit'), as the engine keeps them: a lent work area with the stacks, a byte for
-// each unit that is 1 if it is busy, and the stacks' heights.
+// The states and the stacks of all units (document 01, 'Orders of a unit'), as the engine keeps them: a lent work area with the stacks, and a cell for
+// each unit, which is the height of its stack, and 2,048 more if the unit is idle.
 ghost use mathlib.Core.Path.{_≡_};
 ghost use mathlib.Core.Bool.{true, false};
 ghost use mathlib.Core.List.{List};
-ghost use Prim.Native.Nat.{ℕ, _*_, _<_, _≤_};
+ghost use Prim.Native.Nat.{ℕ, _+_, _-_, _*_, _%_, _<_, _≤_};
 ghost use lib.ListN.{length, getD, set};
 ghost use Rattle.flat.specs.Machine.{arrive};
 ghost use Rattle.stack.specs.Frames.{height, flat, Fits};
@@ -48,52 +48,53 @@ fn wide(x: u16) -> usize
     x as usize
 }
 
-fn flag_of(busy: bool) -> u8
-    ensures { λ r. ⌜ r ≡ U.flag busy ⌝ }
+fn cell_of(busy: bool, height: usize) -> u16
+    requires { ⌜ height < 2048 ⌝ }
+    ensures { λ r. ⌜ r ≡ U.cell busy height ⌝ }
 {
     if busy {
-        return 1;
+        return height as u16;
     }
-    0
+    (height + 2048) as u16
 }
 
-pub fn load(busy: &[u8; 8], heights: &[u16; 8], u: usize) -> Unit
+pub fn load(cells: &[u16; 8], u: usize) -> Unit
     requires { ⌜ u < 8 ⌝ }
-    ensures { λ r. ⌜ U.Loaded (now (busy .entry)) (now (heights .entry)) u r ⌝ }
+    ensures { λ r. ⌜ U.Loaded (now (cells .entry)) u r ⌝ }
 {
+    let x = cells[u];
     Unit {
-        busy: busy[u] == 1,
-        height: wide(heights[u]),
+        busy: x < 2048,
+        height: wide(x % 2048),
     }
 }
 
-pub fn store(busy: &mut [u8; 8], heights: &mut [u16; 8], u: usize, x: Unit)
-    requires { ⌜ (u < 8) × (x .height < 65536) ⌝ }
-    ensures { λ _. ⌜ (now (busy .exit) ≡ set (now (busy .entry)) u (U.flag (x .busy))) × (now (heights .exit) ≡ set (now (heights .entry)) u (x .height)) ⌝ }
+pub fn store(cells: &mut [u16; 8], u: usize, x: Unit)
+    requires { ⌜ (u < 8) × (x .height < 2048) ⌝ }
+    ensures { λ _. ⌜ now (cells .exit) ≡ set (now (cells .entry)) u (U.cell (x .busy) (x .height)) ⌝ }
 {
-    busy[u] = flag_of(x.busy);
-    heights[u] = x.height as u16;
+    cells[u] = cell_of(x.busy, x.height);
 }
 
-pub fn wake_unit(busy: &mut [u8; 8], heights: &mut [u16; 8], u: usize)
+pub fn wake_unit(cells: &mut [u16; 8], u: usize)
     requires { ⌜ u < 8 ⌝ }
-    ensures { λ _. ⌜ U.Turned u U.woken (now (busy .entry)) (now (heights .entry)) (now (busy .exit)) (now (heights .exit)) ⌝ }
+    ensures { λ _. ⌜ U.Turned u U.woken (now (cells .entry)) (now (cells .exit)) ⌝ }
 {
-    store(busy, heights, u, load(busy, heights, u).wake());
+    store(cells, u, load(cells, u).wake());
 }
 
-pub fn wait_unit(busy: &mut [u8; 8], heights: &mut [u16; 8], u: usize)
+pub fn wait_unit(cells: &mut [u16; 8], u: usize)
     requires { ⌜ u < 8 ⌝ }
-    ensures { λ _. ⌜ U.Turned u U.idled (now (busy .entry)) (now (heights .entry)) (now (busy .exit)) (now (heights .exit)) ⌝ }
+    ensures { λ _. ⌜ U.Turned u U.idled (now (cells .entry)) (now (cells .exit)) ⌝ }
 {
-    store(busy, heights, u, load(busy, heights, u).wait());
+    store(cells, u, load(cells, u).wait());
 }
 
-pub fn sleep_unit(busy: &mut [u8; 8], heights: &mut [u16; 8], u: usize)
+pub fn sleep_unit(cells: &mut [u16; 8], u: usize)
     requires { ⌜ u < 8 ⌝ }
-    ensures { λ _. ⌜ U.Turned u U.idled (now (busy .entry)) (now (heights .entry)) (now (busy .exit)) (now (heights .exit)) ⌝ }
+    ensures { λ _. ⌜ U.Turned u U.idled (now (cells .entry)) (now (cells .exit)) ⌝ }
 {
-    store(busy, heights, u, load(busy, heights, u).sleep());
+    store(cells, u, load(cells, u).sleep());
 }
 
 // The lowest-numbered idle unit from 1 up, of n units.
@@ -102,13 +103,13 @@ pub enum Idle {
     None,
 }
 
-pub fn lowest_idle(busy: &[u8; 8], n: usize) -> Idle
+pub fn lowest_idle(cells: &[u16; 8], n: usize) -> Idle
     requires { ⌜ n ≤ 8 ⌝ }
-    ensures { λ r. ⌜ U.Lowest (now (busy .entry)) n r ⌝ }
+    ensures { λ r. ⌜ U.Lowest (now (cells .entry)) n r ⌝ }
 {
     let mut u = 1;
     while u < n {
-        if busy[u] != 1 {
+        if 2048 <= cells[u] {
             return Idle::Unit(u);
         }
         u += 1;
@@ -116,72 +117,94 @@ pub fn lowest_idle(busy: &[u8; 8], n: usize) -> Idle
     Idle::None
 }
 
+// The height of unit u's stack.
+fn height_of(cells: &[u16; 8], u: usize) -> usize
+    requires { ⌜ u < 8 ⌝ }
+    ensures { λ r. ⌜ r ≡ U.height-in (now (cells .entry)) u ⌝ }
+{
+    wide(cells[u] % 2048)
+}
+
+// The stack index of unit u's top frame.
+pub fn top_index(cells: &[u16; 8], u: usize) -> u16
+    requires { ⌜ (u < 8) × (0 < U.height-in (now cells) u) ⌝ }
+    ensures { λ r. ⌜ r ≡ U.height-in (now (cells .entry)) u - 1 ⌝ }
+{
+    cells[u] % 2048 - 1
+}
+
 // The first frame of unit u's stack.
-pub fn top(work: &[u8], heights: &[u16; 8], u: usize) -> Frame
-    requires { ⌜ U.Stacks (now work) (now heights) × (u < 8) × (0 < getD (now heights) u 0) ⌝ }
-    ensures { λ r. ⌜ U.Top u (flat r) (now (work .entry)) (now (heights .entry)) ⌝ }
+pub fn top(work: &[u8], cells: &[u16; 8], u: usize) -> Frame
+    requires { ⌜ U.Area (now work) (now cells) × (u < 8) × (0 < U.height-in (now cells) u) ⌝ }
+    ensures { λ r. ⌜ U.Top u (flat r) (now (work .entry)) (now (cells .entry)) ⌝ }
 {
-    stack::frame_at(work, stack::base_of(u) + (wide(heights[u]) - 1))
+    stack::frame_at(work, stack::base_of(u) + (height_of(cells, u) - 1))
 }
 
-pub fn set_top(work: &mut [u8], heights: &[u16; 8], u: usize, f: Frame)
-    requires { ⌜ U.Stacks (now work) (now heights) × (u < 8) × (0 < getD (now heights) u 0) × Fits (flat f) ⌝ }
-    ensures { λ _. ⌜ U.Restacked u (U.topped (flat f)) (now (work .entry)) (now (heights .entry)) (now (work .exit)) (now (heights .entry)) ⌝ }
+pub fn set_top(work: &mut [u8], cells: &[u16; 8], u: usize, f: Frame)
+    requires { ⌜ U.Area (now work) (now cells) × (u < 8) × (0 < U.height-in (now cells) u) × Fits (flat f) ⌝ }
+    ensures { λ _. ⌜ U.Change u (U.topped (flat f)) (now (work .entry)) (now (cells .entry)) (now (work .exit)) (now (cells .entry)) ⌝ }
 {
-    stack::put_frame(work, stack::base_of(u) + (wide(heights[u]) - 1), f);
+    stack::put_frame(work, stack::base_of(u) + (height_of(cells, u) - 1), f);
 }
 
-pub fn drop_top(heights: &mut [u16; 8], u: usize)
-    requires { ⌜ (u < 8) × (0 < getD (now heights) u 0) ⌝ }
-    ensures { λ _. ⌜ ((w : List ℕ) → U.Restacked u U.dropped w (now (heights .entry)) w (now (heights .exit))) ⌝ }
+pub fn drop_top(cells: &mut [u16; 8], u: usize)
+    requires { ⌜ (u < 8) × (0 < U.height-in (now cells) u) ⌝ }
+    ensures { λ _. ⌜ U.Turned u U.dropped (now (cells .entry)) (now (cells .exit)) ⌝ }
 {
-    heights[u] = heights[u] - 1;
+    cells[u] = cells[u] - 1;
 }
 
-pub fn push(work: &mut [u8], heights: &mut [u16; 8], u: usize, f: Frame)
-    requires { ⌜ U.Stacks (now work) (now heights) × (u < 8) × (getD (now heights) u 0 < height) × Fits (flat f) ⌝ }
-    ensures { λ _. ⌜ U.Restacked u (U.pushed (flat f)) (now (work .entry)) (now (heights .entry)) (now (work .exit)) (now (heights .exit)) ⌝ }
+// A cell whose height is one more.
+fn higher(x: u16) -> u16
+    requires { ⌜ x % 2048 < 2047 ⌝ }
+    ensures { λ r. ⌜ r ≡ x + 1 ⌝ }
 {
-    let h = heights[u];
-    stack::put_frame(work, stack::base_of(u) + wide(h), f);
-    heights[u] = h + 1;
+    x + 1
+}
+
+pub fn push(work: &mut [u8], cells: &mut [u16; 8], u: usize, f: Frame)
+    requires { ⌜ U.Area (now work) (now cells) × (u < 8) × (U.height-in (now cells) u < height) × Fits (flat f) ⌝ }
+    ensures { λ _. ⌜ U.Change u (U.pushed (flat f)) (now (work .entry)) (now (cells .entry)) (now (work .exit)) (now (cells .exit)) ⌝ }
+{
+    stack::put_frame(work, stack::base_of(u) + height_of(cells, u), f);
+    cells[u] = higher(cells[u]);
 }
 
 // EXIT at unit v, which holds its JOIN: the count of the job at stack index i falls by one; if it is now 0, the unit is busy.
-pub fn arrive(work: &mut [u8], busy: &mut [u8; 8], heights: &mut [u16; 8], v: usize, i: usize)
-    requires { ⌜ U.Area (now work) (now busy) (now heights) × (v < 8) × (i < getD (now heights) v 0) ⌝ }
-    ensures { λ _. ⌜ U.Change v (arrive i) (now (work .entry)) (now (busy .entry)) (now (heights .entry)) (now (work .exit)) (now (busy .exit)) (now (heights .exit)) ⌝ }
+pub fn arrive(work: &mut [u8], cells: &mut [u16; 8], v: usize, i: usize)
+    requires { ⌜ U.Area (now work) (now cells) × (v < 8) × (i < U.height-in (now cells) v) ⌝ }
+    ensures { λ _. ⌜ U.Change v (arrive i) (now (work .entry)) (now (cells .entry)) (now (work .exit)) (now (cells .exit)) ⌝ }
 {
     let base = stack::base_of(v);
     stack::lower_at(work, base, i);
     if stack::is_zero_at(work, base, i) {
-        wake_unit(busy, heights, v);
+        wake_unit(cells, v);
     }
 }
 
 // The symbols from offset a to offset e give way to k others: the offsets of the jobs of n units go along.
-pub fn shift_units(work: &mut [u8], heights: &[u16; 8], n: usize, a: usize, e: usize, k: usize)
-    requires { ⌜ U.Stacks (now work) (now heights) × (n ≤ 8) × U.Room (now work) (now heights) n a e k ⌝ }
-    ensures { λ _. ⌜ U.Moved (now (work .entry)) (now (heights .entry)) n a e k (now (work .exit)) ⌝ }
+pub fn shift_units(work: &mut [u8], cells: &[u16; 8], n: usize, a: usize, e: usize, k: usize)
+    requires { ⌜ U.Area (now work) (now cells) × (n ≤ 8) × U.Room (now work) (now cells) n a e k ⌝ }
+    ensures { λ _. ⌜ U.Moved (now (work .entry)) (now (cells .entry)) n a e k (now (work .exit)) ⌝ }
 {
     let mut u = 0;
     while u < n {
-        stack::shift_stack(work, stack::base_of(u), wide(heights[u]), a, e, k);
+        stack::shift_stack(work, stack::base_of(u), height_of(cells, u), a, e, k);
         u += 1;
     }
 }
 
 // All units idle with SLEEP.
-fn sleep_all(work: &mut [u8], busy: &mut [u8; 8], heights: &mut [u16; 8])
-    requires { ⌜ (3 * (8 * height) ≤ length (now work)) × (length (now busy) ≡ 8) × (length (now heights) ≡ 8) ⌝ }
-    ensures { λ _. ⌜ U.Quiet 8 (now (work .exit)) (now (busy .exit)) (now (heights .exit)) ⌝ }
+fn sleep_all(work: &mut [u8], cells: &mut [u16; 8])
+    requires { ⌜ (3 * (8 * height) ≤ length (now work)) × (length (now cells) ≡ 8) ⌝ }
+    ensures { λ _. ⌜ U.Quiet 8 (now (work .exit)) (now (cells .exit)) ⌝ }
 {
     let mut u = 0;
     while u < 8 {
         stack::put_frame(work, stack::base_of(u), Frame::Sleep);
         store(
-            busy,
-            heights,
+            cells,
             u,
             Unit {
                 busy: false,
@@ -193,12 +216,12 @@ fn sleep_all(work: &mut [u8], busy: &mut [u8; 8], heights: &mut [u16; 8])
 }
 
 // Unit 0 busy with VISIT(root) over BINGO, the others idle with SLEEP.
-pub fn start(work: &mut [u8], busy: &mut [u8; 8], heights: &mut [u16; 8])
-    requires { ⌜ (3 * (8 * height) ≤ length (now work)) × (length (now busy) ≡ 8) × (length (now heights) ≡ 8) ⌝ }
-    ensures { λ _. ⌜ U.Started (now (work .exit)) (now (busy .exit)) (now (heights .exit)) ⌝ }
+pub fn start(work: &mut [u8], cells: &mut [u16; 8])
+    requires { ⌜ (3 * (8 * height) ≤ length (now work)) × (length (now cells) ≡ 8) ⌝ }
+    ensures { λ _. ⌜ U.Started (now (work .exit)) (now (cells .exit)) ⌝ }
 {
-    sleep_all(work, busy, heights);
-    set_top(work, heights, 0, Frame::Bingo);
-    push(work, heights, 0, Frame::Job(0, 0, 0));
-    wake_unit(busy, heights, 0);
+    sleep_all(work, cells);
+    set_top(work, cells, 0, Frame::Bingo);
+    push(work, cells, 0, Frame::Job(0, 0, 0));
+    wake_unit(cells, 0);
 }

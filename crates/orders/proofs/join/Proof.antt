@@ -1,6 +1,6 @@
 -- `orders::join` meets its contract: at count 0 the job goes on, otherwise the unit is idle. Assumes nothing.
 use borrow.Author.Needs.{needs}
-use Rattle.orders.proofs.Changes.{ready-area, join-passes, join-waits}
+use Rattle.orders.proofs.Changes.{join-passes, join-waits}
 use Rattle.orders.proofs.join.Statement.{statement}
 use Rattle.orders.proofs.join.Tie as tie
 
@@ -9,13 +9,13 @@ returns c =
     let p = c .before .before in
     let n = p .before .before .before in
     let s = n .before .before .before in
-    join-passes (ready-area (s .pre .0) (s .pre .1)) (n .before .if1 .taken) (n .next-count .ensures) (p .proceed .ensures)
+    join-passes (n .before .if1 .taken) (n .next-count .ensures) (p .proceed .ensures)
 
 returns-2 : tie.Need-returns-2
 returns-2 c =
-    let i = c .before .before .before in
+    let i = c .before .before in
     let s = i .before .before in
-    join-waits (ready-area (s .pre .0) (s .pre .1)) _ (i .if1 .left) (c .wait-unit .ensures)
+    join-waits (s .pre .0 .area) _ (i .if1 .left) (c .wait-unit .ensures)
 
 pub join-spec : {M : Type 1} → statement M
 join-spec = tie.close (tie.spec (λ c κs. search needs) (λ c κs. search needs) (λ c κs. search needs) (λ c. search needs) returns returns-2)

@@ -9,9 +9,9 @@ push-requires c κs =
     let p = c .before .before .before .before in
     let l = p .before .before .before in
     let s = l .before .before in (
-      p .proceed .ensures .stacks,
+      p .proceed .ensures .area,
       s .pre .0 .unit,
-      keep-room (s .args .o) (s .args .a) (s .args .k) (s .args .c) (l .lower .result) (s .args .b) (s .pre .0 .stacks) (l .lower .ensures .0) (p .proceed .ensures)
+      keep-room (s .args .o) (s .args .a) (s .args .k) (s .args .c) (l .lower .result) (s .args .b) (l .lower .ensures .0) (p .proceed .ensures)
           (s .pre .2),
       search needs,
     )
@@ -22,7 +22,7 @@ returns c =
     let p = q .before .before .before .before .before in
     let l = p .before .before .before in
     let s = l .before .before in
-    kept (s .args .o) (s .args .a) (s .args .k) (s .args .c) (l .lower .result) (s .args .b) (s .pre .0 .stacks) (l .lower .ensures .0) (p .proceed .ensures)
+    kept (s .args .o) (s .args .a) (s .args .k) (s .args .c) (l .lower .result) (s .args .b) (l .lower .ensures .0) (p .proceed .ensures)
     (q .push .ensures)
 
 pub keep-spec : {M : Type 1} → statement M

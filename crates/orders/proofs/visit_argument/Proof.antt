@@ -11,12 +11,12 @@ enter-requires c κs =
     let b = o .before in
     let s = b .before .before in
     let r = s .pre .room in (
-      p .proceed .ensures .stacks,
+      p .proceed .ensures .area,
       s .pre .ready .unit,
       b .argument .ensures .1,
       record { book = r .book; row = argument-row (r .holds) (s .pre .inside) (b .argument .ensures .0) (o .operator-at .ensures) },
       argument-room (r .holds) (s .pre .inside) (b .argument .ensures .0) (o .operator-at .ensures)
-          (s .args .k) (s .args .c) (s .pre .ready .stacks) (p .proceed .ensures) (r .room),
+          (s .args .k) (s .args .c) (p .proceed .ensures) (r .room),
     )
 
 returns : tie.Need-returns

@@ -10,24 +10,24 @@ use Rattle.units.proofs.sleep_all.Statement.{statement}
 use Rattle.units.proofs.sleep_all.Tie as tie
 
 abbrev Inv-loop : tie.InvT-loop
-Inv-loop work₀ busy₀ heights₀ u₀ work busy heights u = (u ≤ 8) × (length work ≡ length work₀) × Quiet u work busy heights
+Inv-loop work₀ cells₀ u₀ work cells u = (u ≤ 8) × (length work ≡ length work₀) × Quiet u work cells
 
 abbrev μ-loop : tie.MeasureT-loop
-μ-loop work₀ busy₀ heights₀ u₀ work busy heights u = 8 - u
+μ-loop work₀ cells₀ u₀ work cells u = 8 - u
 
 loop-holds : tie.Need-loop-holds Inv-loop μ-loop
 loop-holds c =
     let s = c .before in
-    (omega arith, refl, quiet-none _ _ _ (s .pre .0) (s .pre .1) (s .pre .2))
+    (omega arith, refl, quiet-none _ _ (s .pre .0) (s .pre .1))
 
 loop-again : tie.Need-loop-again Inv-loop μ-loop
 loop-again c =
-    let p = c .before .before .before .before .before in
+    let p = c .before .before .before .before in
     let l = p .before .before .before .before in
     let q = l .loop .inv in
     let f = p .put-frame .ensures in
     let s = c .store .ensures in
-    (omega arith, f .kept .size ∙ q .1, quiet-more _ _ _ _ _ _ _ _ (q .2) (omega arith) (p .before .base-of .ensures) f (s .0) (s .1))
+    (omega arith, f .kept .size ∙ q .1, quiet-more _ _ _ _ _ _ (q .2) (omega arith) (p .before .base-of .ensures) f s)
 
 same-length : tie.Need-same-length Inv-loop μ-loop
 same-length c = c .before .loop .inv .1
@@ -36,7 +36,7 @@ returns : tie.Need-returns Inv-loop μ-loop
 returns c =
     let l = c .before in
     let e : l .loop .u ≡ 8 = omega arith in
-    subst (λ (u : ℕ). Quiet u (l .loop .work) (l .loop .busy) (l .loop .heights)) e (l .loop .inv .2)
+    subst (λ (u : ℕ). Quiet u (l .loop .work) (l .loop .cells)) e (l .loop .inv .2)
 
 pub sleep-all-spec : {M : Type 1} → statement M
 sleep-all-spec =

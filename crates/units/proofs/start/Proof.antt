@@ -8,20 +8,19 @@ use Rattle.units.proofs.start.Tie as tie
 set-top-requires : tie.Need-set-top-requires
 set-top-requires c κs =
     let q = c .before .before .before .before .sleep-all .ensures in
-    (quiet-area _ _ _ q .stacks, omega arith, omega (arith, q .units 0 (omega arith) .0), tt)
+    (quiet-area _ _ q, omega arith, omega (arith, q .units 0 (omega arith) .0), tt)
 
 push-requires : tie.Need-push-requires
 push-requires c κs =
-    let t = c .before .before .before .before in
-    let q = t .before .before .before .before .before .sleep-all .ensures in
-    (t .set-top .ensures _ (quiet-area _ _ _ q) .area .stacks, omega arith, omega (arith, q .units 0 (omega arith) .0), search needs)
+    let q = c .before .before .before .before .before .before .before .before .before .sleep-all .ensures in
+    (c .before .before .before .before .set-top .ensures .area, omega arith, omega (arith, q .units 0 (omega arith) .0), search needs)
 
 returns : tie.Need-returns
 returns c =
-    let p = c .before .before .before .before .before in
+    let p = c .before .before .before .before in
     let t = p .before .before .before .before .before in
     let q = t .before .before .before .before .before .sleep-all .ensures in
-    started _ _ _ _ _ _ _ _ q (t .set-top .ensures) (p .push .ensures) (c .wake-unit .ensures)
+    started _ _ _ _ _ _ q (t .set-top .ensures) (p .push .ensures) (c .wake-unit .ensures)
 
 pub start-spec : {M : Type 1} → statement M
 start-spec = tie.close (tie.spec (λ c κs. search needs) set-top-requires push-requires (λ c κs. search needs) (λ c. search needs) returns)
