@@ -35,9 +35,11 @@ loop-again : tie.Need-loop-again Inv-loop μ-loop
 loop-again c =
     let h = c .before .before .before in
     let l = h .before .before .before .before in
-    let s = l .before .before in
-    (omega arith, passed-more _ _ _ _ _ _ _ (l .loop .inv .1) _ _ _ (h .before .base-of .ensures) (h .height-of .ensures) (s .pre .0 .most)
-    (c .before .before .shift-stack .ensures))
+    let s = l .before .before in (
+      omega arith,
+      passed-more _ _ _ _ _ _ _ (l .loop .inv .1) _ _ _ (h .before .base-of .ensures) (h .height-of .ensures) (s .pre .0 .most)
+          (c .before .before .shift-stack .ensures),
+    )
 
 same-length : tie.Need-same-length Inv-loop μ-loop
 same-length c = c .before .loop .inv .1 .kept .size
