@@ -208,14 +208,7 @@ fn keep(
 }
 
 // The term at offset b is put on unit v's stack, over an EXIT for the job at index i of unit u's stack.
-fn give(
-    work: &mut [u8],
-    cells: &mut [u16; 8],
-    v: usize,
-    u: u8,
-    i: u16,
-    b: u16,
-)
+fn give(work: &mut [u8], cells: &mut [u16; 8], v: usize, u: u8, i: u16, b: u16)
     requires { ⌜ U.Area (now work) (now cells) × (v < 8) × (u < 8) × (b < 1024) × (U.height-in (now cells) v + 2 ≤ height) ⌝ }
     ensures { λ _. ⌜ U.Change v (O.given u i b) (now (work .entry)) (now (cells .entry)) (now (work .exit)) (now (cells .exit)) ⌝ }
 {

@@ -180,12 +180,7 @@ fn size_one(book: &[u8], at: usize, arities: &[u8; 256], sizes: &[u16; 16]) -> S
 }
 
 // How many symbols the filled right side at position at of the book has.
-pub fn filled_size(
-    book: &[u8],
-    at: usize,
-    arities: &[u8; 256],
-    sizes: &[u16; 16],
-) -> usize
+pub fn filled_size(book: &[u8], at: usize, arities: &[u8; 256], sizes: &[u16; 16]) -> usize
     requires { ⌜ length (now book) ≤ 2 ^ 60 ⌝ }
     ensures { λ r. ⌜ Sized (now (book .entry)) at (now (arities .entry)) (now (sizes .entry)) r ⌝ }
 {

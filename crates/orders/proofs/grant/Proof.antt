@@ -9,8 +9,7 @@ give-requires : tie.Need-give-requires
 give-requires c κs =
     let p = c .before .before .before .before in
     let s = p .before .before .before .before .before .before in
-    let x = s .args in
-    (
+    let x = s .args in (
       p .proceed .ensures .area,
       s .pre .idle-unit,
       s .pre .ready .unit,
