@@ -1,85 +1,82 @@
 -- Laws of FORK: the argument is kept, or an idle unit gets it. Assumes nothing.
-use mathlib.Core.Path.{_≡_, refl, sym, ap, subst, _∙_}
+use mathlib.Core.Path.{_≡_, refl, sym, ap, ap₂, subst, _∙_}
 use mathlib.Core.Bool.{true, false}
 use mathlib.Core.List.{List}
 use mathlib.Core.Logic.{_≢_}
 use mathlib.Core.Option.{none, some}
-use Prim.Native.Nat.{ℕ, _+_, _*_, _-_, _≤_, _<_, pred}
+use Prim.Native.Nat.{ℕ, _+_, _-_, _≤_, _<_, pred}
 use native.Mathlib.Omega.{arith}
-use lib.ListN.{take}
-use Rattle.paper.specs.Book.{arity}
-use Rattle.flat.specs.Symbols.{argument}
-use Rattle.flat.specs.Machine.{Frame, idle}
-use Rattle.stack.specs.Frames.{height}
-use Rattle.stack.proofs.Stacks.{length-stack}
-use Rattle.units.specs.Units.{height-in, units-of, woken, pushed, at, Change, Turned}
-use Rattle.units.proofs.Units.{change-then}
-use Rattle.orders.specs.Orders.{Row-of, Coded, argument-in, Inside, Done, proceeds, Room, keeps, given, restack, Granted, forks, Forkable, Forked}
-use Rattle.orders.proofs.Changes.{height-same, height-other, argument-is}
+use Rattle.paper.specs.Strategy.{Step}
+use Rattle.flat.specs.Machine.{Frame, FlatUnit, idle}
+use Rattle.units.specs.Stacks.{height, height-in, Store, store, units-in}
+use Rattle.units.specs.Contracts.{Has-room, woken, pushed, at, Changed, Cell-changed}
+use Rattle.units.specs.declared.frames.Job.{Job}
+use Rattle.units.proofs.Units.{changed-then, height-is, height-same, height-other}
+use Rattle.orders.specs.Contracts.{
+  Argument,
+  restack,
+  Restacked,
+  goes-on,
+  Proceeded,
+  keeps,
+  Can-keep,
+  Argument-kept,
+  given,
+  forks,
+  Can-grant,
+  Granted,
+  Forked,
+}
 
--- kept: the job goes on with a count d that is one less, and another is pushed
-module _ {laid : List ℕ} (o a k c d b : ℕ) {u : ℕ} {w cs w₁ cs₁ : List ℕ}
-    (e : d ≡ pred c) (p : Done (Row-of laid o) (proceeds o a k d) u w cs w₁ cs₁) where
-  lowered : Done (Row-of laid o) (proceeds o a k (pred c)) u w cs w₁ cs₁
-  lowered = subst (λ (y : ℕ). Done (Row-of laid o) (proceeds o a k y) u w cs w₁ cs₁) e p
+-- kept: the job goes on with a count c that is one less, and another is pushed
+module _ {ss : List Step} (x : Job) {u c : ℕ} {s s₁ : Store} (e : c ≡ pred (x .count))
+    (p : Proceeded ss (record { offset = x .offset; next = x .next; count = c }) u s s₁) where
+  lowered : Restacked (goes-on ss x (pred (x .count))) u s s₁
+  lowered = subst (λ (y : ℕ). Restacked (goes-on ss x y) u s s₁) e (p .change)
 
-  pub keep-room : Room (Row-of laid o) (keeps o a k c b) u w cs → height-in cs₁ u < height
-  keep-room r = omega (arith, r .room, height-same (lowered .change (r .book) (r .holds)))
+  pub keep-room : {b : ℕ} → Can-keep ss x b u s → Has-room s₁ u 1
+  keep-room q = record { fit = p .change .fit; unit = q .job .top .unit; room = omega (arith, q .room, height-same lowered) }
 
-  pub kept : {w₂ cs₂ : List ℕ} → Change u (pushed (Frame.job b 0 0)) w₁ cs₁ w₂ cs₂ → Done (Row-of laid o) (keeps o a k c b) u w cs w₂ cs₂
-  kept q = record {
-    area = q .area;
-    change = λ B r. change-then (lowered .change B r) q;
-  }
+  pub argument-kept : {b : ℕ} {s₂ : Store} → Changed u (pushed (Frame.job b 0 0)) s₁ s₂ → Argument-kept ss x b u s s₂
+  argument-kept q = record { change = changed-then lowered q }
 
 -- given: two frames are pushed, and the unit is busy
-pub push-height : {v : ℕ} {f : Frame} {w cs w₁ cs₁ : List ℕ} → Change v (pushed f) w cs w₁ cs₁ → height-in cs₁ v ≡ height-in cs v + 1
-push-height {v} {w = w} {cs = cs} p =
-    omega (arith, height-same p, length-stack w (v * height) (height-in cs v))
+pub second-room : {v : ℕ} {f : Frame} {s s₁ : Store} → Has-room s v 2 → Changed v (pushed f) s s₁ → Has-room s₁ v 1
+second-room {v} {s = s} r p = record { fit = p .fit; unit = r .unit; room = omega (arith, r .room, height-same p, height-is s v) }
 
-pub gave : {v u i b : ℕ} {w cs w₁ cs₁ w₂ cs₂ cs′ : List ℕ} → Change v (pushed (Frame.exit u i)) w cs w₁ cs₁ →
-    Change v (pushed (Frame.job b 0 0)) w₁ cs₁ w₂ cs₂ → Turned v woken cs₂ cs′ → Change v (given u i b) w cs w₂ cs′
-gave {w₂ = w₂} p q t = change-then (change-then p q) (t .change w₂ (q .area))
+pub gave : {v u i b : ℕ} {s s₁ : Store} {w c c′ : List ℕ} → Changed v (pushed (Frame.exit u i)) s s₁ → Changed v (pushed (Frame.job b 0 0)) s₁ (store w c) →
+    Cell-changed v woken c c′ → Changed v (given u i b) s (store w c′)
+gave {w = w} p q t = changed-then (changed-then p q) (t .change w (q .fit))
 
 -- granted: the job goes on, and unit v gets the argument
-module _ {laid : List ℕ} (o a k c : ℕ) {u : ℕ} {w cs w₁ cs₁ : List ℕ} (p : Done (Row-of laid o) (proceeds o a k c) u w cs w₁ cs₁) where
-  pub grant-room : (v : ℕ) → v ≢ u → height-in cs v + 2 ≤ height → Coded laid o → height-in cs₁ v + 2 ≤ height
-  grant-room v n l q = omega (arith, height-other (p .change (q .book) (q .row)) v n)
+module _ {ss : List Step} {x : Job} {u : ℕ} {s s₁ : Store} (p : Proceeded ss x u s s₁) where
+  pub grant-room : {b v : ℕ} → Can-grant x b v u s → Has-room s₁ v 2
+  grant-room {v = v} q = record { fit = p .change .fit; unit = q .idle-unit; room = omega (arith, q .room, height-other (p .change) v (q .other)) }
 
-  pub granted : (b v i : ℕ) {w₂ cs₂ : List ℕ} → i ≡ height-in cs u - 1 → Change v (given u i b) w₁ cs₁ w₂ cs₂ → Granted laid o u a k c b v w cs w₂ cs₂
-  granted b v i e q = record {
-    area = q .area;
-    units = λ B r n. q .units n ∙ ap (at v (given u i b)) (p .change B r .units n)
-        ∙ ap (λ (j : ℕ). at v (given u j b) (restack u (proceeds o a k c B) (units-of w cs n))) e;
+  pub granted : {b v j i : ℕ} {s₂ : Store} → j ≡ u → i ≡ height-in (s .cells) u - 1 → Changed v (given j i b) s₁ s₂ → Granted ss x b v u s s₂
+  granted {b} {v} {j} {i} ej ei q = record {
+    fit = q .fit;
+    units = λ n.
+        q .units n ∙ ap (at v (given j i b)) (p .change .units n)
+        ∙ ap₂ (λ (y z : ℕ). at v (given y z b) (at u (restack (goes-on ss x (x .count))) (units-in s n))) ej ei;
   }
 
--- by the search
-module _ {arities laid symbols : List ℕ} {len : ℕ} (n u o a k c i b : ℕ) {w cs : List ℕ} (q : Inside arities symbols len a i)
-    (e : b ≡ argument-in arities symbols len a i) where
-  pub fork-room : (f : Forkable arities laid symbols len n u o a k c i w cs) → idle (units-of w cs n) ≡ none →
-      Room (Row-of laid o) (keeps o a k c b) u w cs
-  fork-room f z = record {
-    book = f .book;
-    holds = f .says .rows o (f .says .operator);
-    room = f .kept z;
-  }
-
-  pub fork-grants : (v : ℕ) {w′ cs′ : List ℕ} → idle (units-of w cs n) ≡ some v → Granted laid o u a k c b v w cs w′ cs′ →
-      Forked arities laid (take len symbols) n u o a k c i w cs w′ cs′ true
-  fork-grants v z g = record {
-    area = g .area;
-    units = λ B s. g .units B (s .rows o (s .operator)) n
-        ∙ ap (λ (x : ℕ). forks u (height-in cs u) o a k c x B (units-of w cs n) (some v)) (argument-is s q e refl)
-        ∙ ap (forks u (height-in cs u) o a k c (argument (arity B) (take len symbols) a i) B (units-of w cs n)) (sym z);
+-- by the search, for the argument at offset b
+module _ {ss : List Step} {x : Job} {p : Argument} {b n u : ℕ} {s s′ : Store} (e : b ≡ p .offset) where
+  pub fork-grants : {v : ℕ} → idle (units-in s n) ≡ some v → Granted ss x b v u s s′ → Forked ss x p n u s s′ true
+  fork-grants {v} z g = record {
+    fit = g .fit;
+    units =
+        g .units n ∙ ap (λ (y : ℕ). forks ss x y u (height-in (s .cells) u) (units-in s n) (some v)) e
+        ∙ ap (forks ss x (p .offset) u (height-in (s .cells) u) (units-in s n)) (sym z);
     answer = rw z;
   }
 
-  pub fork-keeps : {w′ cs′ : List ℕ} → idle (units-of w cs n) ≡ none → Done (Row-of laid o) (keeps o a k c b) u w cs w′ cs′ →
-      Forked arities laid (take len symbols) n u o a k c i w cs w′ cs′ false
+  pub fork-keeps : idle (units-in s n) ≡ none → Argument-kept ss x b u s s′ → Forked ss x p n u s s′ false
   fork-keeps z d = record {
-    area = d .area;
-    units = λ B s. d .change B (s .rows o (s .operator)) .units n
-        ∙ ap (λ (x : ℕ). forks u (height-in cs u) o a k c x B (units-of w cs n) none) (argument-is s q e refl)
-        ∙ ap (forks u (height-in cs u) o a k c (argument (arity B) (take len symbols) a i) B (units-of w cs n)) (sym z);
+    fit = d .change .fit;
+    units =
+        d .change .units n ∙ ap (λ (y : ℕ). forks ss x y u (height-in (s .cells) u) (units-in s n) none) e
+        ∙ ap (forks ss x (p .offset) u (height-in (s .cells) u) (units-in s n)) (sym z);
     answer = rw z;
   }

@@ -115,22 +115,27 @@ changed-as {s} {u = u} {f = f} {g = g} c e = record {
       (λ l. let q = unit-at (s .work) (s .cells) n u (omega (arith, length-units (s .work) (s .cells) 0 n)) in ap f q ∙ e ∙ ap g (sym q));
 }
 
--- the heights after a change at unit u
+-- unit u and the others after a change at unit u, and the heights of their stacks
+pub height-is : (s : Store) (u : ℕ) → length (unit-in s u .stack) ≡ height-in (s .cells) u
+height-is s u = length-stack (s .work) (u * height) (height-in (s .cells) u)
+
 module _ {s s′ : Store} {u : ℕ} {g : FlatUnit → FlatUnit} (c : Changed u g s s′) where
-  height-is : (v : ℕ) (x : FlatUnit) → unit (at u g (units-in s (v + 1))) v ≡ x → height-in (s′ .cells) v ≡ length (x .stack)
-  height-is v x e =
-      sym (height-at (s′ .work) (s′ .cells) (v + 1) v (omega arith)) ∙ ap (λ (us : List FlatUnit). length (unit us v .stack)) (c .units (v + 1))
-      ∙ ap (λ (y : FlatUnit). length (y .stack)) e
+  unit-is : (v : ℕ) → unit-in s′ v ≡ unit (at u g (units-in s (v + 1))) v
+  unit-is v = sym (unit-at (s′ .work) (s′ .cells) (v + 1) v (omega arith)) ∙ ap (λ (us : List FlatUnit). unit us v) (c .units (v + 1))
+
+  pub unit-same : unit-in s′ u ≡ g (unit-in s u)
+  unit-same =
+      unit-is u ∙ at-same u (units-in s (u + 1)) g (omega (arith, length-units (s .work) (s .cells) 0 (u + 1)))
+      ∙ ap g (unit-at (s .work) (s .cells) (u + 1) u (omega arith))
+
+  pub unit-other : (v : ℕ) → (v ≡ u → ⊥) → unit-in s′ v ≡ unit-in s v
+  unit-other v n = unit-is v ∙ at-else u (units-in s (v + 1)) g v n ∙ unit-at (s .work) (s .cells) (v + 1) v (omega arith)
 
   pub height-same : height-in (s′ .cells) u ≡ length (g (unit-in s u) .stack)
-  height-same =
-      height-is u (g (unit-in s u))
-      (at-same u (units-in s (u + 1)) g (omega (arith, length-units (s .work) (s .cells) 0 (u + 1)))
-      ∙ ap g (unit-at (s .work) (s .cells) (u + 1) u (omega arith)))
+  height-same = sym (height-is s′ u) ∙ ap (λ (x : FlatUnit). length (x .stack)) unit-same
 
   pub height-other : (v : ℕ) → (v ≡ u → ⊥) → height-in (s′ .cells) v ≡ height-in (s .cells) v
-  height-other v n =
-      height-is v (unit (units-in s (v + 1)) v) (at-else u (units-in s (v + 1)) g v n) ∙ height-at (s .work) (s .cells) (v + 1) v (omega arith)
+  height-other v n = sym (height-is s′ v) ∙ ap (λ (x : FlatUnit). length (x .stack)) (unit-other v n) ∙ height-is s v
 
 -- what holds of all units holds of each
 all-unit : (P : FlatUnit → Type 0) (us : List FlatUnit) (u : ℕ) → All P us → u < length us → P (unit us u)

@@ -47,12 +47,6 @@ impl Unit {
     }
 }
 
-fn wide(x: u16) -> usize
-    ensures { λ r. ⌜ (r ≡ x) × (r < 65536) ⌝ }
-{
-    x as usize
-}
-
 fn cell_of(busy: bool, height: usize) -> u16
     requires { ⌜ height < 2048 ⌝ }
     ensures { λ r. ⌜ r ≡ K.cell busy height ⌝ }
@@ -70,7 +64,7 @@ pub fn load(units: &[u16; 8], u: usize) -> Unit
     let x = units[u];
     Unit {
         busy: x < 2048,
-        height: wide(x % 2048),
+        height: casts::offset(x % 2048),
     }
 }
 
@@ -127,7 +121,7 @@ fn height_of(units: &[u16; 8], u: usize) -> usize
     requires { ⌜ u < 8 ⌝ }
     ensures { λ r. ⌜ r ≡ K.height-in (now (units .entry)) u ⌝ }
 {
-    wide(units[u] % 2048)
+    casts::offset(units[u] % 2048)
 }
 
 // The stack index of unit u's top frame.
