@@ -1,17 +1,19 @@
--- The orders as entries of the machine on lists: what each function ensures is the state that the machine goes on with. Assumes nothing.
-use mathlib.Core.Path.{_≡_, refl, sym, ap, ap₂, _∙_}
+-- The orders as entries of the machine on lists: what each function ensures is the state that the machine goes on with, by the book whose tables the
+-- code has. Assumes nothing.
+use mathlib.Core.Path.{_≡_, refl, sym, ap, ap₂, subst, _∙_}
 use mathlib.Core.Bool.{Bool, true, false}
 use mathlib.Core.List.{List, _∷_}
 use mathlib.Core.Logic.{_≢_}
 use mathlib.Core.Option.{Option, none, some}
-use Prim.Native.Nat.{ℕ, zero, suc, _-_, _<_}
+use Prim.Native.Nat.{ℕ, zero, suc, _+_, _-_, _≤_, _<_}
 use native.Mathlib.Omega.{arith}
 use lib.ListN.{length, getD, drop}
 use lib.ListN.{set as put}
 use Rattle.paper.specs.Strategy.{Step}
 use Rattle.paper.specs.Book.{Book, arity, steps}
 use Rattle.paper.specs.Machine.{Limits}
-use Rattle.flat.specs.Symbols.{Hit, argument, rewrite}
+use Rattle.paper.specs.Sound.{All}
+use Rattle.flat.specs.Symbols.{Hit, rewrite}
 use Rattle.flat.specs.Machine.{
   Frame,
   FlatUnit,
@@ -32,16 +34,25 @@ use Rattle.flat.specs.Machine.{
   do-step,
   carry-out,
 }
-use Rattle.units.specs.Units.{units-of, Area, dropped, idled, at, Change, Turned}
+use Rattle.tables.specs.Layout.{step-of, code-in, steps-in}
+use Rattle.tables.specs.Tables.{Tables}
+use Rattle.tables.proofs.Rows.{here-is}
+use Rattle.units.specs.Stacks.{height-in, Store, units-in}
+use Rattle.units.specs.Contracts.{Stacks-fit, dropped, idled, at, Changed, Cell-changed}
+use Rattle.units.specs.declared.frames.Job.{Job}
+use Rattle.units.specs.declared.frames.Exit.{Exit}
 use Rattle.units.proofs.Units.{height-at, at-is, at-else}
-use Rattle.orders.proofs.Tables.{idle-other}
-use Rattle.orders.specs.Orders.{
-  Row-of,
-  Says,
-  Done,
-  proceeds,
+use Rattle.orders.specs.Contracts.{
+  Argument,
+  argument-of,
+  restack,
+  goes-on,
+  Proceeded,
+  enters,
+  Visited,
   visits,
-  visits-argument,
+  Argument-visited,
+  joins,
   Joined,
   Exited,
   keeps,
@@ -50,6 +61,8 @@ use Rattle.orders.specs.Orders.{
   grants,
   Forked,
 }
+use Rattle.orders.proofs.Idle.{idle-other}
+use Rattle.orders.proofs.Tables.{rowed-said, steps-said, argument-by, argument-said}
 
 -- the state with other units, after a FORK that was granted or kept
 abbrev pub counted-fork : FlatState → List FlatUnit → Bool → FlatState
@@ -58,92 +71,121 @@ counted-fork s us true =
 counted-fork s us false =
     record { symbols = s .symbols; units = us; rewrites = s .rewrites; granted = s .granted; kept = suc (s .kept) }
 
--- unit u, one of n, is busy with the frame f on top of fs
-module _ (B : Book) (L : Limits) (u n : ℕ) (s : FlatState) {w y h : List ℕ} (z : Area w y h) (us : s .units ≡ units-of w y h n) (l : u < n) (f : Frame)
-    (fs : List Frame) (e : unit (s .units) u ≡ flat-unit true (f ∷ fs)) where
+-- unit u, one of n, is busy with the frame f on top of fs; t is how the units are kept
+module _ (B : Book) (L : Limits) (u n : ℕ) (s : FlatState) (t : Store) (us : s .units ≡ units-in t n) (l : u < n) (f : Frame) (fs : List Frame)
+    (e : unit (s .units) u ≡ flat-unit true (f ∷ fs)) where
   abbrev busy : FlatUnit
   busy = flat-unit true (f ∷ fs)
 
-  at-here : (g : FlatUnit → FlatUnit) → put (s .units) u (g busy) ≡ at u g (units-of w y h n)
+  at-here : (g : FlatUnit → FlatUnit) → put (s .units) u (g busy) ≡ at u g (units-in t n)
   at-here g = sym (at-is u (s .units) g busy e) ∙ ap (at u g) us
 
-  changed : {g : FlatUnit → FlatUnit} {w′ y′ h′ : List ℕ} (x : FlatUnit) → Change u g w y h w′ y′ h′ → x ≡ g busy →
-      _≡_ {A = FlatOutcome} (going (with-units s (put (s .units) u x))) (going (with-units s (units-of w′ y′ h′ n)))
-  changed {g} x c q = ap (λ (v : List FlatUnit). going (with-units s v)) (ap (put (s .units) u) q ∙ at-here g ∙ sym (c .units n))
+  changed : {g : FlatUnit → FlatUnit} {t′ : Store} (y : FlatUnit) → Changed u g t t′ → y ≡ g busy →
+      _≡_ {A = FlatOutcome} (going (with-units s (put (s .units) u y))) (going (with-units s (units-in t′ n)))
+  changed {g} y c q = ap (λ (v : List FlatUnit). going (with-units s v)) (ap (put (s .units) u) q ∙ at-here g ∙ sym (c .units n))
 
-  -- VISIT of the job's own term
-  pub visit-entry : (a c o : ℕ) {laid w′ h′ : List ℕ} → getD (s .symbols) a 0 ≡ o → Row-of laid o B → Done (Row-of laid o) (visits o a) u w h w′ h′ →
-      carry-out B L u s fs (Frame.job a zero c) ≡ going (with-units s (units-of w′ y h′ n))
-  unfolding carry-out visit
-  visit-entry a c o q r d =
-      changed (flat-unit true (visit B (s .symbols) a fs)) (d .change B r y z)
-      (ap (λ (p : ℕ). flat-unit true (proceed a 1 (next-count (steps B p)) (steps B p) fs)) q)
-
-  -- the job's next step
-  module _ (o a k c : ℕ) {laid : List ℕ} where
-    pub visit-argument-entry : (i : ℕ) {arities w′ h′ : List ℕ} → Says arities laid (s .symbols) o B →
-        Done (Says arities laid (s .symbols) o) (visits-argument (s .symbols) o a k c i) u w h w′ h′ →
-        do-step B L u s a k c (Step.visit i ∷ drop k (steps B o)) fs ≡ going (with-units s (units-of w′ y h′ n))
-    unfolding do-step
-    visit-argument-entry i q d =
-        changed (flat-unit true (visit B (s .symbols) (argument (arity B) (s .symbols) a i) (proceed a (suc k) c (drop k (steps B o)) fs)))
-        (d .change B q y z) refl
-
-    pub whole-entry : {w′ h′ : List ℕ} → rewrite (arity B) (B .rules) a (s .symbols) ≡ Hit.miss → Row-of laid o B →
-        Done (Row-of laid o) (proceeds o a k c) u w h w′ h′ →
-        do-step B L u s a k c (Step.whole ∷ drop k (steps B o)) fs ≡ going (with-units s (units-of w′ y h′ n))
-    unfolding do-step do-whole
-    whole-entry q r d =
-        ap (do-whole B L u s a k c (drop k (steps B o)) fs) q
-        ∙ changed (flat-unit true (proceed a (suc k) c (drop k (steps B o)) fs)) (d .change B r y z) refl
-
-  pub join-entry : (o a k c x : ℕ) {laid w′ y′ h′ : List ℕ} → f ≡ Frame.job a k c → Row-of laid o B → Joined laid o u a k c w y h w′ y′ h′ →
-      do-step B L u s a k c (Step.join x ∷ drop k (steps B o)) fs ≡ going (with-units s (units-of w′ y′ h′ n))
-  unfolding do-step do-join
-  join-entry o a k zero x q r d =
-      changed (flat-unit true (proceed a (suc k) (next-count (drop k (steps B o))) (drop k (steps B o)) fs)) (d .change B r) refl
-  join-entry o a k (suc c) x q r d =
-      changed (flat-unit false (Frame.job a k (suc c) ∷ fs)) (d .change B r) (ap (λ (t : Frame). flat-unit false (t ∷ fs)) (sym q))
-
-  pub sleep-entry : {y′ h′ : List ℕ} → f ≡ Frame.sleep → Turned u idled y h y′ h′ →
-      carry-out B L u s fs Frame.sleep ≡ going (with-units s (units-of w y′ h′ n))
+  pub sleep-entry : {c′ : List ℕ} → f ≡ Frame.sleep → Stacks-fit t → Cell-changed u idled (t .cells) c′ →
+      carry-out B L u s fs Frame.sleep ≡ going (with-units s (units-in (record { work = t .work; cells = c′ }) n))
   unfolding carry-out
-  sleep-entry q t = changed (flat-unit false (Frame.sleep ∷ fs)) (t .change w z) (ap (λ (t : Frame). flat-unit false (t ∷ fs)) (sym q))
+  sleep-entry q z d = changed (flat-unit false (Frame.sleep ∷ fs)) (d .change (t .work) z) (ap (λ (y : Frame). flat-unit false (y ∷ fs)) (sym q))
 
-  pub exit-entry : (v i : ℕ) {w′ y′ h′ : List ℕ} → Exited u v i w y h w′ y′ h′ →
-      carry-out B L u s fs (Frame.exit v i) ≡ going (with-units s (units-of w′ y′ h′ n))
+  pub exit-entry : {x : Exit} {t′ : Store} → Exited x u t t′ →
+      carry-out B L u s fs (Frame.exit (x .unit) (x .index)) ≡ going (with-units s (units-in t′ n))
   unfolding carry-out
-  exit-entry v i d =
-      ap (λ (x : List FlatUnit). going (with-units s x)) (ap (at v (arrive i)) (at-here dropped) ∙ sym (d .units n))
+  exit-entry {x} d =
+      ap (λ (y : List FlatUnit). going (with-units s y)) (ap (at (x .unit) (arrive (x .index))) (at-here dropped) ∙ sym (d .units n))
 
-  -- FORK, by the unit that is idle
-  height-here : getD h u 0 - 1 ≡ length fs
-  height-here =
-      let q = height-at w y h n u l in
-      let p = ap (λ (x : List FlatUnit). length (unit x u .stack)) us in
-      let r = ap (λ (x : FlatUnit). length (x .stack)) e in
-      omega arith
+  -- a job: the operator of its term is the book's
+  module _ {bytes operators rules : List ℕ} (T : Tables bytes operators rules B) (known : All (λ o. o < length (B .operators)) (s .symbols)) where
+    abbrev operator : ℕ → ℕ
+    operator a = getD (s .symbols) a 0
 
-  module _ (o a k c b : ℕ) where
-    by-idle : (r : Option ℕ) → ((v : ℕ) → r ≡ some v → v ≢ u) →
-        do-fork B L u s a b k c (drop k (steps B o)) fs r ≡ going (counted-fork s (forks u (getD h u 0) o a k c b B (units-of w y h n) r) (grants r))
-    unfolding do-fork
-    by-idle none q = ap (λ (x : List FlatUnit). going (counted-fork s x false)) (at-here (λ (x : FlatUnit). flat-unit (x .busy) (keeps o a k c b B (x .stack))))
-    by-idle (some v) q =
-        let g : FlatUnit → FlatUnit = λ (x : FlatUnit). flat-unit (x .busy) (proceeds o a k c B (x .stack)) in
-        let m : unit (s .units) v ≡ unit (at u g (units-of w y h n)) v =
-        ap (λ (x : List FlatUnit). unit x v) us ∙ sym (at-else u (units-of w y h n) g v (q v refl)) in
-        ap (λ (x : List FlatUnit). going (counted-fork s x true))
-        (ap₂ (λ (x : List FlatUnit) (t : FlatUnit). put x v t) (at-here g)
-        (ap₂ (λ (t : FlatUnit) (j : ℕ). given u j b t) m (sym height-here)))
+    -- VISIT of the job's own term
+    pub visit-entry : (a c : ℕ) {t′ : Store} → a < length (s .symbols) → Visited (steps-in operators (operator a)) a u t t′ →
+        carry-out B L u s fs (Frame.job a zero c) ≡ going (with-units s (units-in t′ n))
+    unfolding carry-out visit
+    visit-entry a c la d =
+        changed (flat-unit true (visit B (s .symbols) a fs)) (d .change)
+        (ap (λ (ss : List Step). flat-unit true (enters ss a fs)) (sym (steps-said T (s .symbols) known a la)))
 
-  pub fork-entry : (o a k c i : ℕ) {arities laid w′ y′ h′ : List ℕ} {r : Bool} → Says arities laid (s .symbols) o B →
-      Forked arities laid (s .symbols) n u o a k c i w y h w′ y′ h′ r →
-      do-step B L u s a k c (Step.fork i ∷ drop k (steps B o)) fs ≡ going (counted-fork s (units-of w′ y′ h′ n) r)
-  unfolding do-step
-  fork-entry o a k c i q d =
-      by-idle o a k c (argument (arity B) (s .symbols) a i) (idle (s .units))
-      (λ v m. idle-other (s .units) u v m (ap (λ (x : FlatUnit). x .busy) e))
-      ∙ ap (λ (x : List FlatUnit).
-      going (counted-fork s (forks u (getD h u 0) o a k c (argument (arity B) (s .symbols) a i) B (units-of w y h n) (idle x)) (grants (idle x)))) us
-      ∙ ap₂ (λ (x : List FlatUnit) (t : Bool). going (counted-fork s x t)) (sym (d .units B q)) (sym (d .answer))
+    -- its next step, which is one more than its place in the operator's steps
+    module _ (x : Job) (lx : x .offset < length (s .symbols)) (p : 1 ≤ x .next) (m : x .next ≤ 16) where
+      abbrev ss : List Step
+      ss = steps-in operators (operator (x .offset))
+
+      -- the machine carries out the step that the table has there
+      pub step-entry : (st : Step) → some st ≡ step-of (code-in operators (operator (x .offset)) (x .next - 1)) →
+          carry-out B L u s fs (Frame.job (x .offset) (x .next) (x .count)) ≡ do-step B L u s (x .offset) (x .next) (x .count) (st ∷ drop (x .next) ss) fs
+      unfolding carry-out
+      step-entry st q = go (x .next) p m q
+        where
+          go : (k : ℕ) → 1 ≤ k → k ≤ 16 → some st ≡ step-of (code-in operators (operator (x .offset)) (k - 1)) →
+              carry-out B L u s fs (Frame.job (x .offset) k (x .count)) ≡ do-step B L u s (x .offset) k (x .count) (st ∷ drop k ss) fs
+          go zero h m q = absurd (omega arith)
+          go (suc k) h m q =
+              let j : suc k - 1 ≡ k = omega arith in
+              ap (λ (ts : List Step). do-step B L u s (x .offset) (suc k) (x .count) ts fs)
+              (ap (drop k) (sym (steps-said T (s .symbols) known (x .offset) lx))
+              ∙ here-is (rowed-said T (s .symbols) known (x .offset) lx) k (omega arith) (some st) (rw j at q) .0)
+
+      pub visit-argument-entry : (i : ℕ) {t′ : Store} → some (Step.visit i) ≡ step-of (code-in operators (operator (x .offset)) (x .next - 1)) →
+          argument-by B (s .symbols) x i .offset < length (s .symbols) → Argument-visited ss x (argument-of operators (s .symbols) x i) u t t′ →
+          carry-out B L u s fs (Frame.job (x .offset) (x .next) (x .count)) ≡ going (with-units s (units-in t′ n))
+      unfolding do-step visit
+      visit-argument-entry i q la d =
+          step-entry (Step.visit i) q
+          ∙ changed (flat-unit true (visits ss x (argument-by B (s .symbols) x i) (f ∷ fs))) (d .change)
+          (ap (λ (a : Argument). flat-unit true (visits ss x a (f ∷ fs))) (sym (argument-said T (s .symbols) known x i la)))
+
+      pub whole-entry : {t′ : Store} → some Step.whole ≡ step-of (code-in operators (operator (x .offset)) (x .next - 1)) →
+          rewrite (arity B) (B .rules) (x .offset) (s .symbols) ≡ Hit.miss → Proceeded ss x u t t′ →
+          carry-out B L u s fs (Frame.job (x .offset) (x .next) (x .count)) ≡ going (with-units s (units-in t′ n))
+      unfolding do-step do-whole
+      whole-entry q h d =
+          step-entry Step.whole q ∙ ap (do-whole B L u s (x .offset) (x .next) (x .count) (drop (x .next) ss) fs) h
+          ∙ changed (flat-unit true (goes-on ss x (x .count) (f ∷ fs))) (d .change) refl
+
+      pub join-entry : (c : ℕ) {t′ : Store} → some (Step.join c) ≡ step-of (code-in operators (operator (x .offset)) (x .next - 1)) →
+          f ≡ Frame.job (x .offset) (x .next) (x .count) → Joined ss x u t t′ →
+          carry-out B L u s fs (Frame.job (x .offset) (x .next) (x .count)) ≡ going (with-units s (units-in t′ n))
+      unfolding do-step do-join
+      join-entry c {t′} q h d = step-entry (Step.join c) q ∙ go (x .count) h (d .change)
+        where
+          go : (k : ℕ) → f ≡ Frame.job (x .offset) (x .next) k → Changed u (joins ss x k) t t′ →
+              do-join B L u s (x .offset) (x .next) k (drop (x .next) ss) fs ≡ going (with-units s (units-in t′ n))
+          go zero z y = changed (flat-unit true (goes-on ss x (next-count (drop (x .next) ss)) (f ∷ fs))) y refl
+          go (suc k) z y = changed (flat-unit false (Frame.job (x .offset) (x .next) (suc k) ∷ fs)) y (ap (λ (b : Frame). flat-unit false (b ∷ fs)) (sym z))
+
+      -- FORK, by the unit that is idle
+      height-here : height-in (t .cells) u - 1 ≡ length fs
+      height-here =
+          let q = height-at (t .work) (t .cells) n u l in
+          let p = ap (λ (y : List FlatUnit). length (unit y u .stack)) us in
+          let r = ap (λ (y : FlatUnit). length (y .stack)) e in
+          omega arith
+
+      by-idle : (b : ℕ) (r : Option ℕ) → ((v : ℕ) → r ≡ some v → v ≢ u) →
+          do-fork B L u s (x .offset) b (x .next) (x .count) (drop (x .next) ss) fs r
+          ≡ going (counted-fork s (forks ss x b u (height-in (t .cells) u) (units-in t n) r) (grants r))
+      unfolding do-fork
+      by-idle b none q = ap (λ (y : List FlatUnit). going (counted-fork s y false)) (at-here (restack (keeps ss x b)))
+      by-idle b (some v) q =
+          let g : FlatUnit → FlatUnit = restack (goes-on ss x (x .count)) in
+          let m : unit (s .units) v ≡ unit (at u g (units-in t n)) v =
+          ap (λ (y : List FlatUnit). unit y v) us ∙ sym (at-else u (units-in t n) g v (q v refl)) in
+          ap (λ (y : List FlatUnit). going (counted-fork s y true))
+          (ap₂ (λ (y : List FlatUnit) (z : FlatUnit). put y v z) (at-here g)
+          (ap₂ (λ (z : FlatUnit) (j : ℕ). given u j b z) m (sym height-here)))
+
+      pub fork-entry : (i : ℕ) {t′ : Store} {r : Bool} → some (Step.fork i) ≡ step-of (code-in operators (operator (x .offset)) (x .next - 1)) →
+          argument-by B (s .symbols) x i .offset < length (s .symbols) → Forked ss x (argument-of operators (s .symbols) x i) n u t t′ r →
+          carry-out B L u s fs (Frame.job (x .offset) (x .next) (x .count)) ≡ going (counted-fork s (units-in t′ n) r)
+      unfolding do-step
+      fork-entry i q la d =
+          let h = height-in (t .cells) u in
+          step-entry (Step.fork i) q
+          ∙ by-idle (argument-by B (s .symbols) x i .offset) (idle (s .units))
+          (λ v z. idle-other (s .units) u v z (ap (λ (y : FlatUnit). y .busy) e))
+          ∙ ap₂ (λ (y : List FlatUnit) (a : Argument). going (counted-fork s (forks ss x (a .offset) u h (units-in t n) (idle y)) (grants (idle y)))) us
+          (sym (argument-said T (s .symbols) known x i la))
+          ∙ ap₂ (λ (y : List FlatUnit) (z : Bool). going (counted-fork s y z)) (sym (d .units)) (sym (d .answer))

@@ -1,91 +1,82 @@
 -- Laws of FORK: the argument is kept, or an idle unit gets it. Assumes nothing.
-use mathlib.Core.Path.{_≡_, refl, sym, ap, subst, _∙_}
+use mathlib.Core.Path.{_≡_, refl, sym, ap, ap₂, subst, _∙_}
 use mathlib.Core.Bool.{true, false}
 use mathlib.Core.List.{List}
 use mathlib.Core.Logic.{_≢_}
 use mathlib.Core.Option.{none, some}
-use Prim.Native.Nat.{ℕ, _+_, _*_, _-_, _≤_, _<_, pred}
+use Prim.Native.Nat.{ℕ, _+_, _-_, _≤_, _<_, pred}
 use native.Mathlib.Omega.{arith}
-use lib.ListN.{getD, take, replicate}
-use Rattle.paper.specs.Book.{arity}
-use Rattle.flat.specs.Symbols.{argument}
-use Rattle.flat.specs.Machine.{Frame, idle}
-use Rattle.stack.specs.Frames.{height}
-use Rattle.stack.proofs.Stacks.{length-stack}
-use Rattle.units.specs.Units.{units-of, Stacks, Area, woken, pushed, at, Change, Turned, Restacked}
-use Rattle.units.proofs.Units.{change-then}
-use Rattle.orders.specs.Orders.{Row-of, Coded, argument-in, Inside, Done, proceeds, Room, keeps, given, restack, Granted, forks, Forkable, Forked}
-use Rattle.orders.proofs.Changes.{area-of, height-same, height-other, argument-is}
+use Rattle.paper.specs.Strategy.{Step}
+use Rattle.flat.specs.Machine.{Frame, FlatUnit, idle}
+use Rattle.units.specs.Stacks.{height, height-in, Store, store, units-in}
+use Rattle.units.specs.Contracts.{Has-room, woken, pushed, at, Changed, Cell-changed}
+use Rattle.units.specs.declared.frames.Job.{Job}
+use Rattle.units.proofs.Units.{changed-then, height-is, height-same, height-other}
+use Rattle.orders.specs.Contracts.{
+  Argument,
+  restack,
+  Restacked,
+  goes-on,
+  Proceeded,
+  keeps,
+  Can-keep,
+  Argument-kept,
+  given,
+  forks,
+  Can-grant,
+  Granted,
+  Forked,
+}
 
--- kept: the job goes on with a count d that is one less, and another is pushed
-module _ {laid : List ℕ} (o a k c d b : ℕ) {u : ℕ} {w h w₁ h₁ : List ℕ}
-    (s : Stacks w h) (e : d ≡ pred c) (p : Done (Row-of laid o) (proceeds o a k d) u w h w₁ h₁) where
-  lowered : Done (Row-of laid o) (proceeds o a k (pred c)) u w h w₁ h₁
-  lowered = subst (λ (y : ℕ). Done (Row-of laid o) (proceeds o a k y) u w h w₁ h₁) e p
+-- kept: the job goes on with a count c that is one less, and another is pushed
+module _ {ss : List Step} (x : Job) {u c : ℕ} {s s₁ : Store} (e : c ≡ pred (x .count))
+    (p : Proceeded ss (record { offset = x .offset; next = x .next; count = c }) u s s₁) where
+  lowered : Restacked (goes-on ss x (pred (x .count))) u s s₁
+  lowered = subst (λ (y : ℕ). Restacked (goes-on ss x y) u s s₁) e (p .change)
 
-  pub keep-room : Room (Row-of laid o) (keeps o a k c b) u w h → getD h₁ u 0 < height
-  keep-room r = omega (arith, r .room, height-same (lowered .change (r .book) (r .holds) (replicate 8 0) (area-of s)))
+  pub keep-room : {b : ℕ} → Can-keep ss x b u s → Has-room s₁ u 1
+  keep-room q = record { fit = p .change .fit; unit = q .job .top .unit; room = omega (arith, q .room, height-same lowered) }
 
-  pub kept : {w₂ h₂ : List ℕ} → Restacked u (pushed (Frame.job b 0 0)) w₁ h₁ w₂ h₂ → Done (Row-of laid o) (keeps o a k c b) u w h w₂ h₂
-  kept q = record {
-    stacks = q (replicate 8 0) (area-of (p .stacks)) .area .stacks;
-    change = λ B r y z. let f = lowered .change B r y z in change-then f (q y (f .area));
-  }
+  pub argument-kept : {b : ℕ} {s₂ : Store} → Changed u (pushed (Frame.job b 0 0)) s₁ s₂ → Argument-kept ss x b u s s₂
+  argument-kept q = record { change = changed-then lowered q }
 
 -- given: two frames are pushed, and the unit is busy
-pub push-height : {v : ℕ} {f : Frame} {w h w₁ h₁ : List ℕ} → Stacks w h → Restacked v (pushed f) w h w₁ h₁ → getD h₁ v 0 ≡ getD h v 0 + 1
-push-height {v} {w = w} {h = h} s p =
-    omega (arith, height-same (p (replicate 8 0) (area-of s)), length-stack w (v * height) (getD h v 0))
+pub second-room : {v : ℕ} {f : Frame} {s s₁ : Store} → Has-room s v 2 → Changed v (pushed f) s s₁ → Has-room s₁ v 1
+second-room {v} {s = s} r p = record { fit = p .fit; unit = r .unit; room = omega (arith, r .room, height-same p, height-is s v) }
 
-pub gave : {v u i b : ℕ} {w y h w₁ h₁ w₂ h₂ y′ h′ : List ℕ} → Area w y h → Restacked v (pushed (Frame.exit u i)) w h w₁ h₁ →
-    Restacked v (pushed (Frame.job b 0 0)) w₁ h₁ w₂ h₂ → Turned v woken y h₂ y′ h′ → Change v (given u i b) w y h w₂ y′ h′
-gave {y = y} {w₂ = w₂} a p q t =
-    let c = p y a in
-    let d = q y (c .area) in
-    change-then (change-then c d) (t .change w₂ (d .area))
+pub gave : {v u i b : ℕ} {s s₁ : Store} {w c c′ : List ℕ} → Changed v (pushed (Frame.exit u i)) s s₁ → Changed v (pushed (Frame.job b 0 0)) s₁ (store w c) →
+    Cell-changed v woken c c′ → Changed v (given u i b) s (store w c′)
+gave {w = w} p q t = changed-then (changed-then p q) (t .change w (q .fit))
 
 -- granted: the job goes on, and unit v gets the argument
-module _ {laid : List ℕ} (o a k c : ℕ) {u : ℕ} {w y h w₁ h₁ : List ℕ} (z : Area w y h) (p : Done (Row-of laid o) (proceeds o a k c) u w h w₁ h₁) where
-  pub went-area : Area w₁ y h₁
-  went-area = record { stacks = p .stacks; flags = z .flags }
+module _ {ss : List Step} {x : Job} {u : ℕ} {s s₁ : Store} (p : Proceeded ss x u s s₁) where
+  pub grant-room : {b v : ℕ} → Can-grant x b v u s → Has-room s₁ v 2
+  grant-room {v = v} q = record { fit = p .change .fit; unit = q .idle-unit; room = omega (arith, q .room, height-other (p .change) v (q .other)) }
 
-  pub grant-room : (v : ℕ) → v ≢ u → getD h v 0 + 2 ≤ height → Coded laid o → getD h₁ v 0 + 2 ≤ height
-  grant-room v n l q = omega (arith, height-other (p .change (q .book) (q .row) y z) v n)
-
-  pub granted : (b v i : ℕ) {w₂ y₂ h₂ : List ℕ} → i ≡ getD h u 0 - 1 → Change v (given u i b) w₁ y h₁ w₂ y₂ h₂ → Granted laid o u a k c b v w y h w₂ y₂ h₂
-  granted b v i e q = record {
-    area = q .area;
-    units = λ B r n. q .units n ∙ ap (at v (given u i b)) (p .change B r y z .units n)
-        ∙ ap (λ (j : ℕ). at v (given u j b) (restack u (proceeds o a k c B) (units-of w y h n))) e;
+  pub granted : {b v j i : ℕ} {s₂ : Store} → j ≡ u → i ≡ height-in (s .cells) u - 1 → Changed v (given j i b) s₁ s₂ → Granted ss x b v u s s₂
+  granted {b} {v} {j} {i} ej ei q = record {
+    fit = q .fit;
+    units = λ n.
+        q .units n ∙ ap (at v (given j i b)) (p .change .units n)
+        ∙ ap₂ (λ (y z : ℕ). at v (given y z b) (at u (restack (goes-on ss x (x .count))) (units-in s n))) ej ei;
   }
 
--- by the search
-module _ {arities laid symbols : List ℕ} {len : ℕ} (n u o a k c i b : ℕ) {w y h : List ℕ} (q : Inside arities symbols len a i)
-    (e : b ≡ argument-in arities symbols len a i) where
-  pub fork-room : (f : Forkable arities laid symbols len n u o a k c i w y h) → idle (units-of w y h n) ≡ none →
-      Room (Row-of laid o) (keeps o a k c b) u w h
-  fork-room f z = record {
-    book = f .book;
-    holds = f .says .rows o (f .says .operator);
-    room = f .kept z;
-  }
-
-  pub fork-grants : (v : ℕ) {w′ y′ h′ : List ℕ} → idle (units-of w y h n) ≡ some v → Granted laid o u a k c b v w y h w′ y′ h′ →
-      Forked arities laid (take len symbols) n u o a k c i w y h w′ y′ h′ true
-  fork-grants v z g = record {
-    area = g .area;
-    units = λ B s. g .units B (s .rows o (s .operator)) n
-        ∙ ap (λ (x : ℕ). forks u (getD h u 0) o a k c x B (units-of w y h n) (some v)) (argument-is s q e refl)
-        ∙ ap (forks u (getD h u 0) o a k c (argument (arity B) (take len symbols) a i) B (units-of w y h n)) (sym z);
+-- by the search, for the argument at offset b
+module _ {ss : List Step} {x : Job} {p : Argument} {b n u : ℕ} {s s′ : Store} (e : b ≡ p .offset) where
+  pub fork-grants : {v : ℕ} → idle (units-in s n) ≡ some v → Granted ss x b v u s s′ → Forked ss x p n u s s′ true
+  fork-grants {v} z g = record {
+    fit = g .fit;
+    units =
+        g .units n ∙ ap (λ (y : ℕ). forks ss x y u (height-in (s .cells) u) (units-in s n) (some v)) e
+        ∙ ap (forks ss x (p .offset) u (height-in (s .cells) u) (units-in s n)) (sym z);
     answer = rw z;
   }
 
-  pub fork-keeps : {w′ h′ : List ℕ} → Area w y h → idle (units-of w y h n) ≡ none → Done (Row-of laid o) (keeps o a k c b) u w h w′ h′ →
-      Forked arities laid (take len symbols) n u o a k c i w y h w′ y h′ false
-  fork-keeps r z d = record {
-    area = record { stacks = d .stacks; flags = r .flags };
-    units = λ B s. d .change B (s .rows o (s .operator)) y r .units n
-        ∙ ap (λ (x : ℕ). forks u (getD h u 0) o a k c x B (units-of w y h n) none) (argument-is s q e refl)
-        ∙ ap (forks u (getD h u 0) o a k c (argument (arity B) (take len symbols) a i) B (units-of w y h n)) (sym z);
+  pub fork-keeps : idle (units-in s n) ≡ none → Argument-kept ss x b u s s′ → Forked ss x p n u s s′ false
+  fork-keeps z d = record {
+    fit = d .change .fit;
+    units =
+        d .change .units n ∙ ap (λ (y : ℕ). forks ss x y u (height-in (s .cells) u) (units-in s n) none) e
+        ∙ ap (forks ss x (p .offset) u (height-in (s .cells) u) (units-in s n)) (sym z);
     answer = rw z;
   }

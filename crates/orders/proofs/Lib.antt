@@ -1,5 +1,6 @@
-pub mod Rows
+pub mod Steps
 pub mod Changes
 pub mod Forks
+pub mod Idle
 pub mod Tables
 pub mod Entries

@@ -1,110 +1,123 @@
-// The orders of a unit (document 01, 'Orders of a unit'), but for WHOLE with a match, on the units as they are kept. The steps of operator o are
-// 16 codes from 16 * o on: 0 none, 1 WHOLE, 8 + i VISIT, 16 + i FORK, 24 + c JOIN.
-ghost use mathlib.Core.Path.{_≡_};
-ghost use Prim.Native.Nat.{_+_, _*_, _<_, _≤_, pred};
-ghost use lib.ListN.{length, getD, take};
-ghost use Rattle.stack.specs.Frames.{height};
-ghost use Rattle.units.specs.Units as U;
-ghost use Rattle.orders.specs.Orders as O;
-use stack::Frame;
+// The orders of a unit (document 01, 'Orders of a unit'), but for WHOLE with a match, on the units as they are kept. A job is the one on top of unit
+// u's stack, and o the operator of its term: the job's next order is carried out, and it goes on with the one behind.
+use tables::Step;
+use units::Exit;
+use units::Frame;
 use units::Idle;
+use units::Job;
+ghost use mathlib.Core.Path.{_≡_};
+ghost use Prim.Native.Nat.{_<_, _≤_, pred};
+ghost use lib.ListN.{getD, take, drop};
+ghost use Rattle.tables.specs.Layout as L;
+ghost use Rattle.units.specs.Stacks as K;
+ghost use Rattle.units.specs.Contracts as U;
+ghost use Rattle.orders.specs.Contracts as O;
 
-fn wide(x: u8) -> usize
-    ensures { λ r. ⌜ (r ≡ x) × (r < 256) ⌝ }
+// Has operator o a step k?
+fn has_step(operators: &[u8; 4352], o: u8, k: u8) -> bool
+    requires { ⌜ (k < 16) × L.Rowed (now operators) o ⌝ }
+    ensures { λ r. ⌜ O.is-some (drop k (L.steps-in (now (operators .entry)) o)) ≡ r ⌝ }
 {
-    x as usize
+    match tables::step_at(operators, o, k) {
+        Step::None => false,
+        _ => true,
+    }
 }
 
-fn wider(x: u16) -> usize
-    ensures { λ r. ⌜ (r ≡ x) × (r < 65536) ⌝ }
-{
-    x as usize
-}
-
-// The code of step k of operator o.
-pub fn code_at(laid: &[u8; 4096], o: u8, k: u8) -> u8
-    requires { ⌜ k < 16 ⌝ }
-    ensures { λ r. ⌜ r ≡ getD (now (laid .entry)) (16 * o + k) 0 ⌝ }
-{
-    laid[16 * wide(o) + wide(k)]
-}
-
-// The count of the next JOIN from step k of operator o on; behind the last step the codes are 0.
-pub fn next_count(laid: &[u8; 4096], o: u8, k: u8) -> u8
-    requires { ⌜ (k ≤ 16) × O.Coded (now laid) o ⌝ }
-    ensures { λ r. ⌜ O.Counted (now (laid .entry)) o k r ⌝ }
+// The count of the next JOIN from step k of operator o on.
+fn next_count(operators: &[u8; 4352], o: u8, k: u8) -> u8
+    requires { ⌜ (k ≤ 16) × L.Rowed (now operators) o ⌝ }
+    ensures { λ r. ⌜ O.Counted (drop k (L.steps-in (now (operators .entry)) o)) r ⌝ }
 {
     let mut i = k;
     while i < 16 {
-        let code = code_at(laid, o, i);
-        if code == 0 {
-            return 0;
+        match tables::step_at(operators, o, i) {
+            Step::None => {
+                return 0;
+            }
+            Step::Join(c) => {
+                return c;
+            }
+            _ => {
+                i += 1;
+            }
         }
-        if 24 <= code {
-            return code - 24;
-        }
-        i += 1;
     }
     0
 }
 
-// The term at offset a, of operator o, goes on with its step k, if there is one, on top of unit u's stack.
-fn go_on(
-    laid: &[u8; 4096],
-    work: &mut [u8],
-    heights: &mut [u16; 8],
-    u: usize,
-    o: u8,
-    a: u16,
-    k: u8,
-    c: u8,
-)
-    requires { ⌜ U.Stacks (now work) (now heights) × (u < 8) × O.Small a k c × O.Free (now laid) o k (now heights) u ⌝ }
-    ensures { λ _. ⌜ O.Done (O.Row-of (now (laid .entry)) o) (O.goes o a k c) u (now (work .entry)) (now (heights .entry)) (now (work .exit)) (now (heights .exit)) ⌝ }
-{
-    if code_at(laid, o, k) != 0 {
-        units::push(work, heights, u, Frame::Job(a, k + 1, c));
-    }
-}
-
-// The job on top of unit u's stack, of the term at offset a and operator o, gives way to the same with step k and count c, or goes if there is no
-// such step. WHOLE with no match does just this.
+// The job's next order is done: it goes on with the one behind, or it goes if there is none. WHOLE with no match does just this.
 pub fn proceed(
-    laid: &[u8; 4096],
+    operators: &[u8; 4352],
     work: &mut [u8],
-    heights: &mut [u16; 8],
+    units: &mut [u16; 8],
     u: usize,
     o: u8,
-    a: u16,
-    k: u8,
-    c: u8,
+    job: Job,
 )
-    requires { ⌜ O.Ready (now work) (now heights) u a k c ⌝ }
-    ensures { λ _. ⌜ O.Done (O.Row-of (now (laid .entry)) o) (O.proceeds o a k c) u (now (work .entry)) (now (heights .entry)) (now (work .exit)) (now (heights .exit)) ⌝ }
+    ghost { K.Store }
+    requires { λ s. ⌜ K.store (now work) (now units) ≡ s ⌝ }
+    requires { λ s. ⌜ L.Rowed (now operators) o × O.Can-proceed job u s ⌝ }
+    ensures { λ s _. ⌜ O.Proceeded (L.steps-in (now (operators .entry)) o) job u s (K.store (now (work .exit)) (now (units .exit))) ⌝ }
 {
-    if code_at(laid, o, k) != 0 {
-        units::set_top(work, heights, u, Frame::Job(a, k + 1, c));
+    if has_step(operators, o, job.next) {
+        units::set_top(
+            work,
+            units,
+            u,
+            Frame::Job(Job {
+                offset: job.offset,
+                next: job.next + 1,
+                count: job.count,
+            }),
+        );
     } else {
-        units::drop_top(heights, u);
+        units::drop_top(units, u);
     }
 }
 
 // The orders of the term at offset a, of operator o, are put on top of unit u's stack.
-fn enter(laid: &[u8; 4096], work: &mut [u8], heights: &mut [u16; 8], u: usize, o: u8, a: u16)
-    requires { ⌜ U.Stacks (now work) (now heights) × (u < 8) × (a < 1024) × O.Coded (now laid) o × O.Free (now laid) o 0 (now heights) u ⌝ }
-    ensures { λ _. ⌜ O.Done (O.Row-of (now (laid .entry)) o) (O.enters o a) u (now (work .entry)) (now (heights .entry)) (now (work .exit)) (now (heights .exit)) ⌝ }
+fn enter(operators: &[u8; 4352], work: &mut [u8], units: &mut [u16; 8], u: usize, o: u8, a: u16)
+    ghost { K.Store }
+    requires { λ s. ⌜ K.store (now work) (now units) ≡ s ⌝ }
+    requires { λ s. ⌜ L.Rowed (now operators) o × O.Can-enter (L.steps-in (now operators) o) a u s ⌝ }
+    ensures { λ s _. ⌜ O.Entered (L.steps-in (now (operators .entry)) o) a u s (K.store (now (work .exit)) (now (units .exit))) ⌝ }
 {
-    let c = next_count(laid, o, 0);
-    go_on(laid, work, heights, u, o, a, 0, c);
+    if has_step(operators, o, 0) {
+        let c = next_count(operators, o, 0);
+        units::push(
+            work,
+            units,
+            u,
+            Frame::Job(Job {
+                offset: a,
+                next: 1,
+                count: c,
+            }),
+        );
+    }
 }
 
-// VISIT of the job on top of unit u's stack, of the term at offset a and operator o.
-pub fn visit(laid: &[u8; 4096], work: &mut [u8], heights: &mut [u16; 8], u: usize, o: u8, a: u16)
-    requires { ⌜ O.Ready (now work) (now heights) u a 0 0 × O.Coded (now laid) o ⌝ }
-    ensures { λ _. ⌜ O.Done (O.Row-of (now (laid .entry)) o) (O.visits o a) u (now (work .entry)) (now (heights .entry)) (now (work .exit)) (now (heights .exit)) ⌝ }
+// VISIT of the term at offset a, of operator o, whose job is on top of unit u's stack.
+pub fn visit(operators: &[u8; 4352], work: &mut [u8], units: &mut [u16; 8], u: usize, o: u8, a: u16)
+    ghost { K.Store }
+    requires { λ s. ⌜ K.store (now work) (now units) ≡ s ⌝ }
+    requires { λ s. ⌜ L.Rowed (now operators) o × U.Has-frame s u 0 × (a < 1024) ⌝ }
+    ensures { λ s _. ⌜ O.Visited (L.steps-in (now (operators .entry)) o) a u s (K.store (now (work .exit)) (now (units .exit))) ⌝ }
 {
-    let c = next_count(laid, o, 0);
-    proceed(laid, work, heights, u, o, a, 0, c);
+    let c = next_count(operators, o, 0);
+    proceed(
+        operators,
+        work,
+        units,
+        u,
+        o,
+        Job {
+            offset: a,
+            next: 0,
+            count: c,
+        },
+    );
 }
 
 // The operator at offset a.
@@ -112,71 +125,94 @@ fn operator_at(symbols: &[u8; 1024], a: u16) -> u8
     requires { ⌜ a < 1024 ⌝ }
     ensures { λ r. ⌜ r ≡ getD (now (symbols .entry)) a 0 ⌝ }
 {
-    symbols[wider(a)]
+    symbols[casts::offset(a)]
 }
 
-// The offset of argument i of the term at offset a.
-fn argument(symbols: &[u8; 1024], len: usize, arities: &[u8; 256], a: u16, i: u8) -> u16
-    requires { ⌜ O.Inside (now arities) (now symbols) len a i ⌝ }
-    ensures { λ r. ⌜ (r ≡ O.argument-in (now (arities .entry)) (now (symbols .entry)) len a i) × (r < 1024) ⌝ }
+// The offset of argument i of the job's term.
+fn argument(operators: &[u8; 4352], symbols: &[u8; 1024], len: usize, job: Job, i: u8) -> u16
+    requires { ⌜ O.Argument-inside (now operators) (now symbols) len job i ⌝ }
+    ensures { λ r. ⌜ (r ≡ O.argument-of (now (operators .entry)) (take len (now (symbols .entry))) job i .offset) × (r < 1024) ⌝ }
 {
-    term::argument(symbols, len, arities, wider(a), wide(i)) as u16
+    casts::short(term::argument(
+        symbols,
+        len,
+        operators,
+        casts::offset(job.offset),
+        casts::index(i),
+    ))
 }
 
-// VISIT of argument i: the job on top of unit u's stack goes on with its step k, and the argument's orders are put on top of it.
+// VISIT of argument i: the job goes on, and the argument's orders are put on top of it.
 pub fn visit_argument(
-    laid: &[u8; 4096],
+    operators: &[u8; 4352],
     symbols: &[u8; 1024],
     len: usize,
-    arities: &[u8; 256],
     work: &mut [u8],
-    heights: &mut [u16; 8],
+    units: &mut [u16; 8],
     u: usize,
     o: u8,
-    a: u16,
-    k: u8,
-    c: u8,
+    job: Job,
     i: u8,
 )
-    requires { ⌜ O.Visitable (now arities) (now laid) (now symbols) len u o a k c i (now work) (now heights) ⌝ }
-    ensures { λ _. ⌜ O.Visited (now (arities .entry)) (now (laid .entry)) (take len (now (symbols .entry))) u o a k c i (now (work .entry)) (now (heights .entry)) (now (work .exit)) (now (heights .exit)) ⌝ }
+    ghost { K.Store }
+    requires { λ s. ⌜ K.store (now work) (now units) ≡ s ⌝ }
+    requires { λ s. ⌜ L.Rowed (now operators) o × O.Argument-rowed (now operators) (now symbols) len job i ⌝ }
+    requires { λ s. ⌜ O.Can-visit (L.steps-in (now operators) o) job (O.argument-of (now operators) (take len (now symbols)) job i) u s ⌝ }
+    ensures { λ s _. ⌜ O.Argument-visited (L.steps-in (now (operators .entry)) o) job (O.argument-of (now (operators .entry)) (take len (now (symbols .entry))) job i) u s (K.store (now (work .exit)) (now (units .exit))) ⌝ }
 {
-    let b = argument(symbols, len, arities, a, i);
+    let b = argument(operators, symbols, len, job, i);
     let p = operator_at(symbols, b);
-    proceed(laid, work, heights, u, o, a, k, c);
-    enter(laid, work, heights, u, p, b);
+    proceed(operators, work, units, u, o, job);
+    enter(operators, work, units, u, p, b);
 }
 
-// JOIN at count 0 passes, and the job on top of unit u's stack goes on with its step k; otherwise the unit waits.
+// JOIN at count 0 passes, and the job goes on; otherwise the unit waits.
 pub fn join(
-    laid: &[u8; 4096],
+    operators: &[u8; 4352],
     work: &mut [u8],
-    busy: &mut [u8; 8],
-    heights: &mut [u16; 8],
+    units: &mut [u16; 8],
     u: usize,
     o: u8,
-    a: u16,
-    k: u8,
-    c: u8,
+    job: Job,
 )
-    requires { ⌜ O.Ready (now work) (now heights) u a k c × (length (now busy) ≡ 8) × O.Coded (now laid) o ⌝ }
-    ensures { λ _. ⌜ O.Joined (now (laid .entry)) o u a k c (now (work .entry)) (now (busy .entry)) (now (heights .entry)) (now (work .exit)) (now (busy .exit)) (now (heights .exit)) ⌝ }
+    ghost { K.Store }
+    requires { λ s. ⌜ K.store (now work) (now units) ≡ s ⌝ }
+    requires { λ s. ⌜ L.Rowed (now operators) o × O.Can-proceed job u s ⌝ }
+    ensures { λ s _. ⌜ O.Joined (L.steps-in (now (operators .entry)) o) job u s (K.store (now (work .exit)) (now (units .exit))) ⌝ }
 {
-    if c == 0 {
-        let d = next_count(laid, o, k);
-        proceed(laid, work, heights, u, o, a, k, d);
+    if job.count == 0 {
+        let c = next_count(operators, o, job.next);
+        proceed(
+            operators,
+            work,
+            units,
+            u,
+            o,
+            Job {
+                offset: job.offset,
+                next: job.next,
+                count: c,
+            },
+        );
     } else {
-        units::wait_unit(busy, heights, u);
+        units::wait_unit(units, u);
     }
 }
 
-// EXIT on top of unit u's stack, for the JOIN of the job at index i of unit v's stack.
-pub fn exit(work: &mut [u8], busy: &mut [u8; 8], heights: &mut [u16; 8], u: usize, v: u8, i: u16)
-    requires { ⌜ O.Exitable u v i (now work) (now busy) (now heights) ⌝ }
-    ensures { λ _. ⌜ O.Exited u v i (now (work .entry)) (now (busy .entry)) (now (heights .entry)) (now (work .exit)) (now (busy .exit)) (now (heights .exit)) ⌝ }
+// EXIT on top of unit u's stack.
+pub fn exit(work: &mut [u8], units: &mut [u16; 8], u: usize, exit: Exit)
+    ghost { K.Store }
+    requires { λ s. ⌜ K.store (now work) (now units) ≡ s ⌝ }
+    requires { λ s. ⌜ O.Can-exit exit u s ⌝ }
+    ensures { λ s _. ⌜ O.Exited exit u s (K.store (now (work .exit)) (now (units .exit))) ⌝ }
 {
-    units::drop_top(heights, u);
-    units::arrive(work, busy, heights, wide(v), wider(i));
+    units::drop_top(units, u);
+    units::arrive(
+        work,
+        units,
+        casts::index(exit.unit),
+        casts::offset(exit.index),
+    );
 }
 
 fn lower(count: u8) -> u8
@@ -188,94 +224,124 @@ fn lower(count: u8) -> u8
     count - 1
 }
 
-// FORK with no idle unit: the argument at offset b is kept, as a job on top of the one that goes on with its step k.
+// FORK with no idle unit: the argument at offset b is kept, as a job on top of the one that goes on.
 fn keep(
-    laid: &[u8; 4096],
+    operators: &[u8; 4352],
     work: &mut [u8],
-    heights: &mut [u16; 8],
+    units: &mut [u16; 8],
     u: usize,
     o: u8,
-    a: u16,
-    k: u8,
-    c: u8,
+    job: Job,
     b: u16,
 )
-    requires { ⌜ O.Ready (now work) (now heights) u a k c × (b < 1024) × O.Room (O.Row-of (now laid) o) (O.keeps o a k c b) u (now work) (now heights) ⌝ }
-    ensures { λ _. ⌜ O.Done (O.Row-of (now (laid .entry)) o) (O.keeps o a k c b) u (now (work .entry)) (now (heights .entry)) (now (work .exit)) (now (heights .exit)) ⌝ }
+    ghost { K.Store }
+    requires { λ s. ⌜ K.store (now work) (now units) ≡ s ⌝ }
+    requires { λ s. ⌜ L.Rowed (now operators) o × O.Can-keep (L.steps-in (now operators) o) job b u s ⌝ }
+    ensures { λ s _. ⌜ O.Argument-kept (L.steps-in (now (operators .entry)) o) job b u s (K.store (now (work .exit)) (now (units .exit))) ⌝ }
 {
-    let d = lower(c);
-    proceed(laid, work, heights, u, o, a, k, d);
-    units::push(work, heights, u, Frame::Job(b, 0, 0));
+    let c = lower(job.count);
+    proceed(
+        operators,
+        work,
+        units,
+        u,
+        o,
+        Job {
+            offset: job.offset,
+            next: job.next,
+            count: c,
+        },
+    );
+    units::push(
+        work,
+        units,
+        u,
+        Frame::Job(Job {
+            offset: b,
+            next: 0,
+            count: 0,
+        }),
+    );
 }
 
-// The term at offset b is put on unit v's stack, over an EXIT for the job at index i of unit u's stack.
-fn give(
-    work: &mut [u8],
-    busy: &mut [u8; 8],
-    heights: &mut [u16; 8],
-    v: usize,
-    u: u8,
-    i: u16,
-    b: u16,
-)
-    requires { ⌜ U.Area (now work) (now busy) (now heights) × (v < 8) × (u < 8) × (b < 1024) × (getD (now heights) v 0 + 2 ≤ height) ⌝ }
-    ensures { λ _. ⌜ U.Change v (O.given u i b) (now (work .entry)) (now (busy .entry)) (now (heights .entry)) (now (work .exit)) (now (busy .exit)) (now (heights .exit)) ⌝ }
+// The term at offset b is put on unit v's stack, over an EXIT.
+fn give(work: &mut [u8], units: &mut [u16; 8], v: usize, exit: Exit, b: u16)
+    ghost { K.Store }
+    requires { λ s. ⌜ K.store (now work) (now units) ≡ s ⌝ }
+    requires { λ s. ⌜ U.Has-room s v 2 × (exit .unit < 8) × (b < 1024) ⌝ }
+    ensures { λ s _. ⌜ U.Changed v (O.given (exit .unit) (exit .index) b) s (K.store (now (work .exit)) (now (units .exit))) ⌝ }
 {
-    units::push(work, heights, v, Frame::Exit(u, i));
-    units::push(work, heights, v, Frame::Job(b, 0, 0));
-    units::wake_unit(busy, heights, v);
+    units::push(work, units, v, Frame::Exit(exit));
+    units::push(
+        work,
+        units,
+        v,
+        Frame::Job(Job {
+            offset: b,
+            next: 0,
+            count: 0,
+        }),
+    );
+    units::wake_unit(units, v);
 }
 
 // FORK with an idle unit v: it gets the argument at offset b.
 fn grant(
-    laid: &[u8; 4096],
+    operators: &[u8; 4352],
     work: &mut [u8],
-    busy: &mut [u8; 8],
-    heights: &mut [u16; 8],
+    units: &mut [u16; 8],
     u: usize,
     o: u8,
-    a: u16,
-    k: u8,
-    c: u8,
+    job: Job,
     b: u16,
     v: usize,
 )
-    requires { ⌜ O.Grantable (now laid) o u a k c b v (now work) (now busy) (now heights) ⌝ }
-    ensures { λ _. ⌜ O.Granted (now (laid .entry)) o u a k c b v (now (work .entry)) (now (busy .entry)) (now (heights .entry)) (now (work .exit)) (now (busy .exit)) (now (heights .exit)) ⌝ }
+    ghost { K.Store }
+    requires { λ s. ⌜ K.store (now work) (now units) ≡ s ⌝ }
+    requires { λ s. ⌜ L.Rowed (now operators) o × O.Can-grant job b v u s ⌝ }
+    ensures { λ s _. ⌜ O.Granted (L.steps-in (now (operators .entry)) o) job b v u s (K.store (now (work .exit)) (now (units .exit))) ⌝ }
 {
-    let i = heights[u] - 1;
-    proceed(laid, work, heights, u, o, a, k, c);
-    give(work, busy, heights, v, u as u8, i, b);
+    let index = units::top_index(units, u);
+    proceed(operators, work, units, u, o, job);
+    give(
+        work,
+        units,
+        v,
+        Exit {
+            unit: casts::byte(u),
+            index: index,
+        },
+        b,
+    );
 }
 
-// FORK of argument i, by unit u of n: the lowest-numbered idle unit gets it, or it is kept; whether it was granted.
+// FORK of argument i, by unit u of so many: the lowest-numbered idle unit gets it, or it is kept; whether it was granted.
 pub fn fork(
-    laid: &[u8; 4096],
+    operators: &[u8; 4352],
     symbols: &[u8; 1024],
     len: usize,
-    arities: &[u8; 256],
     work: &mut [u8],
-    busy: &mut [u8; 8],
-    heights: &mut [u16; 8],
-    n: usize,
+    units: &mut [u16; 8],
+    count: usize,
     u: usize,
     o: u8,
-    a: u16,
-    k: u8,
-    c: u8,
+    job: Job,
     i: u8,
 ) -> bool
-    requires { ⌜ O.Forkable (now arities) (now laid) (now symbols) len n u o a k c i (now work) (now busy) (now heights) ⌝ }
-    ensures { λ r. ⌜ O.Forked (now (arities .entry)) (now (laid .entry)) (take len (now (symbols .entry))) n u o a k c i (now (work .entry)) (now (busy .entry)) (now (heights .entry)) (now (work .exit)) (now (busy .exit)) (now (heights .exit)) r ⌝ }
+    ghost { K.Store }
+    requires { λ s. ⌜ K.store (now work) (now units) ≡ s ⌝ }
+    requires { λ s. ⌜ L.Rowed (now operators) o × O.Argument-inside (now operators) (now symbols) len job i ⌝ }
+    requires { λ s. ⌜ O.Can-fork (L.steps-in (now operators) o) job (O.argument-of (now operators) (take len (now symbols)) job i) count u s ⌝ }
+    ensures { λ s r. ⌜ O.Forked (L.steps-in (now (operators .entry)) o) job (O.argument-of (now (operators .entry)) (take len (now (symbols .entry))) job i) count u s (K.store (now (work .exit)) (now (units .exit))) r ⌝ }
 {
-    let b = argument(symbols, len, arities, a, i);
-    match units::lowest_idle(busy, n) {
+    let b = argument(operators, symbols, len, job, i);
+    match units::lowest_idle(units, count) {
         Idle::Unit(v) => {
-            grant(laid, work, busy, heights, u, o, a, k, c, b, v);
+            grant(operators, work, units, u, o, job, b, v);
             true
         }
         Idle::None => {
-            keep(laid, work, heights, u, o, a, k, c, b);
+            keep(operators, work, units, u, o, job, b);
             false
         }
     }

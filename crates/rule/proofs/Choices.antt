@@ -24,19 +24,19 @@ use Rattle.rule.proofs.Matches.{match-same, match-other, head-at, head-
 -- One rule
 
 -- under a root that agrees, its arguments answer
-pub tried-rest : (bytes : List ℕ) (n : ℕ) (arities lefts : List ℕ) (i : ℕ) (xs : List ℕ) (a len : ℕ) (b : Binding) (at arity : ℕ) (b₀ : Binding) (r : F.Found) →
-    at ≡ getD lefts i 0 → arity ≡ arity-in arities (getD xs a 0) → a < length xs → b₀ ≡ blank → Answers bytes (at + 9) n arities arity 63 xs (a + 1) b₀ r b →
-    Bounded len b r → Tried bytes n arities lefts i xs a len b r
+pub tried-rest : (bytes : List ℕ) (arities lefts : List ℕ) (i : ℕ) (xs : List ℕ) (a len : ℕ) (b : Binding) (at arity : ℕ) (b₀ : Binding) (r : F.Found) →
+    at ≡ getD lefts i 0 → arity ≡ arity-in arities (getD xs a 0) → a < length xs → b₀ ≡ blank → Answers bytes (at + 9) arities arity 63 xs (a + 1) b₀ r b →
+    Bounded len b r → Tried bytes arities lefts i xs a len b r
 unfolding label preorder
-tried-rest bytes n arities lefts i xs a len b at arity b₀ r e g h z k m = record { is = go; bounded = m }
+tried-rest bytes arities lefts i xs a len b at arity b₀ r e g h z k m = record { is = go; bounded = m }
   where
-    go : (side : Side) → SideAt bytes (getD lefts i 0) n arities side → label side ≡ Symbol.operator (getD xs a 0) →
+    go : (side : Side) → SideAt bytes (getD lefts i 0) arities side → label side ≡ Symbol.operator (getD xs a 0) →
         match (arity-in arities) (preorder side) a (drop a xs) blank ≡ found r b
     go (node s ts) l q =
         let o : ℕ = getD xs a 0 in
-        let w : Stands bytes at n arities 1 64 (Symbol.operator o ∷ preorders ts) = rw (e, ← q) l in
+        let w : Stands bytes at arities 1 64 (Symbol.operator o ∷ preorders ts) = rw (e, ← q) l in
         rw q (match-same (arity-in arities) o (preorders ts) a xs blank (head-at o a xs o h refl ∙ eq-eqb o o refl)
-        ∙ rw z at (k .is (preorders ts) (under-root bytes n arities at o arity (preorders ts) w g)))
+        ∙ rw z at (k .is (preorders ts) (under-root bytes arities at o arity (preorders ts) w g)))
 
 -- In the chain
 
@@ -105,14 +105,14 @@ module _ (arities xs : List ℕ) (a : ℕ) where
   rewrite-first (r ∷ rs) (suc i) e b l p h =
       rewrite-later r rs (p 0 (omega arith)) ∙ rewrite-first rs i e b (omega arith) (λ j k. p (suc j) (omega arith)) h
 
-module _ (bytes : List ℕ) (n : ℕ) (arities lefts chain : List ℕ) (m : ℕ) (xs : List ℕ) (a : ℕ) where
-  missing : (rules : List Rule) → Lefts bytes n arities lefts chain m rules → Passed arities rules m a xs → Missed arities rules a xs
+module _ (bytes : List ℕ) (arities lefts chain : List ℕ) (m : ℕ) (xs : List ℕ) (a : ℕ) where
+  missing : (rules : List Rule) → Lefts bytes arities lefts chain m rules → Passed arities rules m a xs → Missed arities rules a xs
   missing rules t p =
       let c = t .count in
       let q : Passed arities rules (length rules) a xs = λ j l. p j (omega arith) in
       record { passed = q; is = rewrite-miss arities xs a rules q }
 
-  pub missed-end : length xs ≤ a → (rules : List Rule) → Lefts bytes n arities lefts chain m rules → Missed arities rules a xs
+  pub missed-end : length xs ≤ a → (rules : List Rule) → Lefts bytes arities lefts chain m rules → Missed arities rules a xs
   missed-end l rules t = missing rules t (λ j k. root-end (arity-in arities) (ruleAt rules j .left) a xs blank (t .each j k .root) l)
 
   -- the rule of number k has the term's root, and those below it are passed
@@ -121,14 +121,14 @@ module _ (bytes : List ℕ) (n : ℕ) (arities lefts chain : List ℕ) (m : ℕ)
   Reached rules (suc j) = (j < m) × Root rules (getD xs a 0) j × Passed arities rules j a xs
 
   abbrev pub Reaching : ℕ → Type 0
-  Reaching k = (rules : List Rule) → Lefts bytes n arities lefts chain m rules → Reached rules k
+  Reaching k = (rules : List Rule) → Lefts bytes arities lefts chain m rules → Reached rules k
 
-  pub missed : (k : ℕ) → k ≡ 0 → Reaching k → (rules : List Rule) → Lefts bytes n arities lefts chain m rules → Missed arities rules a xs
+  pub missed : (k : ℕ) → k ≡ 0 → Reaching k → (rules : List Rule) → Lefts bytes arities lefts chain m rules → Missed arities rules a xs
   missed zero e h rules t = missing rules t (h rules t)
   missed (suc k) e h rules t = absurd (omega arith)
 
-  pub chosen : (k i e len : ℕ) (b : Binding) → 0 < k → i ≡ k - 1 → Reaching k → Tried bytes n arities lefts i xs a len b (F.Found.Agrees e) →
-      Hits bytes n arities lefts chain m xs a len b i e
+  pub chosen : (k i e len : ℕ) (b : Binding) → 0 < k → i ≡ k - 1 → Reaching k → Tried bytes arities lefts i xs a len b (F.Found.Agrees e) →
+      Hits bytes arities lefts chain m xs a len b i e
   chosen zero i e len b s f h d = absurd (omega arith)
   chosen (suc j) i e len b s f h d =
       record {
@@ -145,14 +145,14 @@ module _ (bytes : List ℕ) (n : ℕ) (arities lefts chain : List ℕ) (m : ℕ)
 
   module _ (inside : a < length xs) where
     -- rules of other roots are passed
-    pass : (rules : List Rule) → Lefts bytes n arities lefts chain m rules → (i j : ℕ) → j ≤ m → Passed arities rules i a xs → NoneOf (Root rules (getD xs a 0)) i j →
+    pass : (rules : List Rule) → Lefts bytes arities lefts chain m rules → (i j : ℕ) → j ≤ m → Passed arities rules i a xs → NoneOf (Root rules (getD xs a 0)) i j →
         Passed arities rules j a xs
     pass rules t i j l p none k b = elim (ltb-cases k i) [
       | inl q ↦ p k (q .1)
       | inr q ↦ root-other (arity-in arities) (ruleAt rules k .left) a xs blank (t .each k (omega arith) .root) (none k (q .1) b) inside
     ]
 
-    reached : (rules : List Rule) → Lefts bytes n arities lefts chain m rules → (i k : ℕ) → Passed arities rules i a xs → FirstOf (Root rules (getD xs a 0)) i m k →
+    reached : (rules : List Rule) → Lefts bytes arities lefts chain m rules → (i k : ℕ) → Passed arities rules i a xs → FirstOf (Root rules (getD xs a 0)) i m k →
         Reached rules k
     reached rules t i zero p f = pass rules t i m (omega arith) p f
     reached rules t i (suc k) p f = (f .1, f .2, pass rules t i k (omega (arith, f .1)) p (f .3))
@@ -161,7 +161,7 @@ module _ (bytes : List ℕ) (n : ℕ) (arities lefts chain : List ℕ) (m : ℕ)
     reaching-first o k e l f rules t =
         reached rules t 0 k (λ j b. absurd (omega arith)) (rw (f, e) (t .chained .first (getD xs a 0) (omega arith)))
 
-    pub reaching-next : (k i r len : ℕ) (b : Binding) → 0 < k → i ≡ k - 1 → Reaching k → Tried bytes n arities lefts i xs a len b F.Found.Differs →
+    pub reaching-next : (k i r len : ℕ) (b : Binding) → 0 < k → i ≡ k - 1 → Reaching k → Tried bytes arities lefts i xs a len b F.Found.Differs →
         Onward k (getD chain (255 + k) 0) r → Reaching r
     reaching-next zero i r len b s g h d w rules t = absurd (omega arith)
     reaching-next (suc j) i r len b s g h d w rules t =

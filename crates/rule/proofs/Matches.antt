@@ -61,25 +61,25 @@ head-inside o (suc a) (x ∷ xs) e = let h = head-inside o a xs e in omega arith
 
 -- One symbol
 
-module _ (bytes : List ℕ) (n : ℕ) (arities xs : List ℕ) (at a len : ℕ) (starts sizes : List ℕ) (long : length starts ≡ 16) (wide : length sizes ≡ 16) where
+module _ (bytes : List ℕ) (arities xs : List ℕ) (at a len : ℕ) (starts sizes : List ℕ) (long : length starts ≡ 16) (wide : length sizes ≡ 16) where
   module _ (o next : ℕ) (h : StandingAt bytes at (Sd.Standing.Operator o next)) where
-    pub step-other : head-is o (drop a xs) ≡ false → MatchStep bytes at n arities xs a len (binding starts sizes) starts sizes S.Step.Stops
+    pub step-other : head-is o (drop a xs) ≡ false → MatchStep bytes at arities xs a len (binding starts sizes) starts sizes S.Step.Stops
     step-other e =
-        record { starts-long = long; sizes-long = wide; is = all-operator bytes n arities _ at o next h (λ ss. match-other (arity-in arities) o ss a (drop a xs) (binding starts sizes) e) }
+        record { starts-long = long; sizes-long = wide; is = all-operator bytes arities _ at o next h (λ ss. match-other (arity-in arities) o ss a (drop a xs) (binding starts sizes) e) }
 
     pub step-same : (arity : ℕ) → head-is o (drop a xs) ≡ true → arity ≡ arity-in arities o → arity < 256 → length xs ≤ len → Within (binding starts sizes) len →
-        MatchStep bytes at n arities xs a len (binding starts sizes) starts sizes (S.Step.Took arity next 1)
+        MatchStep bytes at arities xs a len (binding starts sizes) starts sizes (S.Step.Took arity next 1)
     step-same arity e f m l w =
         let i = head-inside o a xs e in
         record {
           starts-long = long;
           sizes-long = wide;
-          is = (m, omega arith, w, goes-operator bytes n arities _ at o next arity h f λ ss. match-same (arity-in arities) o ss a xs (binding starts sizes) e);
+          is = (m, omega arith, w, goes-operator bytes arities _ at o next arity h f λ ss. match-same (arity-in arities) o ss a xs (binding starts sizes) e);
         }
 
   pub step-variable : (v next e : ℕ) (starts′ sizes′ : List ℕ) → StandingAt bytes at (Sd.Standing.Variable v next) → e ≡ a + skip (arity-in arities) 1 (drop a xs) → e ≤ len →
       Within (binding starts sizes) len → Holds starts′ sizes′ (bind v (segment a (e - a)) (binding starts sizes)) →
-      MatchStep bytes at n arities xs a len (binding starts sizes) starts′ sizes′ (S.Step.Took 0 next (e - a))
+      MatchStep bytes at arities xs a len (binding starts sizes) starts′ sizes′ (S.Step.Took 0 next (e - a))
   step-variable v next e starts′ sizes′ h f l w g =
       record {
         starts-long = g .starts-long;
@@ -88,23 +88,23 @@ module _ (bytes : List ℕ) (n : ℕ) (arities xs : List ℕ) (at a len : ℕ) (
           omega arith,
           omega arith,
           subst (λ (b : Binding). Within b len) (sym (g .is)) (within-bind v a (e - a) len (binding starts sizes) (omega arith) w),
-          goes-variable bytes n arities _ at v next h λ ss. match-variable (arity-in arities) v ss a xs (binding starts sizes) (e - a) (omega arith) ∙ ap (λ (b : Binding). match (arity-in arities) ss (a + (e - a)) (drop (a + (e - a)) xs) b) (sym (g .is)),
+          goes-variable bytes arities _ at v next h λ ss. match-variable (arity-in arities) v ss a xs (binding starts sizes) (e - a) (omega arith) ∙ ap (λ (b : Binding). match (arity-in arities) ss (a + (e - a)) (drop (a + (e - a)) xs) b) (sym (g .is)),
         );
       }
 
 -- The rest of a side
 
-module _ (bytes : List ℕ) (n : ℕ) (arities xs : List ℕ) (at due room a : ℕ) (b : Binding) where
-  pub ended : (due ≡ 0) ⊎ (room ≡ 0) → Answers bytes at n arities due room xs a b (F.Found.Agrees a) b
+module _ (bytes : List ℕ) (arities xs : List ℕ) (at due room a : ℕ) (b : Binding) where
+  pub ended : (due ≡ 0) ⊎ (room ≡ 0) → Answers bytes at arities due room xs a b (F.Found.Agrees a) b
   unfolding match
-  ended e = record { is = λ ss s. rw (none-left bytes n arities at due room ss s e) }
+  ended e = record { is = λ ss s. rw (none-left bytes arities at due room ss s e) }
 
-  pub stopped : (b′ : Binding) → 0 < due → All-at bytes at n arities (λ ss. match (arity-in arities) ss a (drop a xs) b ≡ flat.Match.differs) →
-      Answers bytes at n arities due room xs a b F.Found.Differs b′
+  pub stopped : (b′ : Binding) → 0 < due → All-at bytes at arities (λ ss. match (arity-in arities) ss a (drop a xs) b ≡ flat.Match.differs) →
+      Answers bytes at arities due room xs a b F.Found.Differs b′
   stopped b′ d h = record { is = λ ss s. h due room ss d s }
 
   pub went : (b′ : Binding) (len arity next size due′ room′ : ℕ) (r : F.Found) (b″ : Binding) → 0 < due →
-      Step-matches bytes at n arities xs a len b b′ (S.Step.Took arity next size) → due′ ≡ due - 1 + arity → room′ ≡ room - 1 →
-      Answers bytes next n arities due′ room′ xs (a + size) b′ r b″ → Answers bytes at n arities due room xs a b r b″
+      Step-matches bytes at arities xs a len b b′ (S.Step.Took arity next size) → due′ ≡ due - 1 + arity → room′ ≡ room - 1 →
+      Answers bytes next arities due′ room′ xs (a + size) b′ r b″ → Answers bytes at arities due room xs a b r b″
   went b′ len arity next size due′ room′ r b″ d (m, l, w, h) p q g =
       record { is = λ ss s. let (ss′, k, e) = h due room ss d s in e ∙ g .is ss′ (k due′ room′ p q) }

@@ -20,52 +20,47 @@ use Rattle.paper.proofs.Rules.{symbol-written}
 use Rattle.side.specs.Side.{bitsAt, standing, Held, StandingAt}
 use Rattle.side.specs.declared.Standing as Sd
 use Rattle.term.specs.Line.{arity-in}
-use Rattle.rule.specs.Packed.{symbol-arity, Fits, Stands, Goes, All-at}
+use Rattle.rule.specs.Packed.{symbol-arity, Stands, Goes, All-at}
 
--- any n operators serve to read a symbol
-operators : ℕ → List Operator
-operators n = replicate n (record { arity = 0; strategy = [] })
+-- any 256 operators serve to read a symbol
+operators : List Operator
+operators = replicate 256 (record { arity = 0; strategy = [] })
 
-fits : (n : ℕ) (s : Symbol) → Fits n s → paper.Fits (operators n) s
+fits : (s : Symbol) → Held s → paper.Fits operators s
 unfolding operators
-fits n (Symbol.operator o) h = rw length-replicate h
-fits n (Symbol.variable v) h = h
-
-held : (n : ℕ) → n ≤ 256 → (s : Symbol) → Fits n s → Held s
-held n few (Symbol.operator o) h = omega arith
-held n few (Symbol.variable v) h = h
+fits (Symbol.operator o) h = rw length-replicate h
+fits (Symbol.variable v) h = h
 
 -- the first of the symbols that bits spell is read off them
-first : (n : ℕ) → n ≤ 256 → (s : Symbol) (ss : List Symbol) (rest xs : List ℕ) → Fits n s → xs ≡ concat write-symbol (s ∷ ss) ++ rest →
-    read-symbol (operators n) xs ≡ accepted (record { value = s; left = concat write-symbol ss ++ rest })
+first : (s : Symbol) (ss : List Symbol) (rest xs : List ℕ) → Held s → xs ≡ concat write-symbol (s ∷ ss) ++ rest →
+    read-symbol operators xs ≡ accepted (record { value = s; left = concat write-symbol ss ++ rest })
 unfolding operators concat return
-first n few s ss rest xs f e =
-    let l : length (operators n) ≡ n = length-replicate n _ in
-    ap (read-symbol (operators n)) (e ∙ append-assoc (write-symbol s) (concat write-symbol ss) rest)
-    ∙ symbol-written (operators n) s (concat write-symbol ss ++ rest) (omega arith) (fits n s f)
+first s ss rest xs f e =
+    let l : length operators ≡ 256 = length-replicate {A = Operator} 256 (record { arity = 0; strategy = [] }) in
+    ap (read-symbol operators) (e ∙ append-assoc (write-symbol s) (concat write-symbol ss) rest)
+    ∙ symbol-written operators s (concat write-symbol ss ++ rest) (omega arith) (fits s f)
 
-module _ (bytes : List ℕ) (n : ℕ) (arities : List ℕ) where
+module _ (bytes : List ℕ) (arities : List ℕ) where
   -- of the symbols ss, s is the first, and the others stand at the position next
   abbrev Behind : ℕ → ℕ → List Symbol → Symbol → ℕ → Type 0
   Behind due room ss s next =
       (ss′ : List Symbol) × (ss ≡ s ∷ ss′)
-      × ((due′ room′ : ℕ) → due′ ≡ due - 1 + symbol-arity arities s → room′ ≡ room - 1 → Stands bytes next n arities due′ room′ ss′)
+      × ((due′ room′ : ℕ) → due′ ≡ due - 1 + symbol-arity arities s → room′ ≡ room - 1 → Stands bytes next arities due′ room′ ss′)
 
   abbrev Took : ℕ → ℕ → List Symbol → Sd.Standing → Type 0
   Took due room ss (Sd.Standing.Operator o next) = Behind due room ss (Symbol.operator o) next
   Took due room ss (Sd.Standing.Variable v next) = Behind due room ss (Symbol.variable v) next
 
-  behind : (due room : ℕ) (s : Symbol) (ss : List Symbol) (rest : List ℕ) → n ≤ 256 → All (Fits n) ss → Complete (symbol-arity arities) (symbol-arity arities s + due) ss →
+  behind : (due room : ℕ) (s : Symbol) (ss : List Symbol) (rest : List ℕ) → All Held ss → Complete (symbol-arity arities) (symbol-arity arities s + due) ss →
       suc (length ss) ≤ room → (t : Symbol) (next : ℕ) →
       _≡_ {A = Read Symbol} (record { value = t; left = bitsAt bytes next }) (record { value = s; left = concat write-symbol ss ++ rest }) →
       Behind (suc due) room (s ∷ ss) t next
-  behind due room s ss rest few fs c l t next q =
+  behind due room s ss rest fs c l t next q =
       let z : s ≡ t = ap (λ (x : Read Symbol). x .value) (sym q) in (
         ss,
         ap (λ (x : Symbol). x ∷ ss) z,
         λ due′ room′ d r. record {
           stand = record { rest = rest; is = ap (λ (x : Read Symbol). x .left) q };
-          few = few;
           fits = fs;
           complete = subst (λ (d : ℕ). Complete (symbol-arity arities) d ss) (let k = ap (symbol-arity arities) z in omega arith) c;
           short = omega arith;
@@ -73,37 +68,37 @@ module _ (bytes : List ℕ) (n : ℕ) (arities : List ℕ) where
       )
 
   -- what is read is the first of the symbols that stand there
-  took : (at due room : ℕ) (ss : List Symbol) (r : Sd.Standing) → StandingAt bytes at r → 0 < due → Stands bytes at n arities due room ss → Took due room ss r
+  took : (at due room : ℕ) (ss : List Symbol) (r : Sd.Standing) → StandingAt bytes at r → 0 < due → Stands bytes at arities due room ss → Took due room ss r
   unfolding concat
   took at zero room ss r h d k = absurd (omega arith)
   took at (suc due) room [] r h d k = absurd (k .complete)
   took at (suc due) room (s ∷ ss) r h d k =
-      go r (h .is s _ (held n (k .few) s (k .fits .0)) (k .stand .is ∙ append-assoc (write-symbol s) (concat write-symbol ss) (k .stand .rest)))
+      go r (h .is s _ (k .fits .0) (k .stand .is ∙ append-assoc (write-symbol s) (concat write-symbol ss) (k .stand .rest)))
     where
       go : (r : Sd.Standing) → standing bytes r ≡ record { value = s; left = concat write-symbol ss ++ k .stand .rest } → Took (suc due) room (s ∷ ss) r
-      go (Sd.Standing.Operator o next) e = behind due room s ss (k .stand .rest) (k .few) (k .fits .1) (k .complete) (k .short) (Symbol.operator o) next e
-      go (Sd.Standing.Variable v next) e = behind due room s ss (k .stand .rest) (k .few) (k .fits .1) (k .complete) (k .short) (Symbol.variable v) next e
+      go (Sd.Standing.Operator o next) e = behind due room s ss (k .stand .rest) (k .fits .1) (k .complete) (k .short) (Symbol.operator o) next e
+      go (Sd.Standing.Variable v next) e = behind due room s ss (k .stand .rest) (k .fits .1) (k .complete) (k .short) (Symbol.variable v) next e
 
   pub goes-operator : (P : List Symbol → List Symbol → Type 0) (at o next arity : ℕ) → StandingAt bytes at (Sd.Standing.Operator o next) → arity ≡ arity-in arities o →
-      ((ss : List Symbol) → P (Symbol.operator o ∷ ss) ss) → Goes bytes at n arities P arity next
+      ((ss : List Symbol) → P (Symbol.operator o ∷ ss) ss) → Goes bytes at arities P arity next
   goes-operator P at o next arity h e p due room ss d s =
       let (ss′, z, k) = took at due room ss (Sd.Standing.Operator o next) h d s in
       (ss′, λ due′ room′ f g. k due′ room′ (omega arith) g, subst (λ (l : List Symbol). P l ss′) (sym z) (p ss′))
 
   pub goes-variable : (P : List Symbol → List Symbol → Type 0) (at v next : ℕ) → StandingAt bytes at (Sd.Standing.Variable v next) →
-      ((ss : List Symbol) → P (Symbol.variable v ∷ ss) ss) → Goes bytes at n arities P 0 next
+      ((ss : List Symbol) → P (Symbol.variable v ∷ ss) ss) → Goes bytes at arities P 0 next
   goes-variable P at v next h p due room ss d s =
       let (ss′, z, k) = took at due room ss (Sd.Standing.Variable v next) h d s in
       (ss′, k, subst (λ (l : List Symbol). P l ss′) (sym z) (p ss′))
 
   pub all-operator : (P : List Symbol → Type 0) (at o next : ℕ) → StandingAt bytes at (Sd.Standing.Operator o next) → ((ss : List Symbol) → P (Symbol.operator o ∷ ss)) →
-      All-at bytes at n arities P
+      All-at bytes at arities P
   all-operator P at o next h p due room ss d s =
       let (ss′, z, k) = took at due room ss (Sd.Standing.Operator o next) h d s in subst P (sym z) (p ss′)
 
   -- behind the nine bits of a root stand the symbols of its arguments
-  pub under-root : (at o arity : ℕ) (ss : List Symbol) → Stands bytes at n arities 1 64 (Symbol.operator o ∷ ss) → arity ≡ arity-in arities o →
-      Stands bytes (at + 9) n arities arity 63 ss
+  pub under-root : (at o arity : ℕ) (ss : List Symbol) → Stands bytes at arities 1 64 (Symbol.operator o ∷ ss) → arity ≡ arity-in arities o →
+      Stands bytes (at + 9) arities arity 63 ss
   unfolding concat write-symbol
   under-root at o arity ss k e =
       let root = write-symbol (Symbol.operator o) in
@@ -115,34 +110,33 @@ module _ (bytes : List ℕ) (n : ℕ) (arities : List ℕ) where
               ∙ ap (drop 9) (k .stand .is ∙ append-assoc root (concat write-symbol ss) (k .stand .rest))
               ∙ drop-at root (concat write-symbol ss ++ k .stand .rest) 9 (length-append (toBits 1 0) (toBits 8 o) ∙ ap₂ _+_ (length-toBits 1 0) (length-toBits 8 o));
         };
-        few = k .few;
         fits = k .fits .1;
         complete = subst (λ (d : ℕ). Complete (symbol-arity arities) d ss) (omega arith) (k .complete);
         short = omega arith;
       }
 
   -- no symbol is to come where no term is due or no room is left
-  pub none-left : (at due room : ℕ) (ss : List Symbol) → Stands bytes at n arities due room ss → (due ≡ 0) ⊎ (room ≡ 0) → ss ≡ []
+  pub none-left : (at due room : ℕ) (ss : List Symbol) → Stands bytes at arities due room ss → (due ≡ 0) ⊎ (room ≡ 0) → ss ≡ []
   none-left at due room [] k e = refl
   none-left at zero room (s ∷ ss) k (inl e) = absurd (k .complete)
   none-left at (suc due) room (s ∷ ss) k (inl e) = absurd (omega arith)
   none-left at due room (s ∷ ss) k (inr e) = let l = k .short in absurd (omega arith)
 
   -- bits spell only one list of symbols
-  spelt-once : n ≤ 256 → (due : ℕ) (ss ts : List Symbol) (xs rest rest′ : List ℕ) → All (Fits n) ss → All (Fits n) ts → Complete (symbol-arity arities) due ss →
+  spelt-once : (due : ℕ) (ss ts : List Symbol) (xs rest rest′ : List ℕ) → All Held ss → All Held ts → Complete (symbol-arity arities) due ss →
       Complete (symbol-arity arities) due ts → xs ≡ concat write-symbol ss ++ rest → xs ≡ concat write-symbol ts ++ rest′ → ss ≡ ts
-  spelt-once few zero [] [] xs rest rest′ f g c d p q = refl
-  spelt-once few zero [] (t ∷ ts) xs rest rest′ f g c d p q = absurd d
-  spelt-once few zero (s ∷ ss) ts xs rest rest′ f g c d p q = absurd c
-  spelt-once few (suc due) [] ts xs rest rest′ f g c d p q = absurd c
-  spelt-once few (suc due) (s ∷ ss) [] xs rest rest′ f g c d p q = absurd d
-  spelt-once few (suc due) (s ∷ ss) (t ∷ ts) xs rest rest′ f g c d p q =
-      let e = accepted-injective (sym (first n few s ss rest xs (f .0) p) ∙ first n few t ts rest′ xs (g .0) q) in
+  spelt-once zero [] [] xs rest rest′ f g c d p q = refl
+  spelt-once zero [] (t ∷ ts) xs rest rest′ f g c d p q = absurd d
+  spelt-once zero (s ∷ ss) ts xs rest rest′ f g c d p q = absurd c
+  spelt-once (suc due) [] ts xs rest rest′ f g c d p q = absurd c
+  spelt-once (suc due) (s ∷ ss) [] xs rest rest′ f g c d p q = absurd d
+  spelt-once (suc due) (s ∷ ss) (t ∷ ts) xs rest rest′ f g c d p q =
+      let e = accepted-injective (sym (first s ss rest xs (f .0) p) ∙ first t ts rest′ xs (g .0) q) in
       let z : s ≡ t = ap (λ (x : Read Symbol). x .value) e in
       ap₂ (λ (x : Symbol) (l : List Symbol). x ∷ l) z
-      (spelt-once few (symbol-arity arities s + due) ss ts (concat write-symbol ss ++ rest) rest rest′ (f .1) (g .1) c
+      (spelt-once (symbol-arity arities s + due) ss ts (concat write-symbol ss ++ rest) rest rest′ (f .1) (g .1) c
       (subst (λ (x : Symbol). Complete (symbol-arity arities) (symbol-arity arities x + due) ts) (sym z) d) refl (ap (λ (x : Read Symbol). x .left) e))
 
-  pub stands-once : (at due room : ℕ) (ss ts : List Symbol) → Stands bytes at n arities due room ss → Stands bytes at n arities due room ts → ss ≡ ts
+  pub stands-once : (at due room : ℕ) (ss ts : List Symbol) → Stands bytes at arities due room ss → Stands bytes at arities due room ts → ss ≡ ts
   stands-once at due room ss ts h k =
-      spelt-once (h .few) due ss ts (bitsAt bytes at) (h .stand .rest) (k .stand .rest) (h .fits) (k .fits) (h .complete) (k .complete) (h .stand .is) (k .stand .is)
+      spelt-once due ss ts (bitsAt bytes at) (h .stand .rest) (k .stand .rest) (h .fits) (k .fits) (h .complete) (k .complete) (h .stand .is) (k .stand .is)

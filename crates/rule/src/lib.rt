@@ -101,7 +101,6 @@ fn bind(starts: &mut [u16; 16], sizes: &mut [u16; 16], v: u8, at: usize, end: us
 fn match_one(
     book: &[u8],
     at: usize,
-    n: usize,
     arities: &[u8; 256],
     symbols: &[u8; 1024],
     len: usize,
@@ -110,7 +109,7 @@ fn match_one(
     sizes: &mut [u16; 16],
 ) -> Step
     requires { ⌜ (length (now book) ≤ 2 ^ 60) × (length (now symbols) ≡ 1024) × (len ≤ 1024) × (offset ≤ len) × (length (now starts) ≡ 16) × (length (now sizes) ≡ 16) × Within (binding (now starts) (now sizes)) len ⌝ }
-    ensures { λ r. ⌜ MatchStep (now (book .entry)) at n (now (arities .entry)) (take len (now (symbols .entry))) offset len (binding (now (starts .entry)) (now (sizes .entry))) (now (starts .exit)) (now (sizes .exit)) r ⌝ }
+    ensures { λ r. ⌜ MatchStep (now (book .entry)) at (now (arities .entry)) (take len (now (symbols .entry))) offset len (binding (now (starts .entry)) (now (sizes .entry))) (now (starts .exit)) (now (sizes .exit)) r ⌝ }
 {
     match side::symbol_at(book, at) {
         Standing::Operator(o, next) => {
@@ -133,7 +132,6 @@ fn match_one(
 fn match_rest(
     book: &[u8],
     at: usize,
-    n: usize,
     arities: &[u8; 256],
     symbols: &[u8; 1024],
     len: usize,
@@ -143,7 +141,7 @@ fn match_rest(
     sizes: &mut [u16; 16],
 ) -> Found
     requires { ⌜ (length (now book) ≤ 2 ^ 60) × (length (now symbols) ≡ 1024) × (len ≤ 1024) × (offset ≤ len) × (due < 256) × (length (now starts) ≡ 16) × (length (now sizes) ≡ 16) × Within (binding (now starts) (now sizes)) len ⌝ }
-    ensures { λ r. ⌜ Answers (now (book .entry)) at n (now (arities .entry)) due 63 (take len (now (symbols .entry))) offset (binding (now (starts .entry)) (now (sizes .entry))) r (binding (now (starts .exit)) (now (sizes .exit))) × Bounded len (binding (now (starts .exit)) (now (sizes .exit))) r ⌝ }
+    ensures { λ r. ⌜ Answers (now (book .entry)) at (now (arities .entry)) due 63 (take len (now (symbols .entry))) offset (binding (now (starts .entry)) (now (sizes .entry))) r (binding (now (starts .exit)) (now (sizes .exit))) × Bounded len (binding (now (starts .exit)) (now (sizes .exit))) r ⌝ }
 {
     let mut p = at;
     let mut q = offset;
@@ -153,7 +151,6 @@ fn match_rest(
         let Step::Took(arity, next, size) = match_one(
             book,
             p,
-            n,
             arities,
             symbols,
             len,
@@ -172,9 +169,9 @@ fn match_rest(
 }
 
 // How many symbols the symbol at position at of a right side gives.
-fn size_one(book: &[u8], at: usize, n: usize, arities: &[u8; 256], sizes: &[u16; 16]) -> Step
+fn size_one(book: &[u8], at: usize, arities: &[u8; 256], sizes: &[u16; 16]) -> Step
     requires { ⌜ length (now book) ≤ 2 ^ 60 ⌝ }
-    ensures { λ r. ⌜ SizeStep (now (book .entry)) at n (now (arities .entry)) (now (sizes .entry)) r ⌝ }
+    ensures { λ r. ⌜ SizeStep (now (book .entry)) at (now (arities .entry)) (now (sizes .entry)) r ⌝ }
 {
     match side::symbol_at(book, at) {
         Standing::Operator(o, next) => Step::Took(arity_of(arities, o), next, 1),
@@ -183,22 +180,16 @@ fn size_one(book: &[u8], at: usize, n: usize, arities: &[u8; 256], sizes: &[u16;
 }
 
 // How many symbols the filled right side at position at of the book has.
-pub fn filled_size(
-    book: &[u8],
-    at: usize,
-    n: usize,
-    arities: &[u8; 256],
-    sizes: &[u16; 16],
-) -> usize
+pub fn filled_size(book: &[u8], at: usize, arities: &[u8; 256], sizes: &[u16; 16]) -> usize
     requires { ⌜ length (now book) ≤ 2 ^ 60 ⌝ }
-    ensures { λ r. ⌜ Sized (now (book .entry)) at n (now (arities .entry)) (now (sizes .entry)) r ⌝ }
+    ensures { λ r. ⌜ Sized (now (book .entry)) at (now (arities .entry)) (now (sizes .entry)) r ⌝ }
 {
     let mut p = at;
     let mut due = 1;
     let mut room: usize = 64;
     let mut size = 0;
     while 0 < due && 0 < room {
-        let Step::Took(arity, next, more) = size_one(book, p, n, arities, sizes) else {
+        let Step::Took(arity, next, more) = size_one(book, p, arities, sizes) else {
             return size;
         };
         due = due - 1 + arity;
@@ -213,7 +204,6 @@ pub fn filled_size(
 fn fill_one(
     book: &[u8],
     at: usize,
-    n: usize,
     arities: &[u8; 256],
     symbols: &[u8; 1024],
     len: usize,
@@ -222,8 +212,8 @@ fn fill_one(
     scratch: &mut [u8; 1024],
     k: usize,
 ) -> Step
-    requires { ⌜ (length (now book) ≤ 2 ^ 60) × (length (now symbols) ≡ 1024) × (len ≤ 1024) × (length (now scratch) ≡ 1024) × Within (binding (now starts) (now sizes)) len × ToFill (now book) at n (now arities) (take len (now symbols)) (binding (now starts) (now sizes)) k ⌝ }
-    ensures { λ r. ⌜ FillStep (now (book .entry)) at n (now (arities .entry)) (take len (now (symbols .entry))) (binding (now (starts .entry)) (now (sizes .entry))) k (now (scratch .entry)) (now (scratch .exit)) r ⌝ }
+    requires { ⌜ (length (now book) ≤ 2 ^ 60) × (length (now symbols) ≡ 1024) × (len ≤ 1024) × (length (now scratch) ≡ 1024) × Within (binding (now starts) (now sizes)) len × ToFill (now book) at (now arities) (take len (now symbols)) (binding (now starts) (now sizes)) k ⌝ }
+    ensures { λ r. ⌜ FillStep (now (book .entry)) at (now (arities .entry)) (take len (now (symbols .entry))) (binding (now (starts .entry)) (now (sizes .entry))) k (now (scratch .entry)) (now (scratch .exit)) r ⌝ }
 {
     match side::symbol_at(book, at) {
         Standing::Operator(o, next) => {
@@ -242,7 +232,6 @@ fn fill_one(
 pub fn fill(
     book: &[u8],
     at: usize,
-    n: usize,
     arities: &[u8; 256],
     symbols: &[u8; 1024],
     len: usize,
@@ -250,8 +239,8 @@ pub fn fill(
     sizes: &[u16; 16],
     scratch: &mut [u8; 1024],
 ) -> usize
-    requires { ⌜ (length (now book) ≤ 2 ^ 60) × (length (now symbols) ≡ 1024) × (len ≤ 1024) × (length (now scratch) ≡ 1024) × Within (binding (now starts) (now sizes)) len × Fillable (now book) at n (now arities) (take len (now symbols)) (binding (now starts) (now sizes)) ⌝ }
-    ensures { λ r. ⌜ Filled (now (book .entry)) at n (now (arities .entry)) (take len (now (symbols .entry))) (binding (now (starts .entry)) (now (sizes .entry))) (now (scratch .exit)) r ⌝ }
+    requires { ⌜ (length (now book) ≤ 2 ^ 60) × (length (now symbols) ≡ 1024) × (len ≤ 1024) × (length (now scratch) ≡ 1024) × Within (binding (now starts) (now sizes)) len × Fillable (now book) at (now arities) (take len (now symbols)) (binding (now starts) (now sizes)) ⌝ }
+    ensures { λ r. ⌜ Filled (now (book .entry)) at (now (arities .entry)) (take len (now (symbols .entry))) (binding (now (starts .entry)) (now (sizes .entry))) (now (scratch .exit)) r ⌝ }
 {
     let mut p = at;
     let mut due = 1;
@@ -261,7 +250,6 @@ pub fn fill(
         let Step::Took(arity, next, size) = fill_one(
             book,
             p,
-            n,
             arities,
             symbols,
             len,
@@ -284,7 +272,6 @@ pub fn fill(
 fn try_rule(
     book: &[u8],
     i: usize,
-    n: usize,
     arities: &[u8; 256],
     lefts: &[u32; 256],
     due: usize,
@@ -295,13 +282,12 @@ fn try_rule(
     sizes: &mut [u16; 16],
 ) -> Found
     requires { ⌜ (length (now book) ≤ 2 ^ 60) × (i < 256) × (length (now symbols) ≡ 1024) × (len ≤ 1024) × (offset < len) × (due ≡ getD (now arities) (getD (now symbols) offset 0) 0) × (due < 256) ⌝ }
-    ensures { λ r. ⌜ Tried (now (book .entry)) n (now (arities .entry)) (now (lefts .entry)) i (take len (now (symbols .entry))) offset len (binding (now (starts .exit)) (now (sizes .exit))) r ⌝ }
+    ensures { λ r. ⌜ Tried (now (book .entry)) (now (arities .entry)) (now (lefts .entry)) i (take len (now (symbols .entry))) offset len (binding (now (starts .exit)) (now (sizes .exit))) r ⌝ }
 {
     clear(starts, sizes);
     match_rest(
         book,
         place(lefts[i]) + 9,
-        n,
         arities,
         symbols,
         len,
@@ -324,7 +310,6 @@ fn next_rule(chain: &[u8; 768], k: usize) -> usize
 // The first of m rules that matches the term at an offset. Only those with the root of the term are tried.
 pub fn find(
     book: &[u8],
-    n: usize,
     arities: &[u8; 256],
     lefts: &[u32; 256],
     chain: &[u8; 768],
@@ -336,7 +321,7 @@ pub fn find(
     sizes: &mut [u16; 16],
 ) -> Hit
     requires { ⌜ (length (now book) ≤ 2 ^ 60) × (length (now symbols) ≡ 1024) × (len ≤ 1024) × (offset ≤ len) ⌝ }
-    ensures { λ r. ⌜ Chosen (now (book .entry)) n (now (arities .entry)) (now (lefts .entry)) (now (chain .entry)) m (take len (now (symbols .entry))) offset len (binding (now (starts .exit)) (now (sizes .exit))) r ⌝ }
+    ensures { λ r. ⌜ Chosen (now (book .entry)) (now (arities .entry)) (now (lefts .entry)) (now (chain .entry)) m (take len (now (symbols .entry))) offset len (binding (now (starts .exit)) (now (sizes .exit))) r ⌝ }
 {
     if len <= offset {
         return Hit::None;
@@ -348,7 +333,6 @@ pub fn find(
         if let Found::Agrees(end) = try_rule(
             book,
             k - 1,
-            n,
             arities,
             lefts,
             due,

@@ -1,14 +1,19 @@
-// The states and the stacks of all units (document 01, 'Orders of a unit'), as the engine keeps them: a lent work area with the stacks, a byte for
-// each unit that is 1 if it is busy, and the stacks' heights.
+// The states and the stacks of all units (document 01, 'Orders of a unit'), as the engine keeps them: a lent work area with the stacks, and a cell for
+// each unit, which is the height of its stack and 2,048 times its rank. Rank 0 is busy, above 0 idle; here an idle unit's rank is 1.
+pub mod frames;
+
+pub use frames::Exit;
+pub use frames::Frame;
+pub use frames::Job;
 ghost use mathlib.Core.Path.{_≡_};
 ghost use mathlib.Core.Bool.{true, false};
 ghost use mathlib.Core.List.{List};
-ghost use Prim.Native.Nat.{ℕ, _*_, _<_, _≤_};
-ghost use lib.ListN.{length, getD, set};
+ghost use Prim.Native.Nat.{ℕ, _+_, _-_, _*_, _%_, _<_, _≤_};
+ghost use lib.ListN.{length, getD, set, replicate};
 ghost use Rattle.flat.specs.Machine.{arrive};
-ghost use Rattle.stack.specs.Frames.{height, flat, Fits};
-ghost use Rattle.units.specs.Units as U;
-use stack::Frame;
+ghost use Rattle.units.specs.Frames.{flat, In-three-bytes};
+ghost use Rattle.units.specs.Stacks as K;
+ghost use Rattle.units.specs.Contracts as U;
 
 // The state of one unit, by value: whether it is busy, and the height of its stack.
 pub struct Unit {
@@ -42,58 +47,53 @@ impl Unit {
     }
 }
 
-fn wide(x: u16) -> usize
-    ensures { λ r. ⌜ (r ≡ x) × (r < 65536) ⌝ }
-{
-    x as usize
-}
-
-fn flag_of(busy: bool) -> u8
-    ensures { λ r. ⌜ r ≡ U.flag busy ⌝ }
+fn cell_of(busy: bool, height: usize) -> u16
+    requires { ⌜ height < 2048 ⌝ }
+    ensures { λ r. ⌜ r ≡ K.cell busy height ⌝ }
 {
     if busy {
-        return 1;
+        return height as u16;
     }
-    0
+    (height + 2048) as u16
 }
 
-pub fn load(busy: &[u8; 8], heights: &[u16; 8], u: usize) -> Unit
+pub fn load(units: &[u16; 8], u: usize) -> Unit
     requires { ⌜ u < 8 ⌝ }
-    ensures { λ r. ⌜ U.Loaded (now (busy .entry)) (now (heights .entry)) u r ⌝ }
+    ensures { λ r. ⌜ U.State-of (now (units .entry)) u r ⌝ }
 {
+    let x = units[u];
     Unit {
-        busy: busy[u] == 1,
-        height: wide(heights[u]),
+        busy: x < 2048,
+        height: casts::offset(x % 2048),
     }
 }
 
-pub fn store(busy: &mut [u8; 8], heights: &mut [u16; 8], u: usize, x: Unit)
-    requires { ⌜ (u < 8) × (x .height < 65536) ⌝ }
-    ensures { λ _. ⌜ (now (busy .exit) ≡ set (now (busy .entry)) u (U.flag (x .busy))) × (now (heights .exit) ≡ set (now (heights .entry)) u (x .height)) ⌝ }
+pub fn store(units: &mut [u16; 8], u: usize, x: Unit)
+    requires { ⌜ (u < 8) × (x .height < 2048) ⌝ }
+    ensures { λ _. ⌜ now (units .exit) ≡ set (now (units .entry)) u (K.cell (x .busy) (x .height)) ⌝ }
 {
-    busy[u] = flag_of(x.busy);
-    heights[u] = x.height as u16;
+    units[u] = cell_of(x.busy, x.height);
 }
 
-pub fn wake_unit(busy: &mut [u8; 8], heights: &mut [u16; 8], u: usize)
+pub fn wake_unit(units: &mut [u16; 8], u: usize)
     requires { ⌜ u < 8 ⌝ }
-    ensures { λ _. ⌜ U.Turned u U.woken (now (busy .entry)) (now (heights .entry)) (now (busy .exit)) (now (heights .exit)) ⌝ }
+    ensures { λ _. ⌜ U.Cell-changed u U.woken (now (units .entry)) (now (units .exit)) ⌝ }
 {
-    store(busy, heights, u, load(busy, heights, u).wake());
+    store(units, u, load(units, u).wake());
 }
 
-pub fn wait_unit(busy: &mut [u8; 8], heights: &mut [u16; 8], u: usize)
+pub fn wait_unit(units: &mut [u16; 8], u: usize)
     requires { ⌜ u < 8 ⌝ }
-    ensures { λ _. ⌜ U.Turned u U.idled (now (busy .entry)) (now (heights .entry)) (now (busy .exit)) (now (heights .exit)) ⌝ }
+    ensures { λ _. ⌜ U.Cell-changed u U.idled (now (units .entry)) (now (units .exit)) ⌝ }
 {
-    store(busy, heights, u, load(busy, heights, u).wait());
+    store(units, u, load(units, u).wait());
 }
 
-pub fn sleep_unit(busy: &mut [u8; 8], heights: &mut [u16; 8], u: usize)
+pub fn sleep_unit(units: &mut [u16; 8], u: usize)
     requires { ⌜ u < 8 ⌝ }
-    ensures { λ _. ⌜ U.Turned u U.idled (now (busy .entry)) (now (heights .entry)) (now (busy .exit)) (now (heights .exit)) ⌝ }
+    ensures { λ _. ⌜ U.Cell-changed u U.idled (now (units .entry)) (now (units .exit)) ⌝ }
 {
-    store(busy, heights, u, load(busy, heights, u).sleep());
+    store(units, u, load(units, u).sleep());
 }
 
 // The lowest-numbered idle unit from 1 up, of n units.
@@ -102,13 +102,13 @@ pub enum Idle {
     None,
 }
 
-pub fn lowest_idle(busy: &[u8; 8], n: usize) -> Idle
-    requires { ⌜ n ≤ 8 ⌝ }
-    ensures { λ r. ⌜ U.Lowest (now (busy .entry)) n r ⌝ }
+pub fn lowest_idle(units: &[u16; 8], count: usize) -> Idle
+    requires { ⌜ count ≤ 8 ⌝ }
+    ensures { λ r. ⌜ U.Lowest-idle (now (units .entry)) count r ⌝ }
 {
     let mut u = 1;
-    while u < n {
-        if busy[u] != 1 {
+    while u < count {
+        if 2048 <= units[u] {
             return Idle::Unit(u);
         }
         u += 1;
@@ -116,72 +116,104 @@ pub fn lowest_idle(busy: &[u8; 8], n: usize) -> Idle
     Idle::None
 }
 
+// The height of unit u's stack.
+fn height_of(units: &[u16; 8], u: usize) -> usize
+    requires { ⌜ u < 8 ⌝ }
+    ensures { λ r. ⌜ r ≡ K.height-in (now (units .entry)) u ⌝ }
+{
+    casts::offset(units[u] % 2048)
+}
+
+// The stack index of unit u's top frame.
+pub fn top_index(units: &[u16; 8], u: usize) -> u16
+    requires { ⌜ (u < 8) × (0 < K.height-in (now units) u) ⌝ }
+    ensures { λ r. ⌜ r ≡ K.height-in (now (units .entry)) u - 1 ⌝ }
+{
+    units[u] % 2048 - 1
+}
+
 // The first frame of unit u's stack.
-pub fn top(work: &[u8], heights: &[u16; 8], u: usize) -> Frame
-    requires { ⌜ U.Stacks (now work) (now heights) × (u < 8) × (0 < getD (now heights) u 0) ⌝ }
-    ensures { λ r. ⌜ U.Top u (flat r) (now (work .entry)) (now (heights .entry)) ⌝ }
+pub fn top(work: &[u8], units: &[u16; 8], u: usize) -> Frame
+    ghost { K.Store }
+    requires { λ s. ⌜ K.store (now work) (now units) ≡ s ⌝ }
+    requires { λ s. ⌜ U.Has-frame s u 0 ⌝ }
+    ensures { λ s r. ⌜ U.Top-is u (flat r) s ⌝ }
 {
-    stack::frame_at(work, stack::base_of(u) + (wide(heights[u]) - 1))
+    frames::frame_at(work, frames::base_of(u) + (height_of(units, u) - 1))
 }
 
-pub fn set_top(work: &mut [u8], heights: &[u16; 8], u: usize, f: Frame)
-    requires { ⌜ U.Stacks (now work) (now heights) × (u < 8) × (0 < getD (now heights) u 0) × Fits (flat f) ⌝ }
-    ensures { λ _. ⌜ U.Restacked u (U.topped (flat f)) (now (work .entry)) (now (heights .entry)) (now (work .exit)) (now (heights .entry)) ⌝ }
+pub fn set_top(work: &mut [u8], units: &[u16; 8], u: usize, f: Frame)
+    ghost { K.Store }
+    requires { λ s. ⌜ K.store (now work) (now units) ≡ s ⌝ }
+    requires { λ s. ⌜ U.Has-frame s u 0 × In-three-bytes (flat f) ⌝ }
+    ensures { λ s _. ⌜ U.Changed u (U.topped (flat f)) s (K.store (now (work .exit)) (s .cells)) ⌝ }
 {
-    stack::put_frame(work, stack::base_of(u) + (wide(heights[u]) - 1), f);
+    frames::put_frame(work, frames::base_of(u) + (height_of(units, u) - 1), f);
 }
 
-pub fn drop_top(heights: &mut [u16; 8], u: usize)
-    requires { ⌜ (u < 8) × (0 < getD (now heights) u 0) ⌝ }
-    ensures { λ _. ⌜ ((w : List ℕ) → U.Restacked u U.dropped w (now (heights .entry)) w (now (heights .exit))) ⌝ }
+pub fn drop_top(units: &mut [u16; 8], u: usize)
+    requires { ⌜ (u < 8) × (0 < K.height-in (now units) u) ⌝ }
+    ensures { λ _. ⌜ U.Cell-changed u U.dropped (now (units .entry)) (now (units .exit)) ⌝ }
 {
-    heights[u] = heights[u] - 1;
+    units[u] = units[u] - 1;
 }
 
-pub fn push(work: &mut [u8], heights: &mut [u16; 8], u: usize, f: Frame)
-    requires { ⌜ U.Stacks (now work) (now heights) × (u < 8) × (getD (now heights) u 0 < height) × Fits (flat f) ⌝ }
-    ensures { λ _. ⌜ U.Restacked u (U.pushed (flat f)) (now (work .entry)) (now (heights .entry)) (now (work .exit)) (now (heights .exit)) ⌝ }
+// A cell whose height is one more.
+fn higher(x: u16) -> u16
+    requires { ⌜ x % 2048 < 2047 ⌝ }
+    ensures { λ r. ⌜ r ≡ x + 1 ⌝ }
 {
-    let h = heights[u];
-    stack::put_frame(work, stack::base_of(u) + wide(h), f);
-    heights[u] = h + 1;
+    x + 1
+}
+
+pub fn push(work: &mut [u8], units: &mut [u16; 8], u: usize, f: Frame)
+    ghost { K.Store }
+    requires { λ s. ⌜ K.store (now work) (now units) ≡ s ⌝ }
+    requires { λ s. ⌜ U.Has-room s u 1 × In-three-bytes (flat f) ⌝ }
+    ensures { λ s _. ⌜ U.Changed u (U.pushed (flat f)) s (K.store (now (work .exit)) (now (units .exit))) ⌝ }
+{
+    frames::put_frame(work, frames::base_of(u) + height_of(units, u), f);
+    units[u] = higher(units[u]);
 }
 
 // EXIT at unit v, which holds its JOIN: the count of the job at stack index i falls by one; if it is now 0, the unit is busy.
-pub fn arrive(work: &mut [u8], busy: &mut [u8; 8], heights: &mut [u16; 8], v: usize, i: usize)
-    requires { ⌜ U.Area (now work) (now busy) (now heights) × (v < 8) × (i < getD (now heights) v 0) ⌝ }
-    ensures { λ _. ⌜ U.Change v (arrive i) (now (work .entry)) (now (busy .entry)) (now (heights .entry)) (now (work .exit)) (now (busy .exit)) (now (heights .exit)) ⌝ }
+pub fn arrive(work: &mut [u8], units: &mut [u16; 8], v: usize, i: usize)
+    ghost { K.Store }
+    requires { λ s. ⌜ K.store (now work) (now units) ≡ s ⌝ }
+    requires { λ s. ⌜ U.Has-frame s v i ⌝ }
+    ensures { λ s _. ⌜ U.Changed v (arrive i) s (K.store (now (work .exit)) (now (units .exit))) ⌝ }
 {
-    let base = stack::base_of(v);
-    stack::lower_at(work, base, i);
-    if stack::is_zero_at(work, base, i) {
-        wake_unit(busy, heights, v);
+    let base = frames::base_of(v);
+    frames::lower_at(work, base, i);
+    if frames::is_zero_at(work, base, i) {
+        wake_unit(units, v);
     }
 }
 
-// The symbols from offset a to offset e give way to k others: the offsets of the jobs of n units go along.
-pub fn shift_units(work: &mut [u8], heights: &[u16; 8], n: usize, a: usize, e: usize, k: usize)
-    requires { ⌜ U.Stacks (now work) (now heights) × (n ≤ 8) × U.Room (now work) (now heights) n a e k ⌝ }
-    ensures { λ _. ⌜ U.Moved (now (work .entry)) (now (heights .entry)) n a e k (now (work .exit)) ⌝ }
+// The symbols from offset a to offset e give way to k others: the offsets of the jobs of count units go along.
+pub fn shift_units(work: &mut [u8], units: &[u16; 8], count: usize, a: usize, e: usize, k: usize)
+    ghost { K.Store }
+    requires { λ s. ⌜ K.store (now work) (now units) ≡ s ⌝ }
+    requires { λ s. ⌜ U.Shiftable count a e k s ⌝ }
+    ensures { λ s _. ⌜ U.Units-shifted count a e k s (K.store (now (work .exit)) (s .cells)) ⌝ }
 {
     let mut u = 0;
-    while u < n {
-        stack::shift_stack(work, stack::base_of(u), wide(heights[u]), a, e, k);
+    while u < count {
+        frames::shift_stack(work, frames::base_of(u), height_of(units, u), a, e, k);
         u += 1;
     }
 }
 
 // All units idle with SLEEP.
-fn sleep_all(work: &mut [u8], busy: &mut [u8; 8], heights: &mut [u16; 8])
-    requires { ⌜ (3 * (8 * height) ≤ length (now work)) × (length (now busy) ≡ 8) × (length (now heights) ≡ 8) ⌝ }
-    ensures { λ _. ⌜ U.Quiet 8 (now (work .exit)) (now (busy .exit)) (now (heights .exit)) ⌝ }
+fn sleep_all(work: &mut [u8], units: &mut [u16; 8])
+    requires { ⌜ U.Eight-regions (K.store (now work) (now units)) ⌝ }
+    ensures { λ _. ⌜ U.Asleep-below 8 (K.store (now (work .exit)) (now (units .exit))) ⌝ }
 {
     let mut u = 0;
     while u < 8 {
-        stack::put_frame(work, stack::base_of(u), Frame::Sleep);
+        frames::put_frame(work, frames::base_of(u), Frame::Sleep);
         store(
-            busy,
-            heights,
+            units,
             u,
             Unit {
                 busy: false,
@@ -193,12 +225,31 @@ fn sleep_all(work: &mut [u8], busy: &mut [u8; 8], heights: &mut [u16; 8])
 }
 
 // Unit 0 busy with VISIT(root) over BINGO, the others idle with SLEEP.
-pub fn start(work: &mut [u8], busy: &mut [u8; 8], heights: &mut [u16; 8])
-    requires { ⌜ (3 * (8 * height) ≤ length (now work)) × (length (now busy) ≡ 8) × (length (now heights) ≡ 8) ⌝ }
-    ensures { λ _. ⌜ U.Started (now (work .exit)) (now (busy .exit)) (now (heights .exit)) ⌝ }
+pub fn start(work: &mut [u8], units: &mut [u16; 8])
+    requires { ⌜ U.Eight-regions (K.store (now work) (now units)) ⌝ }
+    ensures { λ _. ⌜ U.Started (K.store (now (work .exit)) (now (units .exit))) ⌝ }
 {
-    sleep_all(work, busy, heights);
-    set_top(work, heights, 0, Frame::Bingo);
-    push(work, heights, 0, Frame::Job(0, 0, 0));
-    wake_unit(busy, heights, 0);
+    sleep_all(work, units);
+    set_top(work, units, 0, Frame::Bingo);
+    push(
+        work,
+        units,
+        0,
+        Frame::Job(Job {
+            offset: 0,
+            next: 0,
+            count: 0,
+        }),
+    );
+    wake_unit(units, 0);
+}
+
+pub fn clear(work: &mut [u8])
+    ensures { λ _. ⌜ now (work .exit) ≡ replicate (length (now (work .entry))) 0 ⌝ }
+{
+    let mut i = 0;
+    while i < work.len() {
+        work[i] = 0;
+        i += 1;
+    }
 }

@@ -1,29 +1,22 @@
 -- `orders::fork` meets its contract: an idle unit gets the argument, or it is kept. Assumes nothing.
 use native.Mathlib.Omega.{arith}
 use borrow.Author.Needs.{needs}
-use Rattle.orders.proofs.Changes.{ready-area}
-use Rattle.orders.proofs.Forks.{fork-room, fork-grants, fork-keeps}
+use Rattle.orders.proofs.Forks.{fork-grants, fork-keeps}
 use Rattle.orders.proofs.fork.Statement.{statement}
 use Rattle.orders.proofs.fork.Tie as tie
 
 grant-requires : tie.Need-grant-requires
 grant-requires c κs =
-    let v = c .before .before .before .before in
+    let v = c .before .before .before in
     let l = v .before .before in
     let b = l .before .before in
     let s = b .before .before in
     let q = rw (v .v .given .1) at (l .lowest-idle .ensures) in
-    let f = s .pre in
-    let r = f .granted _ (q .units _ _) in
-    record {
-      ready = f .ready;
-      flags = f .flags;
-      coded = record { book = f .book; row = f .says .rows _ (f .says .operator) };
-      offset = b .argument .ensures .1;
-      idle-unit = omega (arith, q .other, f .few);
-      other = r .0;
-      room = r .1;
-    }
+    let f = s .pre .1 in
+    let r = f .grant _ (q .units _) in (
+      s .pre .0 .0,
+      record { job = f .job; offset = b .argument .ensures .1; idle-unit = omega (arith, q .one, f .few); other = r .0; room = r .1 },
+    )
 
 keep-requires : tie.Need-keep-requires
 keep-requires c κs =
@@ -31,37 +24,24 @@ keep-requires c κs =
     let l = e .before .before in
     let b = l .before .before in
     let s = b .before .before in
-    let x = s .args in
-    let q = rw (e .enum-told .given .1) at (l .lowest-idle .ensures) in (
-      s .pre .ready,
-      b .argument .ensures .1,
-      fork-room (x .n) (x .u) (x .o) (x .a) (x .k) (x .c) (x .i) (b .argument .result) (s .pre .inside) (b .argument .ensures .0) (s .pre) (q .units _ _),
-    )
+    let q = rw (e .enum-told .given .1) at (l .lowest-idle .ensures) in
+    (s .pre .0 .0, record { job = s .pre .1 .job; offset = b .argument .ensures .1; room = s .pre .1 .keep (q .units _) })
 
 returns : tie.Need-returns
 returns c =
     let g = c .before .before in
-    let v = g .before .before .before .before .before in
+    let v = g .before .before .before .before in
     let l = v .before .before in
-    let b = l .before .before in
-    let s = b .before .before in
-    let x = s .args in
     let q = rw (v .v .given .1) at (l .lowest-idle .ensures) in
-    fork-grants (x .n) (x .u) (x .o) (x .a) (x .k) (x .c) (x .i) (b .argument .result) (s .pre .inside) (b .argument .ensures .0) _ (q .units _ _)
-    (g .grant .ensures)
+    fork-grants (l .before .before .argument .ensures .0) (q .units _) (g .grant .ensures)
 
 returns-2 : tie.Need-returns-2
 returns-2 c =
     let g = c .before .before in
     let e = g .before .before .before in
     let l = e .before .before in
-    let b = l .before .before in
-    let s = b .before .before in
-    let x = s .args in
     let q = rw (e .enum-told .given .1) at (l .lowest-idle .ensures) in
-    fork-keeps (x .n) (x .u) (x .o) (x .a) (x .k) (x .c) (x .i) (b .argument .result) (s .pre .inside) (b .argument .ensures .0)
-    (ready-area (s .pre .ready) (s .pre .flags)) (q .units _ _)
-    (g .keep .ensures)
+    fork-keeps (l .before .before .argument .ensures .0) (q .units _) (g .keep .ensures)
 
 pub fork-spec : {M : Type 1} → statement M
 fork-spec =

@@ -1,7 +1,6 @@
 -- `orders::give` meets its contract: two frames are put, and the unit is busy. Assumes nothing.
-use native.Mathlib.Omega.{arith}
 use borrow.Author.Needs.{needs}
-use Rattle.orders.proofs.Forks.{push-height, gave}
+use Rattle.orders.proofs.Forks.{second-room, gave}
 use Rattle.orders.proofs.give.Statement.{statement}
 use Rattle.orders.proofs.give.Tie as tie
 
@@ -9,13 +8,13 @@ push-requires-2 : tie.Need-push-requires-2
 push-requires-2 c κs =
     let p = c .before .before .before .before in
     let s = p .before .before .before .before in
-    (p .push .ensures _ (s .pre .0) .area .stacks, s .pre .1, omega (arith, push-height (s .pre .0 .stacks) (p .push .ensures), s .pre .4), search needs)
+    (second-room (s .pre .0) (p .push .ensures), search needs)
 
 returns : tie.Need-returns
 returns c =
-    let q = c .before .before .before .before .before in
+    let q = c .before .before .before .before in
     let p = q .before .before .before .before .before in
-    gave (p .before .before .before .before .pre .0) (p .push .ensures) (q .push2 .ensures) (c .wake-unit .ensures)
+    gave (p .push .ensures) (q .push2 .ensures) (c .wake-unit .ensures)
 
 pub give-spec : {M : Type 1} → statement M
 give-spec = tie.close (tie.spec (λ c κs. search needs) push-requires-2 (λ c κs. search needs) (λ c. search needs) returns)

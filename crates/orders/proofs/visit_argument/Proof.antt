@@ -1,6 +1,6 @@
 -- `orders::visit_argument` meets its contract: the job goes on, and the orders of the argument are put. Assumes nothing.
 use borrow.Author.Needs.{needs}
-use Rattle.orders.proofs.Changes.{argument-row, argument-room, visited-argument}
+use Rattle.orders.proofs.Changes.{argument-row, can-enter, argument-visited}
 use Rattle.orders.proofs.visit_argument.Statement.{statement}
 use Rattle.orders.proofs.visit_argument.Tie as tie
 
@@ -9,14 +9,10 @@ enter-requires c κs =
     let p = c .before .before .before .before in
     let o = p .before .before .before in
     let b = o .before in
-    let s = b .before .before in
-    let r = s .pre .room in (
-      p .proceed .ensures .stacks,
-      s .pre .ready .unit,
-      b .argument .ensures .1,
-      record { book = r .book; row = argument-row (r .holds) (s .pre .inside) (b .argument .ensures .0) (o .operator-at .ensures) },
-      argument-room (r .holds) (s .pre .inside) (b .argument .ensures .0) (o .operator-at .ensures)
-          (s .args .k) (s .args .c) (s .pre .ready .stacks) (p .proceed .ensures) (r .room),
+    let q = b .before .before .pre in
+    let a = b .argument .ensures in (
+      argument-row (q .0 .1 .place) _ _ (a .0) (o .operator-at .ensures) (q .0 .1 .rowed),
+      can-enter (q .0 .1 .place) _ _ (a .0) (o .operator-at .ensures) (q .1) (p .proceed .ensures) (a .1),
     )
 
 returns : tie.Need-returns
@@ -25,8 +21,7 @@ returns c =
     let p = e .before .before .before .before .before in
     let o = p .before .before .before in
     let b = o .before in
-    let s = b .before .before in
-    visited-argument (s .args .k) (s .args .c) (s .pre .inside) (b .argument .ensures .0) (o .operator-at .ensures) (p .proceed .ensures) (e .enter .ensures)
+    argument-visited (b .before .before .pre .0 .1 .place) _ _ (b .argument .ensures .0) (o .operator-at .ensures) (p .proceed .ensures) (e .enter .ensures)
 
 pub visit-argument-spec : {M : Type 1} → statement M
 visit-argument-spec =

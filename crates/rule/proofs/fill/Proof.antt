@@ -12,20 +12,20 @@ use Rattle.rule.proofs.fill.Statement.{statement}
 use Rattle.rule.proofs.fill.Tie as tie
 
 abbrev Inv-loop : tie.InvT-loop
-Inv-loop book at n arities symbols len starts sizes scratch₀ p₀ due₀ room₀ k₀ scratch p due room k =
-    (due + 255 * room ≤ 16321) × (k ≤ 1024) × (length scratch ≡ 1024) × Filling book at n arities (take len symbols) (binding starts sizes) p due room k scratch
+Inv-loop book at arities symbols len starts sizes scratch₀ p₀ due₀ room₀ k₀ scratch p due room k =
+    (due + 255 * room ≤ 16321) × (k ≤ 1024) × (length scratch ≡ 1024) × Filling book at arities (take len symbols) (binding starts sizes) p due room k scratch
 
 abbrev μ-loop : tie.MeasureT-loop
-μ-loop book at n arities symbols len starts sizes scratch₀ p₀ due₀ room₀ k₀ scratch p due room k = room
+μ-loop book at arities symbols len starts sizes scratch₀ p₀ due₀ room₀ k₀ scratch p due room k = room
 
 loop-holds : tie.Need-loop-holds Inv-loop μ-loop
-loop-holds c = (omega arith, omega arith, search needs, filling-starts _ _ _ _ _ _ _ (c .before .pre .5))
+loop-holds c = (omega arith, omega arith, search needs, filling-starts _ _ _ _ _ _ (c .before .pre .5))
 
 fill-one-requires : tie.Need-fill-one-requires Inv-loop μ-loop
 fill-one-requires c κs =
     let l = c .before .before .before in
     let p = l .before .before .pre in
-    (p .0, p .1, p .2, search needs, p .4, to-fill _ _ _ _ _ _ _ _ _ _ _ (l .loop .inv .3) (c .before .before .loop-test .taken))
+    (p .0, p .1, p .2, search needs, p .4, to-fill _ _ _ _ _ _ _ _ _ _ (l .loop .inv .3) (c .before .before .loop-test .taken))
 
 returns : tie.Need-returns Inv-loop μ-loop
 returns c = absurd (rw (c .enum-told .given .1) at (c .before .before .fill-one .ensures))
@@ -55,19 +55,19 @@ loop-again c =
       omega arith,
       s .1,
       s .2,
-      filling-went _ _ _ _ _ _ _ _ _ _ _ (l .loop .inv .3) _ _ _ _ _ _ (o .before .before .before .loop-test .taken) (l .loop .inv .2) s refl refl,
+      filling-went _ _ _ _ _ _ _ _ _ _ (l .loop .inv .3) _ _ _ _ _ _ (o .before .before .before .loop-test .taken) (l .loop .inv .2) s refl refl,
     )
 
 returns-2 : tie.Need-returns-2 Inv-loop μ-loop
 returns-2 c =
     let l = c .before .before in
     let i = l .loop .inv in
-    record { is = filling-ended _ _ _ _ _ _ _ _ _ _ _ (i .3) (inr (omega (arith, ltb-false 0 (l .loop .room) (c .if1 .left)))); most = i .1; long = i .2 }
+    record { is = filling-ended _ _ _ _ _ _ _ _ _ _ (i .3) (inr (omega (arith, ltb-false 0 (l .loop .room) (c .if1 .left)))); most = i .1; long = i .2 }
 
 returns-3 : tie.Need-returns-3 Inv-loop μ-loop
 returns-3 c =
     let i = c .before .loop .inv in
-    record { is = filling-ended _ _ _ _ _ _ _ _ _ _ _ (i .3) (inl (omega arith)); most = i .1; long = i .2 }
+    record { is = filling-ended _ _ _ _ _ _ _ _ _ _ (i .3) (inl (omega arith)); most = i .1; long = i .2 }
 
 pub fill-spec : {M : Type 1} → statement M
 fill-spec =

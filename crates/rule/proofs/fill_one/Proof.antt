@@ -12,7 +12,7 @@ use Rattle.rule.proofs.fill_one.Tie as tie
 element-write-scratch : tie.Need-element-write-scratch
 element-write-scratch c =
     let r = c .before .before .before in
-    room-operator _ _ _ _ _ _ _ (r .before .before .pre .5) _ _ (rw (c .before .o .given .1) at (r .symbol-at .ensures))
+    room-operator _ _ _ _ _ _ (r .before .before .pre .5) _ _ (rw (c .before .o .given .1) at (r .symbol-at .ensures))
 
 held-requires : tie.Need-held-requires
 held-requires c κs = rw (c .before .v .given .1) at (c .before .before .before .symbol-at .ensures .small)
@@ -29,7 +29,7 @@ room c =
     let s = r .before .before in
     let l = length-take-le (s .args .len) (s .args .symbols .now) (omega arith) in
     let w = subst (λ (n : ℕ). Within (binding (s .args .starts .now) (s .args .sizes .now)) n) (sym l) (s .pre .4) in
-    let m = room-variable _ _ _ _ _ _ _ (s .pre .5) _ _ (rw (v .v .given .1) at (r .symbol-at .ensures)) w in
+    let m = room-variable _ _ _ _ _ _ (s .pre .5) _ _ (rw (v .v .given .1) at (r .symbol-at .ensures)) w in
     omega (arith, h .held .ensures .0)
 
 inside : (c : tie.After-held2) → c .held2 .result + c .before .before .held .result ≤ c .before .before .before .before .before .before .before .before .args .len
@@ -48,7 +48,7 @@ returns c =
     let r = o .before .before in
     let s = r .before .before in
     let h = rw (o .o .given .1) at (r .symbol-at .ensures) in
-    filled-operator _ _ _ _ _ _ _ _ _ _ _ _ h (c .arity-of .ensures .0) (c .arity-of .ensures .1) (room-operator _ _ _ _ _ _ _ (s .pre .5) _ _ h) (s .pre .3) refl
+    filled-operator _ _ _ _ _ _ _ _ _ _ _ h (c .arity-of .ensures .0) (c .arity-of .ensures .1) (room-operator _ _ _ _ _ _ (s .pre .5) _ _ h) (s .pre .3) refl
 
 returns-2 : tie.Need-returns-2
 returns-2 c =
@@ -57,7 +57,7 @@ returns-2 c =
     let v = h .before .before in
     let r = v .before .before in
     let s = r .before .before in
-    filled-variable _ _ _ _ _ _ _ _ _ _ _ _ _ (s .args .len) (s .args .symbols .now) (rw (v .v .given .1) at (r .symbol-at .ensures)) (d .held2 .ensures .0) (h .held .ensures .0)
+    filled-variable _ _ _ _ _ _ _ _ _ _ _ _ (s .args .len) (s .args .symbols .now) (rw (v .v .given .1) at (r .symbol-at .ensures)) (d .held2 .ensures .0) (h .held .ensures .0)
     (room d) (inside d) (s .pre .2) (s .pre .1) (s .pre .3) refl (c .copy .ensures)
 
 pub fill-one-spec : {M : Type 1} → statement M

@@ -10,12 +10,12 @@ use Rattle.rule.proofs.filled_size.Statement.{statement}
 use Rattle.rule.proofs.filled_size.Tie as tie
 
 abbrev Inv-loop : tie.InvT-loop
-Inv-loop book at n arities sizes p₀ due₀ room₀ size₀ p due room size =
+Inv-loop book at arities sizes p₀ due₀ room₀ size₀ p due room size =
     (due + 255 * room ≤ 16321) × (size + 65535 * room ≤ 4194240)
-    × ((r : ℕ) → Sizes book p n arities sizes due room size r → Sizes book at n arities sizes 1 64 0 r)
+    × ((r : ℕ) → Sizes book p arities sizes due room size r → Sizes book at arities sizes 1 64 0 r)
 
 abbrev μ-loop : tie.MeasureT-loop
-μ-loop book at n arities sizes p₀ due₀ room₀ size₀ p due room size = room
+μ-loop book at arities sizes p₀ due₀ room₀ size₀ p due room size = room
 
 loop-holds : tie.Need-loop-holds Inv-loop μ-loop
 loop-holds c = (omega arith, omega arith, λ r a. a)
@@ -25,7 +25,7 @@ returns c =
     let o = c .before .before in
     let l = o .before .before .before in
     let s = rw (c .enum-told .given .1) at (o .size-one .ensures) in
-    sized _ _ _ _ _ _ (l .loop .inv .2 _ (sizes-stopped _ _ _ _ _ _ _ _ _ (o .before .before .loop-test .taken) s)) (omega arith)
+    sized _ _ _ _ _ (l .loop .inv .2 _ (sizes-stopped _ _ _ _ _ _ _ _ (o .before .before .loop-test .taken) s)) (omega arith)
 
 add-due : tie.Need-add-due Inv-loop μ-loop
 add-due c =
@@ -50,17 +50,17 @@ loop-again c =
     let m = s .0 in
     let k = s .1 in
     let t = ltb-true 0 (l .loop .room) (o .before .if1 .taken) in
-    (omega arith, omega arith, λ r a. l .loop .inv .2 r (sizes-went _ _ _ _ _ _ _ _ _ _ _ _ _ r (o .before .before .loop-test .taken) s refl refl a))
+    (omega arith, omega arith, λ r a. l .loop .inv .2 r (sizes-went _ _ _ _ _ _ _ _ _ _ _ _ r (o .before .before .loop-test .taken) s refl refl a))
 
 returns-2 : tie.Need-returns-2 Inv-loop μ-loop
 returns-2 c =
     let l = c .before .before in
-    sized _ _ _ _ _ _ (l .loop .inv .2 _ (sizes-ended _ _ _ _ _ _ _ _ (inr (omega (arith, ltb-false 0 (l .loop .room) (c .if1 .left)))))) (omega arith)
+    sized _ _ _ _ _ (l .loop .inv .2 _ (sizes-ended _ _ _ _ _ _ _ (inr (omega (arith, ltb-false 0 (l .loop .room) (c .if1 .left)))))) (omega arith)
 
 returns-3 : tie.Need-returns-3 Inv-loop μ-loop
 returns-3 c =
     let l = c .before in
-    sized _ _ _ _ _ _ (l .loop .inv .2 _ (sizes-ended _ _ _ _ _ _ _ _ (inl (omega arith)))) (omega arith)
+    sized _ _ _ _ _ (l .loop .inv .2 _ (sizes-ended _ _ _ _ _ _ _ (inl (omega arith)))) (omega arith)
 
 pub filled-size-spec : {M : Type 1} → statement M
 filled-size-spec =

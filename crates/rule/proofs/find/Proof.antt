@@ -10,17 +10,17 @@ use Rattle.rule.proofs.find.Statement.{statement}
 use Rattle.rule.proofs.find.Tie as tie
 
 abbrev Inv-loop : tie.InvT-loop
-Inv-loop book n arities lefts chain m symbols len offset starts₀ sizes₀ o due k₀ starts sizes k =
-    (k < 256) × (offset < length (take len symbols)) × Reaching book n arities lefts chain m (take len symbols) offset k
+Inv-loop book arities lefts chain m symbols len offset starts₀ sizes₀ o due k₀ starts sizes k =
+    (k < 256) × (offset < length (take len symbols)) × Reaching book arities lefts chain m (take len symbols) offset k
 
 abbrev μ-loop : tie.MeasureT-loop
-μ-loop book n arities lefts chain m symbols len offset starts₀ sizes₀ o due k₀ starts sizes k = ahead k
+μ-loop book arities lefts chain m symbols len offset starts₀ sizes₀ o due k₀ starts sizes k = ahead k
 
 returns : tie.Need-returns Inv-loop μ-loop
 returns c =
     let s = c .before .before .args in
     let l = length-take-le (s .len) (s .symbols .now) (omega arith) in
-    missed-end _ _ _ _ _ _ _ _ (omega arith)
+    missed-end _ _ _ _ _ _ _ (omega arith)
 
 loop-holds : tie.Need-loop-holds Inv-loop μ-loop
 loop-holds c =
@@ -30,7 +30,7 @@ loop-holds c =
     let i : s .offset < length (take (s .len) (s .symbols .now)) = omega arith in (
       c .wide2 .ensures .1,
       i,
-      reaching-first _ _ _ _ _ _ _ _ i _ _ (w .wide .ensures .0 ∙ sym (getD-take (s .len) (s .symbols .now) (s .offset) 0 (omega arith))) (w .wide .ensures .1)
+      reaching-first _ _ _ _ _ _ _ i _ _ (w .wide .ensures .0 ∙ sym (getD-take (s .len) (s .symbols .now) (s .offset) 0 (omega arith))) (w .wide .ensures .1)
           (c .wide2 .ensures .0),
     )
 
@@ -46,7 +46,7 @@ returns-2 : tie.Need-returns-2 Inv-loop μ-loop
 returns-2 c =
     let t = c .before .before .before in
     let l = t .before .before .before in
-    chosen _ _ _ _ _ _ _ _ _ _ _ _ _ (l .loop-test .taken) refl (l .before .loop .inv .2) (rw (c .before .end .given .1) at (t .try-rule .ensures))
+    chosen _ _ _ _ _ _ _ _ _ _ _ _ (l .loop-test .taken) refl (l .before .loop .inv .2) (rw (c .before .end .given .1) at (t .try-rule .ensures))
 
 next-rule-requires : tie.Need-next-rule-requires Inv-loop μ-loop
 next-rule-requires c κs = c .before .before .before .before .before .before .loop .inv .0
@@ -63,12 +63,12 @@ loop-again c =
     let i = l .before .loop .inv in (
       c .next-rule .ensures .small,
       i .1,
-      reaching-next _ _ _ _ _ _ _ _ (i .1) _ _ _ _ _ (l .loop-test .taken) refl (i .2) (rw (c .before .enum-told .given .1) at (t .try-rule .ensures))
+      reaching-next _ _ _ _ _ _ _ (i .1) _ _ _ _ _ (l .loop-test .taken) refl (i .2) (rw (c .before .enum-told .given .1) at (t .try-rule .ensures))
           (c .next-rule .ensures),
     )
 
 returns-3 : tie.Need-returns-3 Inv-loop μ-loop
-returns-3 c = missed _ _ _ _ _ _ _ _ (c .before .loop .k) (omega arith) (c .before .loop .inv .2)
+returns-3 c = missed _ _ _ _ _ _ _ (c .before .loop .k) (omega arith) (c .before .loop .inv .2)
 
 pub find-spec : {M : Type 1} → statement M
 find-spec =

@@ -19,7 +19,7 @@ returns c =
     let r = o .before .before in
     let p = r .before .before .pre in
     let l = length-take-le (r .before .before .args .len) (r .before .before .args .symbols .now) (omega arith) in
-    step-same _ _ _ _ _ _ _ _ _ (p .4) (p .5) _ _ (rw (o .o .given .1) at (r .symbol-at .ensures)) _
+    step-same _ _ _ _ _ _ _ _ (p .4) (p .5) _ _ (rw (o .o .given .1) at (r .symbol-at .ensures)) _
     (sym (c .before .before .stands .ensures) ∙ c .before .if1 .taken) (c .arity-of .ensures .0) (c .arity-of .ensures .1) (omega arith) (p .6)
 
 returns-2 : tie.Need-returns-2
@@ -27,7 +27,7 @@ returns-2 c =
     let o = c .before .before .before in
     let r = o .before .before in
     let p = r .before .before .pre in
-    step-other _ _ _ _ _ _ _ _ _ (p .4) (p .5) _ _ (rw (o .o .given .1) at (r .symbol-at .ensures)) (sym (c .before .stands .ensures) ∙ c .if1 .left)
+    step-other _ _ _ _ _ _ _ _ (p .4) (p .5) _ _ (rw (o .o .given .1) at (r .symbol-at .ensures)) (sym (c .before .stands .ensures) ∙ c .if1 .left)
 
 returns-3 : tie.Need-returns-3
 returns-3 c =
@@ -36,7 +36,7 @@ returns-3 c =
     let r = v .before .before in
     let p = r .before .before .pre in
     let a = r .before .before .args in
-    step-variable _ _ _ _ _ _ _ (a .starts .now) (a .sizes .now) (p .4) (p .5) _ _ _ _ _ (rw (v .v .given .1) at (r .symbol-at .ensures)) (k .skip .ensures .is) (k .skip .ensures .most) (p .6)
+    step-variable _ _ _ _ _ _ (a .starts .now) (a .sizes .now) (p .4) (p .5) _ _ _ _ _ (rw (v .v .given .1) at (r .symbol-at .ensures)) (k .skip .ensures .is) (k .skip .ensures .most) (p .6)
     (c .bind .ensures)
 
 pub match-one-spec : {M : Type 1} → statement M

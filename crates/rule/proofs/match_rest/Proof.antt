@@ -14,13 +14,13 @@ use Rattle.rule.proofs.match_rest.Statement.{statement}
 use Rattle.rule.proofs.match_rest.Tie as tie
 
 abbrev Inv-loop : tie.InvT-loop
-Inv-loop book at n arities symbols len offset due starts₀ sizes₀ p₀ q₀ owed₀ room₀ starts sizes p q owed room =
+Inv-loop book at arities symbols len offset due starts₀ sizes₀ p₀ q₀ owed₀ room₀ starts sizes p q owed room =
     (owed + 255 * room ≤ 16320) × (q ≤ len) × (length starts ≡ 16) × (length sizes ≡ 16) × Within (binding starts sizes) len
-    × ((r : Found) (b : Binding) → Answers book p n arities owed room (take len symbols) q (binding starts sizes) r b →
-    Answers book at n arities due 63 (take len symbols) offset (binding starts₀ sizes₀) r b)
+    × ((r : Found) (b : Binding) → Answers book p arities owed room (take len symbols) q (binding starts sizes) r b →
+    Answers book at arities due 63 (take len symbols) offset (binding starts₀ sizes₀) r b)
 
 abbrev μ-loop : tie.MeasureT-loop
-μ-loop book at n arities symbols len offset due starts₀ sizes₀ p₀ q₀ owed₀ room₀ starts sizes p q owed room = room
+μ-loop book at arities symbols len offset due starts₀ sizes₀ p₀ q₀ owed₀ room₀ starts sizes p q owed room = room
 
 loop-holds : tie.Need-loop-holds Inv-loop μ-loop
 loop-holds c = (omega arith, search needs, search needs, search needs, search needs, λ r b a. a)
@@ -30,7 +30,7 @@ returns c =
     let o = c .before .before in
     let l = o .before .before .before .before .before in
     let s = rw (c .enum-told .given .1) at (o .match-one .ensures) in (
-      l .loop .inv .5 _ _ (stopped _ _ _ _ _ _ _ _ _ _ (o .before .before .before .before .loop-test .taken) (s .is)),
+      l .loop .inv .5 _ _ (stopped _ _ _ _ _ _ _ _ _ (o .before .before .before .before .loop-test .taken) (s .is)),
       tt,
     )
 
@@ -61,20 +61,20 @@ loop-again c =
       s .starts-long,
       s .sizes-long,
       s .is .2,
-      λ r b a. l .loop .inv .5 r b (went _ _ _ _ _ _ _ _ _ _ _ _ _ _ _ _ r b (o .before .before .before .before .loop-test .taken) (s .is) refl refl a),
+      λ r b a. l .loop .inv .5 r b (went _ _ _ _ _ _ _ _ _ _ _ _ _ _ _ r b (o .before .before .before .before .loop-test .taken) (s .is) refl refl a),
     )
 
 returns-2 : tie.Need-returns-2 Inv-loop μ-loop
 returns-2 c =
     let l = c .before .before in
     let i = l .loop .inv in
-    (i .5 _ _ (ended _ _ _ _ _ _ _ _ _ (inr (omega (arith, ltb-false 0 (l .loop .room) (c .if1 .left))))), (i .4, i .1))
+    (i .5 _ _ (ended _ _ _ _ _ _ _ _ (inr (omega (arith, ltb-false 0 (l .loop .room) (c .if1 .left))))), (i .4, i .1))
 
 returns-3 : tie.Need-returns-3 Inv-loop μ-loop
 returns-3 c =
     let l = c .before in
     let i = l .loop .inv in
-    (i .5 _ _ (ended _ _ _ _ _ _ _ _ _ (inl (omega arith))), (i .4, i .1))
+    (i .5 _ _ (ended _ _ _ _ _ _ _ _ (inl (omega arith))), (i .4, i .1))
 
 pub match-rest-spec : {M : Type 1} → statement M
 match-rest-spec =

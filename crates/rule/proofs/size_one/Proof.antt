@@ -10,12 +10,12 @@ held-requires c κs = rw (c .before .v .given .1) at (c .before .before .before 
 returns : tie.Need-returns
 returns c =
     let o = c .before .before in
-    sized-operator _ _ _ _ (o .before .before .before .before .args .sizes .now) _ _ _ (rw (o .o .given .1) at (o .before .before .symbol-at .ensures)) (c .arity-of .ensures .0) (c .arity-of .ensures .1)
+    sized-operator _ _ _ (o .before .before .before .before .args .sizes .now) _ _ _ (rw (o .o .given .1) at (o .before .before .symbol-at .ensures)) (c .arity-of .ensures .0) (c .arity-of .ensures .1)
 
 returns-2 : tie.Need-returns-2
 returns-2 c =
     let v = c .before .before in
-    sized-variable _ _ _ _ (v .before .before .before .before .args .sizes .now) _ _ _ (rw (v .v .given .1) at (v .before .before .symbol-at .ensures)) (c .held .ensures .0) (c .held .ensures .1)
+    sized-variable _ _ _ (v .before .before .before .before .args .sizes .now) _ _ _ (rw (v .v .given .1) at (v .before .before .symbol-at .ensures)) (c .held .ensures .0) (c .held .ensures .1)
 
 pub size-one-spec : {M : Type 1} → statement M
 size-one-spec =

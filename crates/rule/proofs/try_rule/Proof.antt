@@ -36,7 +36,7 @@ returns c =
     let a = s .args .offset in
     let l = length-take-le n ys (omega arith) in
     let e = c .match-rest .ensures in
-    tried-rest _ _ _ _ _ _ _ _ _ _ _ _ _ (c .before .before .before .place .ensures .0)
+    tried-rest _ _ _ _ _ _ _ _ _ _ _ _ (c .before .before .before .place .ensures .0)
     (s .pre .5 ∙ ap (λ (o : ℕ). getD (s .args .arities .now) o 0) (sym (getD-take n ys a 0 (omega arith)))) (omega arith) (h .clear .ensures .is) (e .0) (e .1)
 
 pub try-rule-spec : {M : Type 1} → statement M

@@ -2,50 +2,47 @@
 use mathlib.Core.Path.{_≡_}
 use Prim.Native.Nat.{_*_, _-_, _≤_}
 use native.Mathlib.Omega.{arith}
-use lib.ListN.{getD}
 use borrow.Author.Needs.{needs}
 use denote.Ref.{now}
-use Rattle.stack.specs.Frames.{height}
-use Rattle.units.proofs.Loops.{Passed, passed-none, passed-rest, passed-more, passed-all}
+use Rattle.units.specs.Stacks.{height, height-in, store}
+use Rattle.units.proofs.Loops.{Shifted-below, below-none, below-rest, below-more, below-all}
 use Rattle.units.proofs.shift_units.Statement.{statement}
 use Rattle.units.proofs.shift_units.Tie as tie
 
 abbrev Inv-loop : tie.InvT-loop
-Inv-loop work₀ heights n a e k u₀ work u = (u ≤ n) × Passed work₀ heights u a e k work
+Inv-loop work₀ units n a e k u₀ work u = (u ≤ n) × Shifted-below u a e k (store work₀ units) work
 
 abbrev μ-loop : tie.MeasureT-loop
-μ-loop work₀ heights n a e k u₀ work u = n - u
+μ-loop work₀ units n a e k u₀ work u = n - u
 
 loop-holds : tie.Need-loop-holds Inv-loop μ-loop
-loop-holds c = (omega arith, passed-none _ _ _ _ _)
+loop-holds c = (omega arith, below-none)
 
 shift-stack-requires : tie.Need-shift-stack-requires Inv-loop μ-loop
 shift-stack-requires c κs =
-    let l = c .before .before .before .before .before in
+    let l = c .before .before .before .before in
     let s = l .before .before in
     let u = l .loop .u in
     let p = l .loop .inv .1 in
-    let e : c .before .before .base-of .result ≡ u * height = c .before .before .base-of .ensures in
-    let y : c .wide .result ≡ getD (now (s .args .heights)) u 0 = c .wide .ensures .0 in (
-      omega (arith, s .pre .0 .most u, s .pre .0 .bytes, p .kept .size),
-      rw (e, y, passed-rest _ _ _ _ _ _ _ p) (s .pre .2 u (c .before .before .before .before .loop-test .taken)),
+    let e : c .before .base-of .result ≡ u * height = c .before .base-of .ensures in
+    let y : c .height-of .result ≡ height-in (now (s .args .units)) u = c .height-of .ensures in (
+      omega (arith, s .pre .fit .most u, s .pre .fit .regions .bytes, p .outside .size),
+      rw (e, y, below-rest p) (s .pre .offsets u (c .before .before .before .loop-test .taken)),
     )
 
 loop-again : tie.Need-loop-again Inv-loop μ-loop
 loop-again c =
-    let w = c .before .before .before in
-    let l = w .before .before .before .before .before in
+    let h = c .before .before .before in
+    let l = h .before .before .before .before in
     let s = l .before .before in
-    let b = w .before .before .base-of .ensures in
-    (omega arith, passed-more _ _ _ _ _ _ _ (l .loop .inv .1) _ _ _ b (w .wide .ensures .0) (s .pre .0 .most) (c .before .before .shift-stack .ensures))
+    (omega arith, below-more (l .loop .inv .1) (h .before .base-of .ensures) (h .height-of .ensures) (s .pre .fit .most) (c .before .before .shift-stack .ensures))
 
 same-length : tie.Need-same-length Inv-loop μ-loop
-same-length c = c .before .loop .inv .1 .kept .size
+same-length c = c .before .loop .inv .1 .outside .size
 
 returns : tie.Need-returns Inv-loop μ-loop
-returns c = passed-all _ _ _ _ _ _ _ _ (omega arith) (c .before .before .before .pre .0) (c .before .loop .inv .1)
+returns c = below-all (c .before .before .before .pre .fit) (omega arith) (c .before .loop .inv .1)
 
 pub shift-units-spec : {M : Type 1} → statement M
 shift-units-spec =
-    tie.close (tie.spec Inv-loop μ-loop loop-holds (λ c κs. search needs) (λ c. search needs) (λ c. search needs) (λ c κs. search needs)
-    shift-stack-requires (λ c. search needs) (λ c. search needs) loop-again same-length returns)
+    tie.close (tie.spec Inv-loop μ-loop loop-holds (λ c κs. search needs) (λ c κs. search needs) shift-stack-requires (λ c. search needs) (λ c. search needs) loop-again same-length returns)

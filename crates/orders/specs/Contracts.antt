@@ -1,0 +1,177 @@
+-- What the orders of a unit ask and do, on the units as they are kept, by the machine on lists: ss are the steps of the term's operator, as the table
+-- has them, x is the job on top of unit u's stack, and s the work area with the cells, before and after. Assumes nothing.
+use mathlib.Core.Path.{_≡_}
+use mathlib.Core.Bool.{Bool, true, false}
+use mathlib.Core.List.{List, [], _∷_}
+use mathlib.Core.Logic.{_≢_}
+use mathlib.Core.Option.{Option, none, some}
+use Prim.Native.Nat.{ℕ, zero, suc, _+_, _-_, _≤_, _<_, pred}
+use lib.ListN.{length, getD, take, drop}
+use Rattle.paper.specs.Strategy.{Step}
+use Rattle.flat.specs.Symbols.{argument}
+use Rattle.flat.specs.Machine.{Frame, FlatUnit, flat-unit, next-count, proceed, arrive, idle}
+use Rattle.tables.specs.Layout.{arity-in, steps-in, Rowed}
+use Rattle.units.specs.Stacks.{height, height-in, Store, units-in, unit-in}
+use Rattle.units.specs.Contracts.{Stacks-fit, Has-frame, dropped, idled, at, Changed}
+use Rattle.units.specs.declared.frames.Job.{Job}
+use Rattle.units.specs.declared.frames.Exit.{Exit}
+
+-- STEPS
+
+-- whether there is a step
+abbrev pub is-some : List Step → Bool
+is-some [] = false
+is-some (s ∷ ss) = true
+
+-- r is the count of the next JOIN of the steps left
+pub record Counted (ss : List Step) (r : ℕ) : Type 0 where
+  pub is : r ≡ next-count ss
+  pub few : r < 8
+
+-- ARGUMENTS
+
+-- an argument: its offset, and the steps of its operator
+pub record Argument : Type 0 where
+  pub offset : ℕ
+  pub steps : List Step
+
+abbrev pub argument-at : List ℕ → List ℕ → ℕ → Argument
+argument-at operators xs b = record { offset = b; steps = steps-in operators (getD xs b 0) }
+
+-- argument i of the job's term, of the symbols xs
+abbrev pub argument-of : List ℕ → List ℕ → Job → ℕ → Argument
+argument-of operators xs x i = argument-at operators xs (argument (arity-in operators) xs (x .offset) i)
+
+-- it is inside of the first len symbols
+pub record Argument-inside (operators symbols : List ℕ) (len : ℕ) (x : Job) (i : ℕ) : Type 0 where
+  pub long : length symbols ≡ 1024
+  pub most : len ≤ 1024
+  pub offset : x .offset < len
+  pub inside : argument-of operators (take len symbols) x i .offset < len
+
+-- and its operator has a row
+pub record Argument-rowed (operators symbols : List ℕ) (len : ℕ) (x : Job) (i : ℕ) : Type 0 where
+  pub place : Argument-inside operators symbols len x i
+  pub rowed : Rowed operators (getD (take len symbols) (argument-of operators (take len symbols) x i .offset) 0)
+
+-- ONE STACK
+
+-- unit u's stack has been changed by f, and it is busy or idle as it was; there is room for what f makes of it
+abbrev pub restack : (List Frame → List Frame) → FlatUnit → FlatUnit
+restack f y = flat-unit (y .busy) (f (y .stack))
+
+abbrev pub Restacked : (List Frame → List Frame) → ℕ → Store → Store → Type 0
+Restacked f u s s′ = Changed u (restack f) s s′
+
+abbrev pub Room-for : (List Frame → List Frame) → ℕ → Store → Type 0
+Room-for f u s = length (f (unit-in s u .stack)) ≤ height
+
+-- the job on top goes on behind its next order, with count c
+abbrev pub goes-on : List Step → Job → ℕ → List Frame → List Frame
+goes-on ss x c fs = proceed (x .offset) (suc (x .next)) c (drop (x .next) ss) (drop 1 fs)
+
+-- a job's numbers, with the order behind its next, are kept in three bytes; there is a frame that it takes the place of
+pub record Can-proceed (x : Job) (u : ℕ) (s : Store) : Type 0 where
+  pub top : Has-frame s u 0
+  pub offset : x .offset < 1024
+  pub next : x .next ≤ 15
+  pub count : x .count < 64
+
+pub record Proceeded (ss : List Step) (x : Job) (u : ℕ) (s s′ : Store) : Type 0 where
+  pub change : Restacked (goes-on ss x (x .count)) u s s′
+
+-- the orders of the term at offset a are put: over the stack; in place of the top job (VISIT)
+abbrev pub enters : List Step → ℕ → List Frame → List Frame
+enters ss a fs = proceed a 1 (next-count ss) ss fs
+
+pub record Can-enter (ss : List Step) (a u : ℕ) (s : Store) : Type 0 where
+  pub fit : Stacks-fit s
+  pub unit : u < 8
+  pub offset : a < 1024
+  pub room : Room-for (enters ss a) u s
+
+pub record Entered (ss : List Step) (a u : ℕ) (s s′ : Store) : Type 0 where
+  pub change : Restacked (enters ss a) u s s′
+
+pub record Visited (ss : List Step) (a u : ℕ) (s s′ : Store) : Type 0 where
+  pub change : Restacked (λ (fs : List Frame). enters ss a (drop 1 fs)) u s s′
+
+-- VISIT of the argument p
+abbrev pub visits : List Step → Job → Argument → List Frame → List Frame
+visits ss x p fs = enters (p .steps) (p .offset) (goes-on ss x (x .count) fs)
+
+pub record Can-visit (ss : List Step) (x : Job) (p : Argument) (u : ℕ) (s : Store) : Type 0 where
+  pub job : Can-proceed x u s
+  pub room : Room-for (visits ss x p) u s
+
+pub record Argument-visited (ss : List Step) (x : Job) (p : Argument) (u : ℕ) (s s′ : Store) : Type 0 where
+  pub change : Restacked (visits ss x p) u s s′
+
+-- FORK of the term at offset b that is kept
+abbrev pub keeps : List Step → Job → ℕ → List Frame → List Frame
+keeps ss x b fs = Frame.job b 0 0 ∷ goes-on ss x (pred (x .count)) fs
+
+pub record Can-keep (ss : List Step) (x : Job) (b u : ℕ) (s : Store) : Type 0 where
+  pub job : Can-proceed x u s
+  pub offset : b < 1024
+  pub room : Room-for (keeps ss x b) u s
+
+pub record Argument-kept (ss : List Step) (x : Job) (b u : ℕ) (s s′ : Store) : Type 0 where
+  pub change : Restacked (keeps ss x b) u s s′
+
+-- UNITS
+
+-- JOIN by its count c
+abbrev pub joins : List Step → Job → ℕ → FlatUnit → FlatUnit
+joins ss x zero = restack (goes-on ss x (next-count (drop (x .next) ss)))
+joins ss x (suc c) = idled
+
+pub record Joined (ss : List Step) (x : Job) (u : ℕ) (s s′ : Store) : Type 0 where
+  pub change : Changed u (joins ss x (x .count)) s s′
+
+-- EXIT: the top frame goes, and it arrives at its JOIN's unit, which is another and has a frame with the index
+pub record Can-exit (x : Exit) (u : ℕ) (s : Store) : Type 0 where
+  pub top : Has-frame s u 0
+  pub join : Has-frame s (x .unit) (x .index)
+  pub other : x .unit ≢ u
+
+pub record Exited (x : Exit) (u : ℕ) (s s′ : Store) : Type 0 where
+  pub fit : Stacks-fit s′
+  pub units : (n : ℕ) → units-in s′ n ≡ at (x .unit) (arrive (x .index)) (at u dropped (units-in s n))
+
+-- FORK of the term at offset b that unit v gets, over an EXIT for the job at index i of unit u
+abbrev pub given : ℕ → ℕ → ℕ → FlatUnit → FlatUnit
+given u i b y = flat-unit true (Frame.job b 0 0 ∷ Frame.exit u i ∷ y .stack)
+
+-- by the answer of the search for an idle unit; h is the height of unit u's stack
+abbrev pub forks : List Step → Job → ℕ → ℕ → ℕ → List FlatUnit → Option ℕ → List FlatUnit
+forks ss x b u h us none = at u (restack (keeps ss x b)) us
+forks ss x b u h us (some v) = at v (given u (h - 1) b) (at u (restack (goes-on ss x (x .count))) us)
+
+abbrev pub grants : Option ℕ → Bool
+grants none = false
+grants (some v) = true
+
+-- unit v is another, and has room for two frames
+pub record Can-grant (x : Job) (b v u : ℕ) (s : Store) : Type 0 where
+  pub job : Can-proceed x u s
+  pub offset : b < 1024
+  pub idle-unit : v < 8
+  pub other : v ≢ u
+  pub room : height-in (s .cells) v + 2 ≤ height
+
+pub record Granted (ss : List Step) (x : Job) (b v u : ℕ) (s s′ : Store) : Type 0 where
+  pub fit : Stacks-fit s′
+  pub units : (n : ℕ) → units-in s′ n ≡ forks ss x b u (height-in (s .cells) u) (units-in s n) (some v)
+
+-- there is room on unit u's stack if no unit of n is idle, and for two frames on the idle unit's, which is another
+pub record Can-fork (ss : List Step) (x : Job) (p : Argument) (n u : ℕ) (s : Store) : Type 0 where
+  pub job : Can-proceed x u s
+  pub few : n ≤ 8
+  pub keep : idle (units-in s n) ≡ none → Room-for (keeps ss x (p .offset)) u s
+  pub grant : (v : ℕ) → idle (units-in s n) ≡ some v → (v ≢ u) × (height-in (s .cells) v + 2 ≤ height)
+
+pub record Forked (ss : List Step) (x : Job) (p : Argument) (n u : ℕ) (s s′ : Store) (r : Bool) : Type 0 where
+  pub fit : Stacks-fit s′
+  pub units : units-in s′ n ≡ forks ss x (p .offset) u (height-in (s .cells) u) (units-in s n) (idle (units-in s n))
+  pub answer : r ≡ grants (idle (units-in s n))
