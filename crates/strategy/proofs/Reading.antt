@@ -34,12 +34,12 @@ bind-refused {A} p k xs e h = ap (λ (x : Result (Read A)). then x (λ r. k (r .
 
 -- Items
 
--- the answer with some numbers in front
-abbrev pub prepend : List ℕ → Result (Read (List ℕ)) → Result (Read (List ℕ))
+-- the answer with some values in front
+abbrev pub prepend : {A : Type 0} → List A → Result (Read (List A)) → Result (Read (List A))
 prepend us (refused e) = refused e
 prepend us (accepted r) = accepted (record { value = us ++ r .value; left = r .left })
 
-prepend-none : (x : Result (Read (List ℕ))) → prepend [] x ≡ x
+pub prepend-none : {A : Type 0} (x : Result (Read (List A))) → prepend [] x ≡ x
 prepend-none (refused e) = refl
 prepend-none (accepted r) = refl
 
