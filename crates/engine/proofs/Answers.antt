@@ -13,12 +13,14 @@ use Rattle.paper.specs.Run.{Answer, run}
 use Rattle.paper.specs.Page.{Request, all-below, frame-fault, unless, run-checked, answerOf}
 use Rattle.paper.proofs.Readers.{refused-accepted}
 use Rattle.paper.proofs.Prefix.{read-prefix}
-use Rattle.book.proofs.Laws.{arity-at}
-use Rattle.term.specs.Line.{arity-in, Tables, judgement}
-use Rattle.term.specs.declared.Line as L
-use Rattle.term.proofs.Checking.{sound-accepted, refused-refused}
-use Rattle.entry.specs.Entry.{limits}
-use Rattle.engine.specs.Reduce.{published, values-of, request, answered, RunOf, Reduced, Opened}
+use Rattle.tables.specs.Layout.{arity-in}
+use Rattle.tables.specs.Tables.{book-of}
+use Rattle.line.specs.Line.{judgement}
+use Rattle.line.specs.declared.Line as L
+use Rattle.line.proofs.Checking.{sound-accepted, refused-refused}
+use Rattle.entry.specs.State.{limited}
+use Rattle.engine.specs.Spec.{published, values-of, request, answered, RunOf, Reduced}
+use Rattle.engine.specs.Contracts.{Opened}
 use Rattle.engine.specs.declared.Answer as D
 
 module _ (q : Request) where
@@ -67,7 +69,7 @@ module _ (q : Request) where
         by-schedule e = of-run ∙ rw (e, run-checked)
 
         pub by-run : all-below (q .units) (q .schedule) ≡ true →
-            answerOf published q ≡ accepted (run B (limits (q .budget)) (q .units) (q .schedule) t)
+            answerOf published q ≡ accepted (run B (limited (q .budget)) (q .units) (q .schedule) t)
         unfolding run-checked
         by-run e = of-run ∙ rw (e, run-checked)
 
@@ -85,16 +87,12 @@ refuses k e = record {
 
 -- THE LINE, by the check's judgement
 
-module _ {book line : List ℕ} {units budget : ℕ} {schedule work output arities laid lefts rights chain : List ℕ} {n m : ℕ}
-    (o : Opened book line units budget schedule work output arities laid lefts rights chain n m) where
-  in-line : Tables (o .rules) n arities
-  in-line = record { count = o .tables .operators .count; arities-are = arity-at (o .tables) }
+module _ {book operators rules : List ℕ} {n : ℕ} (o : Opened book operators rules n) (line : List ℕ) where
+  pub line-refused : (k : ℕ) → judgement n (arity-in operators) line ≡ L.Line.Refused k → readLine (book-of book) line ≡ refused k
+  line-refused k e = refused-refused (book-of book) (o .count) (o .tables .tables .operators-in) line k e
 
-  pub line-refused : (k : ℕ) → judgement n (arity-in arities) line ≡ L.Line.Refused k → readLine (o .rules) line ≡ refused k
-  line-refused k e = refused-refused (o .rules) n arities in-line line k e
-
-  pub line-accepted : judgement n (arity-in arities) line ≡ L.Line.Sound → (t : Term) × (readLine (o .rules) line ≡ accepted t)
-  line-accepted e = sound-accepted (o .rules) n arities in-line line e
+  pub line-accepted : judgement n (arity-in operators) line ≡ L.Line.Sound → (t : Term) × (readLine (book-of book) line ≡ accepted t)
+  line-accepted e = sound-accepted (book-of book) (o .count) (o .tables .tables .operators-in) line e
 
 -- WHAT STANDS BEHIND a book's first 65,536 bytes is not looked at
 

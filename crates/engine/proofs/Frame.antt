@@ -8,7 +8,8 @@ use native.Mathlib.Omega.{arith}
 use lib.Dec.{eqb, ltb}
 use borrow.Author.Tests.{lt-ltb, le-ltb, eq-eqb, ne-eqb, eqb-false, ltb-false}
 use Rattle.paper.specs.Page.{Request, frame-fault}
-use Rattle.engine.specs.Reduce.{published, fault-number, fault}
+use Rattle.engine.specs.Spec.{published}
+use Rattle.engine.specs.Contracts.{fault-number, fault}
 
 module _ (units work output : ℕ) where
   pub fault-none : units ≡ 0 → 13 ≡ fault units work output

@@ -6,7 +6,7 @@ use lib.ListN.{length, replicate}
 use Rattle.paper.specs.Result.{Result, refused, accepted}
 use Rattle.paper.specs.Run.{Answer}
 use Rattle.paper.specs.Page.{answerOf}
-use Rattle.engine.specs.Reduce.{published, values, values-of, answered, Reduced}
+use Rattle.engine.specs.Spec.{published, values, values-of, answered, Reduced}
 use Rattle.engine.specs.declared.Answer as D
 
 -- only the work area's length is asked with

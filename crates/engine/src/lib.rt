@@ -1,17 +1,19 @@
 // The entry point of a run: any book, line, units, budget, schedule, work area and output are taken. What is asked is checked in the order of
 // document 01's table, then the run is made; nothing lent is written before the last check has passed.
 use book::Book;
+use line::Line;
 use run::Run;
-use term::Line;
+use whole::Limits;
 ghost use mathlib.Core.List.{_++_};
 ghost use mathlib.Core.Path.{_≡_};
 ghost use Prim.Native.Nat.{ℕ, _≤_, _<_};
 ghost use lib.ListN.{length, take, drop};
 ghost use Rattle.paper.specs.Page.{all-below};
-ghost use Rattle.engine.specs.Reduce as R;
+ghost use Rattle.engine.specs.Spec as R;
+ghost use Rattle.engine.specs.Contracts as C;
 ghost use Rattle.engine.specs.declared.Answer as D;
 
-// The published length of the work area, and the length that an output must have; published in specs/Reduce is the same number.
+// The published length of the work area, and the length that an output must have; published in specs/Spec is the same number.
 pub const WORK: usize = 24624;
 
 pub const OUTPUT: usize = 1024;
@@ -26,12 +28,6 @@ pub enum Answer {
 struct Term {
     symbols: [u8; 1024],
     length: usize,
-}
-
-fn wide(x: u8) -> usize
-    ensures { λ r. ⌜ (r ≡ x) × (r < 256) ⌝ }
-{
-    x as usize
 }
 
 fn larger(x: u8, y: u8) -> u8
@@ -81,13 +77,8 @@ fn hand_out(symbols: &[u8; 1024], n: usize, output: &mut [u8])
 // The run of a line that is sound. The work area is cleared whole behind it.
 fn post(
     book: &[u8],
-    n: usize,
-    arities: &[u8; 256],
-    laid: &[u8; 4096],
-    lefts: &[u32; 256],
-    rights: &[u32; 256],
-    chain: &[u8; 768],
-    m: usize,
+    operators: &[u8; 4352],
+    rules: &[u32; 1024],
     line: &[u8],
     units: u8,
     budget: u32,
@@ -95,55 +86,49 @@ fn post(
     work: &mut [u8],
     output: &mut [u8],
 ) -> Run
-    requires { ⌜ (length (now book) ≤ 65536) × R.Framed (now book) (now line) units budget (now schedule) (now work) (now output) × R.Sounds (now book) (now line) units budget (now schedule) (now work) (now output) (now arities) (now laid) (now lefts) (now rights) (now chain) n m ⌝ }
-    ensures { λ r. ⌜ R.Reduced (now (book .entry)) (now (line .entry)) units budget (now (schedule .entry)) (now (work .entry)) (now (output .entry)) (now (work .exit)) (now (output .exit)) (D.Answer.Ran r) ⌝ }
+    requires { ⌜ C.Framed (now book) (now line) units budget (now schedule) (now work) (now output) ⌝ }
+    requires { ⌜ C.Checked (now book) (now operators) (now rules) (now line) units (now schedule) ⌝ }
+    ensures { λ r. ⌜ R.Reduced (now (book .entry)) (now (line .entry)) units budget (now (schedule .entry)) (now (work .entry)) (now (output .entry))
+        (now (work .exit)) (now (output .exit)) (D.Answer.Ran r) ⌝ }
 {
     let mut term = Term {
         symbols: [0; 1024],
         length: line.len(),
     };
     let mut scratch = [0; 1024];
-    let mut busy = [0; 8];
-    let mut heights = [0; 8];
+    let mut cells = [0; 8];
     load(&mut term.symbols, line);
     let length = term.length;
-    units::start(work, &mut busy, &mut heights);
+    units::start(work, &mut cells);
+    let limits = Limits {
+        units: casts::index(units),
+        budget,
+    };
     let run = run::run_schedule(
         book,
-        n,
-        arities,
-        laid,
-        lefts,
-        rights,
-        chain,
-        m,
+        operators,
+        rules,
         &mut term.symbols,
-        length,
         &mut scratch,
         work,
-        &mut busy,
-        &mut heights,
-        wide(units),
-        budget,
+        &mut cells,
+        length,
+        limits,
         schedule,
     );
     term.length = run.length;
     let length = term.length;
     hand_out(&term.symbols, length, output);
-    stack::clear(work);
+    units::clear(work);
     run
 }
 
-// A line, by the tables of a book that was read.
+// A line, by the tables of a book of n operators.
 fn reduce_line(
     book: &[u8],
+    operators: &[u8; 4352],
+    rules: &[u32; 1024],
     n: usize,
-    arities: &[u8; 256],
-    laid: &[u8; 4096],
-    lefts: &[u32; 256],
-    rights: &[u32; 256],
-    chain: &[u8; 768],
-    m: usize,
     line: &[u8],
     units: u8,
     budget: u32,
@@ -151,10 +136,12 @@ fn reduce_line(
     work: &mut [u8],
     output: &mut [u8],
 ) -> Answer
-    requires { ⌜ (length (now book) ≤ 65536) × R.Framed (now book) (now line) units budget (now schedule) (now work) (now output) × R.Opened (now book) (now line) units budget (now schedule) (now work) (now output) (now arities) (now laid) (now lefts) (now rights) (now chain) n m ⌝ }
-    ensures { λ r. ⌜ R.Reduced (now (book .entry)) (now (line .entry)) units budget (now (schedule .entry)) (now (work .entry)) (now (output .entry)) (now (work .exit)) (now (output .exit)) r ⌝ }
+    requires { ⌜ C.Framed (now book) (now line) units budget (now schedule) (now work) (now output) ⌝ }
+    requires { ⌜ C.Opened (now book) (now operators) (now rules) n ⌝ }
+    ensures { λ r. ⌜ R.Reduced (now (book .entry)) (now (line .entry)) units budget (now (schedule .entry)) (now (work .entry)) (now (output .entry))
+        (now (work .exit)) (now (output .exit)) r ⌝ }
 {
-    match term::check_line(line, n, arities) {
+    match line::check_line(line, n, operators) {
         Line::Refused(k) => Answer::Refused(k),
         Line::Sound => {
             if !names_units(schedule, units) {
@@ -162,13 +149,8 @@ fn reduce_line(
             }
             Answer::Ran(post(
                 book,
-                n,
-                arities,
-                laid,
-                lefts,
-                rights,
-                chain,
-                m,
+                operators,
+                rules,
                 line,
                 units,
                 budget,
@@ -190,32 +172,19 @@ fn reduce_book(
     work: &mut [u8],
     output: &mut [u8],
 ) -> Answer
-    requires { ⌜ (length (now book) ≤ 65536) × R.Framed (now book) (now line) units budget (now schedule) (now work) (now output) ⌝ }
-    ensures { λ r. ⌜ R.Reduced (now (book .entry)) (now (line .entry)) units budget (now (schedule .entry)) (now (work .entry)) (now (output .entry)) (now (work .exit)) (now (output .exit)) r ⌝ }
+    requires { ⌜ C.Framed (now book) (now line) units budget (now schedule) (now work) (now output) ⌝ }
+    ensures { λ r. ⌜ R.Reduced (now (book .entry)) (now (line .entry)) units budget (now (schedule .entry)) (now (work .entry)) (now (output .entry))
+        (now (work .exit)) (now (output .exit)) r ⌝ }
 {
-    let mut arities = [0u8; 256];
-    let mut laid = [0u8; 4096];
-    let mut lefts = [0u32; 256];
-    let mut rights = [0u32; 256];
-    let mut chain = [0u8; 768];
-    match book::read_book(
-        book,
-        &mut arities,
-        &mut laid,
-        &mut lefts,
-        &mut rights,
-        &mut chain,
-    ) {
+    let mut operators = [0u8; tables::OPERATORS];
+    let mut rules = [0u32; tables::RULES];
+    match book::read_book(book, &mut operators, &mut rules) {
         Book::Refused(k) => Answer::Refused(k),
-        Book::Read(n, m) => reduce_line(
+        Book::Read(n) => reduce_line(
             book,
+            &operators,
+            &rules,
             n,
-            &arities,
-            &laid,
-            &lefts,
-            &rights,
-            &chain,
-            m,
             line,
             units,
             budget,
@@ -228,7 +197,7 @@ fn reduce_book(
 
 // The refusal's number of the run's frame, or 0: 13, units not 1 to 8; 15, work area too short; 16, output too short.
 fn frame_fault(units: u8, work: usize, output: usize) -> u8
-    ensures { λ r. ⌜ r ≡ R.fault units work output ⌝ }
+    ensures { λ r. ⌜ r ≡ C.fault units work output ⌝ }
 {
     if units == 0 {
         return 13;
@@ -255,7 +224,8 @@ pub fn reduce(
     work: &mut [u8],
     output: &mut [u8],
 ) -> Answer
-    ensures { λ r. ⌜ R.Reduced (now (book .entry)) (now (line .entry)) units budget (now (schedule .entry)) (now (work .entry)) (now (output .entry)) (now (work .exit)) (now (output .exit)) r ⌝ }
+    ensures { λ r. ⌜ R.Reduced (now (book .entry)) (now (line .entry)) units budget (now (schedule .entry)) (now (work .entry)) (now (output .entry))
+        (now (work .exit)) (now (output .exit)) r ⌝ }
 {
     let fault = frame_fault(units, work.len(), output.len());
     if fault != 0 {

@@ -1,45 +1,32 @@
 -- FORK as an entry. Assumes nothing.
-use mathlib.Core.Path.{_≡_, refl, sym, ap, subst, _∙_}
+use mathlib.Core.Path.{_≡_, refl, sym, ap, subst, subst₂, _∙_}
 use mathlib.Core.Bool.{Bool, true, false}
 use mathlib.Core.List.{List, [], _∷_}
 use mathlib.Core.Logic.{_≢_}
 use mathlib.Core.Option.{Option, none, some}
-use Prim.Native.Nat.{ℕ, suc, _+_, _*_, _-_, _≤_, _<_, pred}
+use Prim.Native.Nat.{ℕ, suc, _+_, _-_, _≤_, _<_, pred}
 use native.Mathlib.Omega.{arith}
-use lib.ListN.{length, getD, take, drop, length-drop, length-set}
+use lib.ListN.{length, getD, drop, length-drop, length-set}
 use lib.ListN.{set as put}
 use lib.Seq.{getD-set-same}
 use Rattle.paper.specs.Strategy.{Step}
-use Rattle.paper.specs.Book.{Book, arity, steps}
-use Rattle.flat.specs.Symbols.{argument}
-use Rattle.flat.specs.Machine.{Frame, FlatUnit, flat-unit, asleep, FlatState, proceed, idle, idle-from, do-fork, do-step, flat-entry}
+use Rattle.paper.specs.Book.{arity, steps}
+use Rattle.flat.specs.Machine.{Frame, FlatUnit, flat-unit, asleep, FlatState, FlatOutcome, going, proceed, idle, idle-from, do-fork, do-step, flat-entry}
 use Rattle.flat.specs.Rules.{stack}
 use Rattle.flat.proofs.Inside.{fork-within}
-use Rattle.strategy.specs.Rows.{code}
-use Rattle.stack.specs.Frames.{height}
-use Rattle.stack.specs.Stacks.{stackOf}
-use Rattle.units.specs.Units.{units-of}
-use Rattle.orders.specs.Orders as O
-use Rattle.orders.proofs.Tables.{idle-other}
-use Rattle.orders.proofs.Entries.{counted-fork, fork-entry}
-use Rattle.entry.specs.Entry.{limits, Shows, Reaches, Ready, Working, Entered, forked}
-use Rattle.entry.specs.declared.Counts as C
-use Rattle.entry.specs.declared.Entry as D
-use Rattle.entry.proofs.Facts.{
-  units-count,
-  height-is,
-  room-after,
-  unit-is,
-  says,
-  says-kept,
-  stack-kept,
-  operator-there,
-  argument-there,
-  ready,
-  step-here,
-  entry-step,
-}
-use Rattle.entry.proofs.Answers.{T, with-area}
+use Rattle.tables.specs.Layout.{step-of, code-in, steps-in}
+use Rattle.units.specs.Stacks.{store, height-in, units-in}
+use Rattle.units.specs.declared.frames.Job.{Job}
+use Rattle.orders.specs.Contracts as O
+use Rattle.orders.proofs.Idle.{idle-other}
+use Rattle.orders.proofs.Tables.{argument-by, argument-said}
+use Rattle.orders.proofs.Entries as entries
+use Rattle.whole.specs.declared.Progress.{Progress}
+use Rattle.whole.specs.declared.Limits.{Limits}
+use Rattle.entry.specs.State.{state, Arrays}
+use Rattle.entry.specs.Contracts.{Running, Turn, Working, forked}
+use Rattle.entry.proofs.Facts as F
+use Rattle.entry.proofs.Orders as orders
 
 -- the unit that is found is one of them
 found-below : (k : ℕ) (us : List FlatUnit) (v : ℕ) → idle-from k us ≡ some v → v < k + length us
@@ -57,113 +44,97 @@ idle-below : (us : List FlatUnit) (v : ℕ) → 0 < length us → idle us ≡ so
 unfolding idle
 idle-below us v l e = omega (arith, found-below 1 (drop 1 us) v e, length-drop 1 us)
 
--- the counts behind a FORK
-forked-most : (c : C.Counts) (r : Bool) → forked c r ≤ suc (c .granted)
-forked-most c true = omega arith
-forked-most c false = omega arith
+module _ {bytes operators rules symbols scratch work units : List ℕ} {u : ℕ} {p : Progress} {l : Limits} (z : Arrays symbols scratch work units p l)
+    (r : Running bytes operators rules l (state symbols work units p l)) (t : Turn l u (state symbols work units p l)) {x : Job}
+    (w : Working work units u x) (one : 1 ≤ x .next) {i : ℕ} (e : some (Step.fork i) ≡ step-of (code-in operators (F.o z r t w) (x .next - 1))) where
+  abbrev s : FlatState
+  s = state symbols work units p l
 
-shows-forked : {symbols w y h w′ y′ h′ : List ℕ} {len units : ℕ} {c c′ : C.Counts} {s : FlatState} (r : Bool) → Shows symbols len w y h units c s →
-    c′ .rewrites ≡ c .rewrites → c′ .granted ≡ forked c r → Shows symbols len w′ y′ h′ units c′ (counted-fork s (units-of w′ y′ h′ units) r)
-shows-forked true S e f = record {
-  symbols-are = S .symbols-are;
-  units-are = refl;
-  rewrites-are = S .rewrites-are ∙ sym e;
-  granted-are = ap suc (S .granted-are) ∙ sym f;
-}
-shows-forked false S e f = record {
-  symbols-are = S .symbols-are;
-  units-are = refl;
-  rewrites-are = S .rewrites-are ∙ sym e;
-  granted-are = S .granted-are ∙ sym f;
-}
+  abbrev ss : List Step
+  ss = steps-in operators (F.o z r t w)
 
-module _ {bytes arities laid lefts rights chain : List ℕ} {n m budget : ℕ} {symbols scratch : List ℕ} {len : ℕ} {w y h : List ℕ} {units u : ℕ} {c : C.Counts}
-    (q : Ready (Reaches bytes arities laid lefts rights chain n m budget) symbols scratch len w y h units u c budget)
-    (o a k d : ℕ) (x : Working symbols w y h u o a k d) (i : ℕ) (f : i < 8) (g : getD laid (16 * o + (k - 1)) 0 ≡ 16 + i) where
-  code-is : getD laid (16 * o + (k - 1)) 0 ≡ code (Step.fork i)
-  unfolding code
-  code-is = g
+  abbrev fs : List Frame
+  fs = F.below z r t (w .busy) (w .top)
 
-  module _ (s : FlatState) (B : Book) (R : Reaches bytes arities laid lefts rights chain n m budget s B) (S : Shows symbols len w y h units c s) where
-    goes : flat-entry B (limits budget) u s ≡ do-step B (limits budget) u s a k d (Step.fork i ∷ drop k (steps B o)) (drop 1 (stack s u))
-    goes = entry-step (q .arrays) (q .one) R S o a k d (x .busy) (x .top) (x .operator) (x .order) (Step.fork i) f code-is
+  abbrev a : O.Argument
+  a = O.argument-of operators (s .symbols) x i
 
-    abbrev there : ℕ
-    there = argument (arity B) (s .symbols) a i
+  fork-there : i < arity (F.B z r t) (F.o z r t w)
+  fork-there =
+      fork-within (F.B z r t) (r .tables .tables .good) (F.o z r t w) (x .next - 1) i (drop (x .next) (steps (F.B z r t) (F.o z r t w)))
+      (F.operator-known z r t w) (F.step-is z r t w one e)
 
-    by-idle : (r : Option ℕ) → idle (units-of w y h units) ≡ r →
-        flat-entry B (limits budget) u s ≡ do-fork B (limits budget) u s a there k d (drop k (steps B o)) (drop 1 (stack s u)) r
-    unfolding do-step
-    by-idle r e = goes ∙ ap (do-fork B (limits budget) u s a there k d (drop k (steps B o)) (drop 1 (stack s u))) (ap idle (S .units-are) ∙ e)
+  pub fork-place : O.Argument-rowed operators symbols (p .length) x i
+  fork-place = orders.argument-asks z r t w one fork-there
 
-    inside : u < length (s .units)
-    inside = omega (arith, units-count (q .arrays) (q .one) R S, q .one)
+  there : argument-by (F.B z r t) (s .symbols) x i .offset < length (s .symbols)
+  there = omega (arith, orders.argument-there z r t w one fork-there, F.length-is z r t)
 
-    -- kept: the stack after the entry fits
-    kept-fits : idle (units-of w y h units) ≡ none →
-        length (O.keeps o a k d (argument (arity B) (take len symbols) a i) B (stackOf w (u * height) (getD h u 0))) ≤ 1026
-    unfolding do-fork
-    kept-fits e =
-        let fs = Frame.job there 0 0 ∷ proceed a (suc k) (pred d) (drop k (steps B o)) (drop 1 (stack s u)) in
-        let r = room-after (q .arrays) (q .one) R S
-        (record { symbols = s .symbols; units = put (s .units) u (flat-unit true fs); rewrites = s .rewrites; granted = s .granted; kept = suc (s .kept) })
-        (by-idle none e) u in
-        let p : length fs ≤ 1026 = omega (arith, r, ap (λ (z : FlatUnit). length (z .stack)) (getD-set-same (s .units) u (flat-unit true fs) asleep inside)) in
-        rw (stack-kept (q .arrays) (q .one) R S u (q .one)) p
+  said : a ≡ argument-by (F.B z r t) (s .symbols) x i
+  said = argument-said (r .tables .tables) (s .symbols) (r .known) x i there
 
-    -- granted: two frames more fit on the idle unit's stack
-    granted-fits : (v : ℕ) → idle (units-of w y h units) ≡ some v → (v ≢ u) × (getD h v 0 + 2 ≤ 1026)
-    unfolding do-fork
-    granted-fits v e =
-        let e′ : idle (s .units) ≡ some v = ap idle (S .units-are) ∙ e in
-        let l = idle-below (s .units) v (omega (arith, inside)) e′ in
-        let us = put (s .units) u (flat-unit true (proceed a (suc k) d (drop k (steps B o)) (drop 1 (stack s u)))) in
-        let y = flat-unit true (Frame.job there 0 0 ∷ Frame.exit u (length (drop 1 (stack s u))) ∷ stack s v) in
-        let r = room-after (q .arrays) (q .one) R S
-        (record { symbols = s .symbols; units = put us v y; rewrites = s .rewrites; granted = suc (s .granted); kept = s .kept })
-        (by-idle (some v) e) v in
-        let j = length-set (s .units) u (flat-unit true (proceed a (suc k) d (drop k (steps B o)) (drop 1 (stack s u)))) in (
-          idle-other (s .units) u v e′
-              (ap (λ (z : FlatUnit). z .busy) (unit-is (q .arrays) (q .one) R S (Frame.job a k d) (x .busy) (x .top))),
-          omega (
-            arith,
-            r,
-            ap (λ (z : FlatUnit). length (z .stack)) (getD-set-same us v y asleep (omega (arith, l, j))),
-            height-is (q .arrays) (q .one) R S v (omega (arith, l, units-count (q .arrays) (q .one) R S)),
-          ),
-        )
+  -- by the answer of the search for an idle unit
+  by-idle : (v : Option ℕ) → idle (s .units) ≡ v →
+      flat-entry (F.B z r t) (F.L z r t) u s ≡ do-fork (F.B z r t) (F.L z r t) u s (x .offset) (a .offset) (x .next) (x .count) (drop (x .next) ss) fs v
+  unfolding do-step
+  by-idle v q =
+      orders.step-entry z r t w one e
+      ∙ ap (λ (b : O.Argument). do-fork (F.B z r t) (F.L z r t) u s (x .offset) (b .offset) (x .next) (x .count) (drop (x .next) ss) fs (idle (s .units))) (sym said)
+      ∙ ap (do-fork (F.B z r t) (F.L z r t) u s (x .offset) (a .offset) (x .next) (x .count) (drop (x .next) ss) fs) q
 
-    forkable : O.Forkable arities laid symbols len units u o a k d i w y h
-    forkable = record {
-      ready = ready (q .arrays) (q .one) R S o a k d (x .busy) (x .top) (x .operator);
-      flags = q .arrays .area .flags;
-      few = q .arrays .few;
-      inside = argument-there (q .arrays) (q .one) R S o a k d (x .busy) (x .top) (x .operator) i
-          (fork-within B (R .tables .good) o (k - 1) i (drop k (steps B o)) (operator-there (q .arrays) (q .one) R S o a k d (x .busy) (x .top) (x .operator))
-          (step-here (q .arrays) (q .one) R S o a k d (x .busy) (x .top) (x .operator) (x .order) (Step.fork i) f code-is));
-      book = B;
-      says = says-kept (q .arrays) (q .one) R S o a k d (x .busy) (x .top) (x .operator);
-      kept = kept-fits;
-      granted = granted-fits;
-    }
+  inside : u < length (s .units)
+  inside = omega (arith, F.units-count z r t, t .one)
 
-  pub fork-asks : O.Forkable arities laid symbols len units u o a k d i w y h
-  fork-asks = forkable (q .state) (q .book) (q .reaches) (q .shows)
+  -- a unit's stack after the entry
+  stack-fits : (s′ : FlatState) (us : List FlatUnit) (v : ℕ) (y : FlatUnit) → flat-entry (F.B z r t) (F.L z r t) u s ≡ going s′ → s′ .units ≡ put us v y →
+      v < length us → length (y .stack) ≤ 1026
+  stack-fits s′ us v y q h m =
+      omega (arith, F.room-after z r t s′ q v, ap (λ (us : List FlatUnit). length (getD us v asleep .stack)) h, ap (λ (y : FlatUnit). length (y .stack)) (getD-set-same us v y asleep m))
 
-  pub fork-entered : {w′ y′ h′ : List ℕ} {r : Bool} → O.Forked arities laid (take len symbols) units u o a k d i w y h w′ y′ h′ r → (c′ : C.Counts) →
-      c′ .rewrites ≡ c .rewrites → c′ .granted ≡ forked c r →
-      Entered (T q) symbols len w y h units u c budget symbols scratch w′ y′ h′ (D.Entry.Going len c′)
-  fork-entered {w′} {y′} {h′} {r} p c′ e t = record {
-    is = λ s B R S. (
-      counted-fork s (units-of w′ y′ h′ units) r,
-      goes s B R S
-          ∙ fork-entry B (limits budget) u units s (q .arrays .area) (S .units-are) (q .one) (Frame.job a k d) (drop 1 (stack s u))
-          (unit-is (q .arrays) (q .one) R S (Frame.job a k d) (x .busy) (x .top)) o a k d i
-          (says (q .arrays) (q .one) R S o a k d (x .busy) (x .top) (x .operator))
-          (subst (λ (xs : List ℕ). O.Forked arities laid xs units u o a k d i w y h w′ y′ h′ r) (sym (S .symbols-are)) p),
-      shows-forked r S e t,
-    );
-    arrays = with-area (q .arrays) (p .area);
-    allowed = omega (arith, e, q .countable .allowed);
-    granted = omega (arith, t, forked-most c r);
-  }
+  -- kept: the stack after the entry fits
+  kept-fits : idle (s .units) ≡ none → O.Room-for (O.keeps ss x (a .offset)) u (store work units)
+  unfolding do-fork
+  kept-fits q =
+      subst (λ (gs : List Frame). length (O.keeps ss x (a .offset) gs) ≤ 1026) (sym (F.stack-kept z r t u (t .one)))
+      (stack-fits _ (s .units) u (flat-unit true (O.keeps ss x (a .offset) (stack s u))) (by-idle none q) refl inside)
+
+  -- granted: two frames more fit on the idle unit's stack
+  granted-fits : (v : ℕ) → idle (s .units) ≡ some v → (v ≢ u) × (height-in units v + 2 ≤ 1026)
+  unfolding do-fork
+  granted-fits v q =
+      let m = idle-below (s .units) v (omega (arith, inside)) q in
+      let us = put (s .units) u (flat-unit true (O.goes-on ss x (x .count) (stack s u))) in
+      let y = flat-unit true (Frame.job (a .offset) 0 0 ∷ Frame.exit u (length fs) ∷ stack s v) in
+      let h = stack-fits _ us v y (by-idle (some v) q) refl (omega (arith, m, length-set (s .units) u (flat-unit true (O.goes-on ss x (x .count) (stack s u))))) in
+      (
+        idle-other (s .units) u v q (ap (λ (b : FlatUnit). b .busy) (F.unit-is z r t (w .busy) (w .top))),
+        omega (arith, h, F.height-is z r t v (omega (arith, m, F.units-count z r t))),
+      )
+
+  pub fork-asks : O.Can-fork ss x a (l .units) u (store work units)
+  fork-asks = record { job = F.can-proceed z r t w; few = z .few; keep = kept-fits; grant = granted-fits }
+
+  -- the state behind a FORK is that of the counts behind it
+  counted : (work′ units′ : List ℕ) (g : Bool) → entries.counted-fork s (units-in (store work′ units′) (l .units)) g ≡ state symbols work′ units′ (forked p g) l
+  counted work′ units′ true = refl
+  counted work′ units′ false = refl
+
+  forked-arrays : {work′ units′ : List ℕ} (g : Bool) → Arrays symbols scratch work′ units′ p l → Arrays symbols scratch work′ units′ (forked p g) l
+  forked-arrays true h = record { symbols-long = h .symbols-long; scratch-long = h .scratch-long; most = h .most; fit = h .fit; few = h .few }
+  forked-arrays false h = record { symbols-long = h .symbols-long; scratch-long = h .scratch-long; most = h .most; fit = h .fit; few = h .few }
+
+  pub fork-entered : {work′ units′ : List ℕ} {g : Bool} → O.Forked ss x a (l .units) u (store work units) (store work′ units′) g → (p′ : Progress) → p′ ≡ forked p g →
+      (going (state symbols work′ units′ p′ l) ≡ flat-entry (F.B z r t) (F.L z r t) u s) × Arrays symbols scratch work′ units′ p′ l
+  fork-entered {work′} {units′} {g} d p′ h =
+      subst (λ (q : Progress). (going (state symbols work′ units′ q l) ≡ flat-entry (F.B z r t) (F.L z r t) u s) × Arrays symbols scratch work′ units′ q l) (sym h)
+      (
+        sym (
+          F.entry-is z r t (w .busy) (w .top)
+          ∙ entries.fork-entry (F.B z r t) (F.L z r t) u (l .units) s (store work units) refl (t .one) _ fs (F.unit-is z r t (w .busy) (w .top)) (r .tables .tables)
+          (r .known) x (omega (arith, F.offset-inside z r t w, F.length-is z r t)) one (omega (arith, F.next-most z r t w)) i
+          (subst (λ (q : ℕ). some (Step.fork i) ≡ step-of (code-in operators q (x .next - 1))) (sym (F.operator-is z r t w)) e) there
+          (subst (λ (q : ℕ). O.Forked (steps-in operators q) x a (l .units) u (store work units) (store work′ units′) g) (sym (F.operator-is z r t w)) d)
+          ∙ ap (λ (y : FlatState). going y) (counted work′ units′ g)
+        ),
+        forked-arrays g (record { symbols-long = z .symbols-long; scratch-long = z .scratch-long; most = z .most; fit = d .fit; few = z .few }),
+      )

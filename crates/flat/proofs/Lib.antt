@@ -18,3 +18,5 @@ pub mod Placing
 pub mod Rules
 pub mod Indices
 pub mod Inside
+pub mod Tallies
+pub mod Tops

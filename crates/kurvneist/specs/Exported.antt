@@ -5,7 +5,7 @@ use mathlib.Core.Path.{_≡_}
 use Prim.Native.Nat.{ℕ}
 use Rattle.paper.specs.Result.{Result, refused, accepted}
 use Rattle.paper.specs.Page.{ending-number}
-use Rattle.engine.specs.Reduce as R
+use Rattle.engine.specs.Spec as R
 use Rattle.engine.specs.declared.Answer as A
 use Rattle.writer.specs.Writing.{Answers}
 use Rattle.writer.specs.declared.Written as W

@@ -8,8 +8,8 @@ ghost use mathlib.Core.Path.{_≡_};
 ghost use mathlib.Core.List.{_∷_, []};
 ghost use lib.ListN.{length};
 ghost use Rattle.paper.specs.Page.{ending-number};
-ghost use Rattle.run.specs.Run.{ending};
-ghost use Rattle.engine.specs.Reduce.{published};
+ghost use Rattle.run.specs.Contracts.{ending};
+ghost use Rattle.engine.specs.Spec.{published};
 ghost use Rattle.kurvneist.specs.Exported as X;
 
 // The bytes of a work area.

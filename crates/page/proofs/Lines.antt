@@ -9,8 +9,8 @@ use Rattle.paper.specs.Result.{Result, refused, accepted, Read, then}
 use Rattle.paper.specs.Tree.{preorder}
 use Rattle.paper.specs.Run.{Answer}
 use Rattle.paper.specs.Page.{Request, frame-fault, run-checked, answerOf, read-request, ending-number, line, refused-word, end-word, rewrites-word, entries-word, granted-word, term-word, answer-lines, pageOf}
-use Rattle.run.specs.Run.{ending}
-use Rattle.engine.specs.Reduce as R
+use Rattle.run.specs.Contracts.{ending}
+use Rattle.engine.specs.Spec as R
 use Rattle.engine.specs.declared.Answer as A
 use Rattle.page.specs.Page.{Paged, asked, Put, fixed-line, lines, Fits}
 

@@ -8,7 +8,7 @@ use lib.Dec.{eqb}
 use lib.ListN.{length, getD, take, drop}
 use Rattle.paper.specs.Result.{Result, refused, accepted, Read, Reader, _>>=_}
 use Rattle.paper.specs.Page.{Request, number, read-bytes, read-number, read-request, ending-number, decimal, line, reduce-word, refused-word, end-word, rewrites-word, entries-word, granted-word, term-word, pageOf}
-use Rattle.run.specs.Run.{ending}
+use Rattle.run.specs.Contracts.{ending}
 use Rattle.run.specs.declared.Run as D
 use Rattle.engine.specs.declared.Answer as A
 use Rattle.page.specs.declared.Place as P

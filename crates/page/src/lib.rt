@@ -7,8 +7,8 @@ ghost use mathlib.Core.Path.{_≡_};
 ghost use Prim.Native.Nat.{_+_, _≤_, _<_};
 ghost use lib.ListN.{length, take, drop};
 ghost use Rattle.paper.specs.Page.{number, ending-number, spaced, line, term-word, answer-lines, answerOf};
-ghost use Rattle.run.specs.Run.{ending};
-ghost use Rattle.engine.specs.Reduce as R;
+ghost use Rattle.run.specs.Contracts.{ending};
+ghost use Rattle.engine.specs.Spec as R;
 ghost use Rattle.page.specs.Page as P;
 
 // The length that a page has room in.

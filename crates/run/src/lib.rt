@@ -1,11 +1,15 @@
 // The run over a schedule (document 01, 'How a run ends').
-use entry::Counts;
 use entry::Entry;
+use whole::Limits;
+use whole::Progress;
 ghost use mathlib.Core.Path.{_≡_};
-ghost use Prim.Native.Nat.{_≤_, _<_};
+ghost use Prim.Native.Nat.{_≤_};
 ghost use lib.ListN.{length};
-ghost use Rattle.entry.specs.Entry as E;
-ghost use Rattle.run.specs.Run as R;
+ghost use Rattle.flat.specs.Machine.{FlatState};
+ghost use Rattle.flat.specs.Run.{flat-run-from};
+ghost use Rattle.tables.specs.Tables.{book-of};
+ghost use Rattle.entry.specs.State as S;
+ghost use Rattle.run.specs.Contracts as R;
 
 // How a run ended.
 pub enum Ending {
@@ -15,99 +19,84 @@ pub enum Ending {
     Cut,
 }
 
-// What a run answers: its ending, rewrites made, entries used, FORKs granted, and the present term's length.
+// What a run answers: its ending, rewrites made, entries used, FORKs granted and kept, and the present term's length.
 pub struct Run {
     pub ending: Ending,
     pub rewrites: u32,
     pub entries: usize,
     pub granted: usize,
+    pub kept: usize,
     pub length: usize,
 }
 
-fn wide(x: u8) -> usize
-    ensures { λ r. ⌜ (r ≡ x) × (r < 256) ⌝ }
-{
-    x as usize
-}
-
 // A run that ended so after so many entries.
-fn after(ending: Ending, entries: usize, length: usize, counts: Counts) -> Run
-    ensures { λ r. ⌜ (r .ending ≡ ending) × (r .entries ≡ entries) × (r .length ≡ length) × (r .rewrites ≡ counts .rewrites) × (r .granted ≡ counts .granted) ⌝ }
+fn ended(ending: Ending, entries: usize, p: Progress) -> Run
+    ensures { λ r. ⌜ r ≡ R.ended ending entries p ⌝ }
 {
     Run {
         ending,
-        rewrites: counts.rewrites,
+        rewrites: p.rewrites,
         entries,
-        granted: counts.granted,
-        length,
+        granted: p.granted,
+        kept: p.kept,
+        length: p.length,
     }
 }
 
-// The run of a schedule from the first state: the present term is left in the symbols.
+// The run of a schedule from a term of so many symbols, with nothing counted yet: the present term is left in the symbols.
 pub fn run_schedule(
     book: &[u8],
-    n: usize,
-    arities: &[u8; 256],
-    laid: &[u8; 4096],
-    lefts: &[u32; 256],
-    rights: &[u32; 256],
-    chain: &[u8; 768],
-    m: usize,
+    operators: &[u8; 4352],
+    rules: &[u32; 1024],
     symbols: &mut [u8; 1024],
-    len: usize,
     scratch: &mut [u8; 1024],
     work: &mut [u8],
-    busy: &mut [u8; 8],
-    heights: &mut [u16; 8],
-    units: usize,
-    budget: u32,
+    units: &mut [u16; 8],
+    length: usize,
+    l: Limits,
     schedule: &[u8],
 ) -> Run
-    requires { ⌜ (length (now book) ≤ 65536) × R.Ready (E.Reaches (now book) (now arities) (now laid) (now lefts) (now rights) (now chain) n m budget) (now symbols) (now scratch) len (now work) (now busy) (now heights) units (now schedule) ⌝ }
-    ensures { λ r. ⌜ R.Ran (E.Reaches (now (book .entry)) (now (arities .entry)) (now (laid .entry)) (now (lefts .entry)) (now (rights .entry)) (now (chain .entry)) n m budget) (now (symbols .entry)) len (now (work .entry)) (now (busy .entry)) (now (heights .entry)) units budget (now (schedule .entry)) (now (symbols .exit)) r ⌝ }
+    ghost { FlatState }
+    requires { λ s. ⌜ S.state (now symbols) (now work) (now units) (R.beginning length) l ≡ s ⌝ }
+    requires { λ s. ⌜ S.Arrays (now symbols) (now scratch) (now work) (now units) (R.beginning length) l ⌝ }
+    requires { λ s. ⌜ R.Runnable (now book) (now operators) (now rules) l (now schedule) s ⌝ }
+    ensures { λ s r. ⌜ R.answer r (now (symbols .exit)) ≡ flat-run-from (book-of (now (book .entry))) (S.limited (l .budget)) 0 (now (schedule .entry)) s ⌝ }
+    ensures { λ s r. ⌜ R.Bounded l (now (schedule .entry)) (now (symbols .exit)) r ⌝ }
 {
-    let mut length = len;
-    let mut counts = Counts {
+    let mut p = Progress {
+        length,
         rewrites: 0,
         granted: 0,
+        kept: 0,
     };
     let mut i = 0;
     while i < schedule.len() {
         match entry::enter(
             book,
-            n,
-            arities,
-            laid,
-            lefts,
-            rights,
-            chain,
-            m,
+            operators,
+            rules,
             symbols,
-            length,
             scratch,
             work,
-            busy,
-            heights,
             units,
-            wide(schedule[i]),
-            counts,
-            budget,
+            casts::index(schedule[i]),
+            p,
+            l,
         ) {
-            Entry::Going(size, counted) => {
-                length = size;
-                counts = counted;
+            Entry::Going(next) => {
+                p = next;
             }
             Entry::Finished => {
-                return after(Ending::Finished, i + 1, length, counts);
+                return ended(Ending::Finished, i + 1, p);
             }
             Entry::Spent => {
-                return after(Ending::Spent, i + 1, length, counts);
+                return ended(Ending::Spent, i + 1, p);
             }
             Entry::Full => {
-                return after(Ending::Full, i + 1, length, counts);
+                return ended(Ending::Full, i + 1, p);
             }
         }
         i += 1;
     }
-    after(Ending::Cut, i, length, counts)
+    ended(Ending::Cut, i, p)
 }

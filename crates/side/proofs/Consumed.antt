@@ -1,4 +1,4 @@
--- Laws of the paper's reader: from bits below 2, a field, a symbol, a side and a rule are read off exactly their written form. Assumes nothing.
+-- Laws of the paper's reader: from bits below 2, a field, a symbol and a side are read off exactly their written form. Assumes nothing.
 use mathlib.Core.List.{List, _++_, append-assoc}
 use mathlib.Core.Logic.{inl, inr}
 use mathlib.Core.Path.{_≡_, refl, sym, ap, _∙_, subst}
@@ -105,20 +105,8 @@ module _ (ops : List Operator) (xs : List ℕ) (h : Bits xs) where
   right-off : (vs : List ℕ) → Ensures (Off write-side xs) (read-side ops (right-symbol vs) right-symbol xs)
   right-off vs = side-off ops right-symbol right-still (right-symbol vs) (right-still vs) xs h
 
-  pub symbol-consumed : (r : Read Symbol) → read-symbol ops xs ≡ accepted r → Off write-symbol xs r
-  symbol-consumed r e = ensures-at (symbol-off ops xs h) e
-
   pub left-consumed : (r : Read Side) → read-side ops left-root left-symbol xs ≡ accepted r → Off write-side xs r
   left-consumed r e = ensures-at left-off e
 
   pub right-consumed : (vs : List ℕ) (r : Read Side) → read-side ops (right-symbol vs) right-symbol xs ≡ accepted r → Off write-side xs r
   right-consumed vs r e = ensures-at (right-off vs) e
-
-pub rule-consumed : (ops : List Operator) (xs : List ℕ) → Bits xs → (r : Read Rule) → read-rule ops xs ≡ accepted r → Off write-rule xs r
-unfolding read-rule write-rule
-rule-consumed ops xs h r e =
-    ensures-at {P = Off write-rule xs}
-    (then-ensures _ (left-off ops xs h) λ (l : Read Side) f.
-    then-ensures _ (right-off ops (l .left) (f .1) (variables (preorder (l .value)))) λ (t : Read Side) g.
-    answer (joined xs (write-side (l .value)) (l .left) (write-side (t .value)) (t .left) (f .0) (g .0), g .1))
-    e

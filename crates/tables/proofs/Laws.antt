@@ -9,7 +9,7 @@ use Rattle.paper.specs.Strategy.{Step, layout}
 use Rattle.paper.specs.Book.{Operator, Book, arity, operatorAt, steps}
 use Rattle.paper.specs.Sound.{All, Within}
 use Rattle.paper.proofs.Operators.{good-within}
-use Rattle.paper.proofs.Rules.{GoodRule}
+use Rattle.paper.specs.WellFormed.{GoodRule}
 use Rattle.flat.specs.Machine.{next-count}
 use Rattle.flat.proofs.Lengths.{steps-most, counts-most}
 use Rattle.tables.specs.Layout.{row, arity-in, row-in, steps-in, AllFew, Rowed, left-in, right-in}

@@ -11,7 +11,7 @@ use Rattle.paper.specs.Strategy.{layout}
 use Rattle.paper.specs.Book.{Operator, Symbol, Rule, Book, operatorAt}
 use Rattle.paper.specs.Reader.{readBook}
 use Rattle.paper.specs.Writer.{concat, write-symbol}
-use Rattle.paper.proofs.Books.{GoodBook}
+use Rattle.paper.specs.WellFormed.{GoodBook}
 use Rattle.tables.specs.Layout.{row, arity-in, row-in, first-in, next-in, left-in, right-in}
 
 -- THE BOOK

@@ -1,22 +1,48 @@
 -- `engine::reduce_book` meets its contract, by the laws of Answers. Assumes nothing.
 use borrow.Author.Needs.{needs}
+use mathlib.Core.Path.{refl}
 use Rattle.engine.proofs.Answers.{by-book, refuses}
 use Rattle.engine.proofs.reduce_book.Statement.{statement}
 use Rattle.engine.proofs.reduce_book.Tie as tie
 
+read-book-requires : tie.Need-read-book-requires
+read-book-requires c κs = (c .before .before .before .before .before .before .before .pre .short, refl, ?)
+
+enum-known-k : tie.Need-enum-known-k
+enum-known-k c = search needs
+
+enum-known-n : tie.Need-enum-known-n
+enum-known-n c = search needs
+
 reduce-line-requires : tie.Need-reduce-line-requires
 reduce-line-requires c κs =
-    let p = c .before .before .before .before .before .before .before .before .before .before .before .before .before .before .before .before .before .before .before .before .before .pre in
-    let b = rw (c .before .before .before .before .before .before .before .before .n .given .1) at (c .before .before .before .before .before .before .before .before .before .before .read-book .ensures) in
-    (p .0, p .1, record { rules = b .is .book; book-read = b .is .is; tables = b .is .tables })
+    let b = c .before .before .before .before .before .before .before in
+    let is = rw (c .before .before .before .before .before .n .given .1) at (b .read-book .ensures .is) in
+    (b .before .before .before .before .before .before .before .before .pre, record { tables = is .0; count = is .1 })
 
 returns : tie.Need-returns
 returns c =
-    let b = rw (c .before .k .given .1) at (c .before .before .before .read-book .ensures) in
-    refuses _ (by-book _ (c .before .before .before .before .before .before .before .before .before .before .before .before .before .before .pre .1) _ (b .is))
+    let b = c .before .before .before in
+    refuses _ (by-book _ (b .before .before .before .before .before .before .before .before .pre .faultless) _ (rw (c .before .k .given .1) at (b .read-book .ensures .is)))
+
+same-length : tie.Need-same-length
+same-length c = search needs
+
+same-length-2 : tie.Need-same-length-2
+same-length-2 c = search needs
+
+returns-2 : tie.Need-returns-2
+returns-2 c = search needs
 
 pub reduce-book-spec : {M : Type 1} → statement M
 reduce-book-spec =
     tie.close
-    (tie.spec (λ c κs. search needs) (λ c. search needs) (λ c. search needs) reduce-line-requires returns (λ c. search needs)
-    (λ c. search needs) (λ c. search needs))
+    (tie.spec
+    read-book-requires
+    enum-known-k
+    enum-known-n
+    reduce-line-requires
+    returns
+    same-length
+    same-length-2
+    returns-2)

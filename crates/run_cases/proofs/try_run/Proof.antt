@@ -7,7 +7,7 @@ use lib.ListN.{length, drop, length-append}
 use Rattle.paper.specs.Result.{Result, refused, accepted}
 use Rattle.paper.specs.Tree.{preorder}
 use Rattle.paper.specs.Run.{Answer}
-use Rattle.engine.specs.Reduce as R
+use Rattle.engine.specs.Spec as R
 use Rattle.engine.specs.declared.Answer as D
 use borrow.Author.Needs.{needs}
 use Rattle.run_cases.proofs.try_run.Statement.{statement}

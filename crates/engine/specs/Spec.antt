@@ -1,8 +1,7 @@
 -- The entry point of a run: which definition its answer equals, and what becomes of the lent buffers (document 01, 'What is checked where', 'How a
 -- run ends', 'What a reviewer will try, in order'). Assumes nothing.
 use mathlib.Core.Bool.{true}
-use mathlib.Core.List.{List, [], _++_}
-use mathlib.Core.Option.{Option, none, some}
+use mathlib.Core.List.{List, _++_}
 use mathlib.Core.Path.{_≡_}
 use Prim.Native.Nat.{ℕ, _≤_}
 use lib.ListN.{length, drop, replicate}
@@ -16,10 +15,9 @@ use Rattle.paper.specs.Machine.{Ending}
 use Rattle.paper.specs.Run.{Answer, run}
 use Rattle.paper.specs.OneUnit.{Grants}
 use Rattle.paper.specs.Demand3.{Demand3}
-use Rattle.paper.specs.Page.{Request, all-below, frame-fault, answerOf}
-use Rattle.book.specs.Tables.{Tables}
-use Rattle.entry.specs.Entry.{limits}
-use Rattle.run.specs.Run.{ending}
+use Rattle.paper.specs.Page.{Request, all-below, answerOf}
+use Rattle.entry.specs.State.{limited}
+use Rattle.run.specs.Contracts.{ending}
 use Rattle.engine.specs.declared.Answer as D
 
 -- the published length of the work area: eight stacks of 1,026 frames of three bytes
@@ -74,9 +72,9 @@ module _ (book line : List ℕ) (units budget : ℕ) (schedule work output : Lis
     pub book-read : readBook book ≡ accepted rules
     pub line-read : readLine rules line ≡ accepted term
     pub units-named : all-below units schedule ≡ true
-    pub is : A ≡ run rules (limits budget) units schedule term
+    pub is : A ≡ run rules (limited budget) units schedule term
     -- demand 3 of this run, whole
-    pub demand-3 : Demand3 rules (limits budget) units schedule term
+    pub demand-3 : Demand3 rules (limited budget) units schedule term
     -- a posting: term and rewrites of a finished run are those of reduction one after the other
     pub posting : A .ending ≡ Ending.finished → Reduces rules rewrites term (A .rewrites) (A .term)
     -- FORKs granted in a finished run are at most the FORK orders of a one-unit run without symbol limit
@@ -100,31 +98,3 @@ module _ (book line : List ℕ) (units budget : ℕ) (schedule work output : Lis
     pub written : (A : Answer) → answered ≡ accepted A → output′ ≡ preorder (A .term) ++ drop (length (preorder (A .term))) output
     -- the answer is that of a run, of which demand 3 holds
     pub run-of : (A : Answer) → answered ≡ accepted A → RunOf A
-
-  -- PARTS
-
-  -- the run's frame is without fault
-  abbrev pub Framed : Type 0
-  Framed = frame-fault published request ≡ none
-
-  -- the book is read, and these are its tables
-  pub record Opened (arities laid lefts rights chain : List ℕ) (n m : ℕ) : Type 0 where
-    pub rules : Book
-    pub book-read : readBook book ≡ accepted rules
-    pub tables : Tables book arities laid lefts rights chain n m rules
-
-  -- the line is a term of that book, and the schedule names the units
-  pub record Sounds (arities laid lefts rights chain : List ℕ) (n m : ℕ) : Type 0 where
-    pub opened : Opened arities laid lefts rights chain n m
-    pub term : Term
-    pub line-read : readLine (opened .rules) line ≡ accepted term
-    pub units-named : all-below units schedule ≡ true
-
--- the number of the frame's refusal, by the numbers that are looked at, or 0
-abbrev pub fault-number : Option ℕ → ℕ
-fault-number none = 0
-fault-number (some k) = k
-
-abbrev pub fault : ℕ → ℕ → ℕ → ℕ
-fault units work output =
-    fault-number (frame-fault published (record { book = []; line = []; units = units; budget = 0; schedule = []; work = work; output = output }))

@@ -1,0 +1,205 @@
+-- Entries that leave the term and the counts as they are: an idle unit's, BINGO's, VISIT's, JOIN's, EXIT's, SLEEP's, and WHOLE's with no match. What the
+-- code asks holds of each state that runs reach, and what it leaves is the machine's outcome. Assumes nothing.
+use mathlib.Core.Path.{_≡_, refl, sym, ap, subst, subst₂, _∙_}
+use mathlib.Core.Bool.{Bool, true, false}
+use mathlib.Core.List.{List, _∷_}
+use mathlib.Core.Option.{some}
+use Prim.Native.Nat.{ℕ, zero, suc, _-_, _≤_, _<_}
+use native.Mathlib.Omega.{arith}
+use lib.ListN.{length, getD, take, drop}
+use lib.Seq.{getD-set-same}
+use Rattle.paper.specs.Strategy.{Step}
+use Rattle.paper.specs.Book.{arity, steps}
+use Rattle.paper.specs.Machine.{Ending}
+use Rattle.flat.specs.Symbols.{Hit, argument, rewrite}
+use Rattle.flat.specs.Machine.{Frame, FlatUnit, flat-unit, asleep, unit, FlatState, going, ended, with-unit, with-units, carry-out, flat-entry, do-step, visit}
+use Rattle.flat.specs.Rules.{stack}
+use Rattle.flat.proofs.Inside.{argument-inside, visit-within, exit-unit}
+use Rattle.tables.specs.Layout.{step-of, code-in, steps-in, Rowed}
+use Rattle.units.specs.Stacks.{store, busy-in, units-in, unit-in}
+use Rattle.units.specs.Contracts.{Top-is, Stacks-fit, Has-frame, Cell-changed, idled}
+use Rattle.units.specs.declared.frames.Job.{Job}
+use Rattle.units.specs.declared.frames.Exit.{Exit}
+use Rattle.orders.specs.Contracts as O
+use Rattle.orders.proofs.Tables.{argument-by, argument-place, argument-said}
+use Rattle.orders.proofs.Entries as entries
+use Rattle.whole.specs.declared.Progress.{Progress}
+use Rattle.whole.specs.declared.Limits.{Limits}
+use Rattle.entry.specs.State.{state, Arrays}
+use Rattle.entry.specs.Contracts.{Running, Turn, Working}
+use Rattle.entry.proofs.Facts as F
+
+module _ {bytes operators rules symbols scratch work units : List ℕ} {u : ℕ} {p : Progress} {l : Limits} (z : Arrays symbols scratch work units p l)
+    (r : Running bytes operators rules l (state symbols work units p l)) (t : Turn l u (state symbols work units p l)) where
+  abbrev s : FlatState
+  s = state symbols work units p l
+
+  -- the run goes on from other units
+  abbrev pub GoesOn : List ℕ → List ℕ → Type 0
+  GoesOn work′ units′ = (going (state symbols work′ units′ p l) ≡ flat-entry (F.B z r t) (F.L z r t) u s) × Arrays symbols scratch work′ units′ p l
+
+  pub went-on : {work′ units′ : List ℕ} → Stacks-fit (store work′ units′) →
+      flat-entry (F.B z r t) (F.L z r t) u s ≡ going (with-units s (units-in (store work′ units′) (l .units))) → GoesOn work′ units′
+  went-on fit e =
+      (sym e, record { symbols-long = z .symbols-long; scratch-long = z .scratch-long; most = z .most; fit = fit; few = z .few })
+
+  -- an idle unit
+  pub stayed : busy-in units u ≡ false → GoesOn work units
+  stayed e = (sym (F.idle-entry z r t e), z)
+
+  -- BINGO
+  pub finished : busy-in units u ≡ true → Top-is u Frame.bingo (store work units) →
+      (ended Ending.finished s ≡ flat-entry (F.B z r t) (F.L z r t) u s) × Arrays symbols scratch work units p l
+  unfolding carry-out
+  finished b top = (sym (F.entry-is z r t b top), z)
+
+  -- SLEEP
+  pub slept : busy-in units u ≡ true → Top-is u Frame.sleep (store work units) → {units′ : List ℕ} → Cell-changed u idled units units′ → GoesOn work units′
+  slept b top d =
+      went-on (d .change work (z .fit) .fit)
+      (F.entry-is z r t b top
+      ∙ entries.sleep-entry (F.B z r t) (F.L z r t) u (l .units) s (store work units) refl (t .one) Frame.sleep (F.below z r t b top) (F.unit-is z r t b top) refl
+      (z .fit) d)
+
+  -- EXIT
+  module _ {x : Exit} (b : busy-in units u ≡ true) (top : Top-is u (Frame.exit (x .unit) (x .index)) (store work units)) where
+    pub exit-asks : O.Can-exit x u (store work units)
+    exit-asks =
+        let q = F.rules-hold z r t in
+        let i = F.top-in z r t b top in
+        let e = q .exits u (x .unit) (x .index) i in
+        let h : x .unit < l .units = omega (arith, exit-unit q u (x .unit) (x .index) i, F.units-count z r t) in
+        record {
+          top = F.has-frame z r t;
+          join = record { fit = z .fit; unit = omega (arith, h, z .few); index = omega (arith, e .1, F.height-is z r t (x .unit) h) };
+          other = e .0;
+        }
+
+    pub exited : {work′ units′ : List ℕ} → O.Exited x u (store work units) (store work′ units′) → GoesOn work′ units′
+    exited d =
+        went-on (d .fit)
+        (F.entry-is z r t b top
+        ∙ entries.exit-entry (F.B z r t) (F.L z r t) u (l .units) s (store work units) refl (t .one) _ (F.below z r t b top) (F.unit-is z r t b top) {x = x} d)
+
+  -- A JOB
+
+  module _ {x : Job} (w : Working work units u x) where
+    abbrev o : ℕ
+    o = F.o z r t w
+
+    abbrev fs : List Frame
+    fs = F.below z r t (w .busy) (w .top)
+
+    inside : x .offset < length (s .symbols)
+    inside = omega (arith, F.offset-inside z r t w, F.length-is z r t)
+
+    -- what is known of the table at the job's operator, read in the symbols as they are kept
+    by-operator : (P : ℕ → Type 0) → P o → P (getD (s .symbols) (x .offset) 0)
+    by-operator P h = subst P (sym (F.operator-is z r t w)) h
+
+    -- VISIT of its own term
+    pub visit-asks : Rowed operators o × Has-frame (store work units) u 0 × (x .offset < 1024)
+    visit-asks = (F.rowed z r t w, F.has-frame z r t, omega (arith, F.offset-inside z r t w, z .most))
+
+    pub visited : x .next ≡ 0 → {work′ units′ : List ℕ} → O.Visited (steps-in operators o) (x .offset) u (store work units) (store work′ units′) → GoesOn work′ units′
+    visited none {work′} {units′} d =
+        went-on (d .change .fit)
+        (F.entry-is z r t (w .busy) (w .top)
+        ∙ ap (λ (k : ℕ). carry-out (F.B z r t) (F.L z r t) u s fs (Frame.job (x .offset) k (x .count))) none
+        ∙ entries.visit-entry (F.B z r t) (F.L z r t) u (l .units) s (store work units) refl (t .one) _ fs (F.unit-is z r t (w .busy) (w .top)) (r .tables .tables)
+        (r .known) (x .offset) (x .count) inside
+        (by-operator (λ (q : ℕ). O.Visited (steps-in operators q) (x .offset) u (store work units) (store work′ units′)) d))
+
+    -- its next step, as the table has it
+    module _ (one : 1 ≤ x .next) where
+      pub step-entry : {y : Step} → some y ≡ step-of (code-in operators o (x .next - 1)) →
+          flat-entry (F.B z r t) (F.L z r t) u s ≡
+          do-step (F.B z r t) (F.L z r t) u s (x .offset) (x .next) (x .count) (y ∷ drop (x .next) (steps-in operators o)) fs
+      step-entry {y} e =
+          F.entry-is z r t (w .busy) (w .top)
+          ∙ entries.step-entry (F.B z r t) (F.L z r t) u (l .units) s (store work units) refl (t .one) _ fs (F.unit-is z r t (w .busy) (w .top)) (r .tables .tables)
+          (r .known) x inside one (omega (arith, F.next-most z r t w)) y (by-operator (λ (q : ℕ). some y ≡ step-of (code-in operators q (x .next - 1))) e)
+          ∙ ap (λ (q : ℕ). do-step (F.B z r t) (F.L z r t) u s (x .offset) (x .next) (x .count) (y ∷ drop (x .next) (steps-in operators q)) fs)
+          (F.operator-is z r t w)
+
+      -- a stack that the machine gives unit u fits
+      pub next-fits : (b : Bool) (gs : List Frame) → flat-entry (F.B z r t) (F.L z r t) u s ≡ going (with-unit s u b gs) → length gs ≤ 1026
+      next-fits b gs e =
+          omega (
+            arith,
+            F.room-after z r t (with-unit s u b gs) e u,
+            ap (λ (y : FlatUnit). length (y .stack))
+                (getD-set-same (s .units) u (flat-unit b gs) asleep (omega (arith, F.units-count z r t, t .one))),
+          )
+
+      -- argument i of its term, if it has one
+      module _ {i : ℕ} (there : i < arity (F.B z r t) o) where
+        pub argument-there : argument-by (F.B z r t) (s .symbols) x i .offset < p .length
+        argument-there =
+            omega (
+              arith,
+              F.length-is z r t,
+              argument-inside (arity (F.B z r t)) (s .symbols) (x .offset) i (F.rules-hold z r t .term) inside (by-operator (λ (q : ℕ). i < arity (F.B z r t) q) there),
+            )
+
+        pub argument-asks : O.Argument-rowed operators symbols (p .length) x i
+        argument-asks =
+            argument-place (r .tables .tables) symbols (p .length) x i (r .known) (z .symbols-long) (z .most) (F.offset-inside z r t w) argument-there
+
+      -- VISIT of argument i
+      module _ {i : ℕ} (e : some (Step.visit i) ≡ step-of (code-in operators o (x .next - 1))) where
+        visit-there : i < arity (F.B z r t) o
+        visit-there =
+            visit-within (F.B z r t) (r .tables .tables .good) o (x .next - 1) i (drop (x .next) (steps (F.B z r t) o)) (F.operator-known z r t w)
+            (F.step-is z r t w one e)
+
+        pub visit-place : O.Argument-rowed operators symbols (p .length) x i
+        visit-place = argument-asks visit-there
+
+        abbrev a : O.Argument
+        a = O.argument-of operators (s .symbols) x i
+
+        -- the stack after the entry fits
+        visit-fits : O.Room-for (O.visits (steps-in operators o) x a) u (store work units)
+        unfolding do-step visit
+        visit-fits =
+            let said = argument-said (r .tables .tables) (s .symbols) (r .known) x i (omega (arith, argument-there visit-there, F.length-is z r t)) in
+            subst₂ (λ (b : O.Argument) (gs : List Frame). length (O.visits (steps-in operators o) x b gs) ≤ 1026) (sym said)
+            (sym (F.stack-kept z r t u (t .one)))
+            (next-fits true (O.visits (steps-in operators o) x (argument-by (F.B z r t) (s .symbols) x i) (stack s u)) (step-entry e))
+
+        pub visit-argument-asks : O.Can-visit (steps-in operators o) x a u (store work units)
+        visit-argument-asks = record { job = F.can-proceed z r t w; room = visit-fits }
+
+        pub visited-argument : {work′ units′ : List ℕ} → O.Argument-visited (steps-in operators o) x a u (store work units) (store work′ units′) → GoesOn work′ units′
+        visited-argument {work′} {units′} d =
+            went-on (d .change .fit)
+            (F.entry-is z r t (w .busy) (w .top)
+            ∙ entries.visit-argument-entry (F.B z r t) (F.L z r t) u (l .units) s (store work units) refl (t .one) _ fs (F.unit-is z r t (w .busy) (w .top))
+            (r .tables .tables) (r .known) x inside one (omega (arith, F.next-most z r t w)) i
+            (by-operator (λ (q : ℕ). some (Step.visit i) ≡ step-of (code-in operators q (x .next - 1))) e)
+            (omega (arith, argument-there visit-there, F.length-is z r t))
+            (by-operator (λ (q : ℕ). O.Argument-visited (steps-in operators q) x a u (store work units) (store work′ units′)) d))
+
+      -- JOIN
+      pub joined : {c : ℕ} → some (Step.join c) ≡ step-of (code-in operators o (x .next - 1)) → {work′ units′ : List ℕ} →
+          O.Joined (steps-in operators o) x u (store work units) (store work′ units′) → GoesOn work′ units′
+      joined {c} e {work′} {units′} d =
+          went-on (d .change .fit)
+          (F.entry-is z r t (w .busy) (w .top)
+          ∙ entries.join-entry (F.B z r t) (F.L z r t) u (l .units) s (store work units) refl (t .one) _ fs (F.unit-is z r t (w .busy) (w .top)) (r .tables .tables)
+          (r .known) x inside one (omega (arith, F.next-most z r t w)) c
+          (by-operator (λ (q : ℕ). some (Step.join c) ≡ step-of (code-in operators q (x .next - 1))) e) refl
+          (by-operator (λ (q : ℕ). O.Joined (steps-in operators q) x u (store work units) (store work′ units′)) d))
+
+      -- WHOLE with no match
+      pub missed : some Step.whole ≡ step-of (code-in operators o (x .next - 1)) →
+          rewrite (arity (F.B z r t)) (F.B z r t .rules) (x .offset) (s .symbols) ≡ Hit.miss → {work′ units′ : List ℕ} →
+          O.Proceeded (steps-in operators o) x u (store work units) (store work′ units′) → GoesOn work′ units′
+      missed e h {work′} {units′} d =
+          went-on (d .change .fit)
+          (F.entry-is z r t (w .busy) (w .top)
+          ∙ entries.whole-entry (F.B z r t) (F.L z r t) u (l .units) s (store work units) refl (t .one) _ fs (F.unit-is z r t (w .busy) (w .top)) (r .tables .tables)
+          (r .known) x inside one (omega (arith, F.next-most z r t w))
+          (by-operator (λ (q : ℕ). some Step.whole ≡ step-of (code-in operators q (x .next - 1))) e) h
+          (by-operator (λ (q : ℕ). O.Proceeded (steps-in operators q) x u (store work units) (store work′ units′)) d))

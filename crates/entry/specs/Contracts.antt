@@ -1,0 +1,55 @@
+-- One entry (document 01, 'Orders of a unit'): what it asks of the state, and that its outcome is the machine's on lists. Assumes nothing.
+use mathlib.Core.Bool.{Bool, true, false}
+use mathlib.Core.List.{List}
+use mathlib.Core.Path.{_≡_}
+use Prim.Native.Nat.{ℕ, suc, _+_, _^_, _≤_, _<_}
+use lib.ListN.{length}
+use Rattle.paper.specs.Machine.{Ending}
+use Rattle.paper.specs.Sound.{All}
+use Rattle.flat.specs.Machine.{Frame, FlatState, FlatOutcome, going, ended}
+use Rattle.flat.specs.Run.{Reached}
+use Rattle.tables.specs.Tables.{book-of, TablesOf}
+use Rattle.units.specs.Stacks.{busy-in, store}
+use Rattle.units.specs.Contracts.{Top-is}
+use Rattle.units.specs.declared.frames.Job.{Job}
+use Rattle.whole.specs.declared.Progress.{Progress}
+use Rattle.whole.specs.declared.Limits.{Limits}
+use Rattle.entry.specs.State.{limited}
+use Rattle.entry.specs.declared.Entry.{Entry}
+
+-- the tables are a book's, and s is a state that runs by it reach
+pub record Running (bytes operators rules : List ℕ) (l : Limits) (s : FlatState) : Type 0 where
+  pub tables : TablesOf bytes operators rules
+  pub short : length bytes ≤ 65536
+  pub reached : Reached (book-of bytes) (limited (l .budget)) s
+  pub known : All (λ o. o < length (book-of bytes .operators)) (s .symbols)
+
+-- u is one of the units, and there is a next number for each count
+pub record Turn (l : Limits) (u : ℕ) (s : FlatState) : Type 0 where
+  pub one : u < l .units
+  pub allowed : s .rewrites ≤ l .budget
+  pub room : s .granted + s .kept + 1 < 2 ^ 64
+
+-- the progress behind an entry; one that ends the run has changed nothing
+abbrev pub after : Progress → Entry → Progress
+after p (Entry.Going p′) = p′
+after p Entry.Finished = p
+after p Entry.Spent = p
+after p Entry.Full = p
+
+-- the outcome that an answer tells, s being the state behind it
+abbrev pub outcome : Entry → FlatState → FlatOutcome
+outcome (Entry.Going p) s = going s
+outcome Entry.Finished s = ended Ending.finished s
+outcome Entry.Spent s = ended Ending.spent s
+outcome Entry.Full s = ended Ending.full s
+
+-- the progress behind a FORK that was granted or kept
+abbrev pub forked : Progress → Bool → Progress
+forked p true = record { length = p .length; rewrites = p .rewrites; granted = suc (p .granted); kept = p .kept }
+forked p false = record { length = p .length; rewrites = p .rewrites; granted = p .granted; kept = suc (p .kept) }
+
+-- the unit u is busy with the job x on top of its stack
+pub record Working (work units : List ℕ) (u : ℕ) (x : Job) : Type 0 where
+  pub busy : busy-in units u ≡ true
+  pub top : Top-is u (Frame.job (x .offset) (x .next) (x .count)) (store work units)

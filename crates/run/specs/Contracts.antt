@@ -1,0 +1,53 @@
+-- The run over a schedule (document 01, 'How a run ends'): its answer is that of the machine on lists. Assumes nothing.
+use mathlib.Core.List.{List}
+use mathlib.Core.Path.{_≡_}
+use Prim.Native.Nat.{ℕ, _+_, _≤_, _<_}
+use lib.ListN.{length, take}
+use Rattle.paper.specs.Machine as paper
+use Rattle.paper.specs.Sound.{All}
+use Rattle.flat.specs.Machine.{FlatState}
+use Rattle.flat.specs.Run.{FlatAnswer}
+use Rattle.whole.specs.declared.Progress.{Progress}
+use Rattle.whole.specs.declared.Limits.{Limits}
+use Rattle.entry.specs.Contracts.{Running}
+use Rattle.run.specs.declared.Ending.{Ending}
+use Rattle.run.specs.declared.Run.{Run}
+
+-- the paper's ending; its number is ending-number of the paper's page
+abbrev pub ending : Ending → paper.Ending
+ending Ending.Finished = paper.finished
+ending Ending.Spent = paper.spent
+ending Ending.Full = paper.full
+ending Ending.Cut = paper.cut
+
+-- before the first entry: a term of so many symbols, and nothing counted
+abbrev pub beginning : ℕ → Progress
+beginning length = record { length = length; rewrites = 0; granted = 0; kept = 0 }
+
+-- the tables are a book's, s is a state that runs by it reach, and every entry names one of the units
+pub record Runnable (bytes operators rules : List ℕ) (l : Limits) (schedule : List ℕ) (s : FlatState) : Type 0 where
+  pub running : Running bytes operators rules l s
+  pub named : All (λ u. u < l .units) schedule
+
+-- the answer that a run's numbers and the symbols that it leaves are
+abbrev pub answer : Run → List ℕ → FlatAnswer
+answer r symbols = record {
+  ending = ending (r .ending);
+  rewrites = r .rewrites;
+  entries = r .entries;
+  granted = r .granted;
+  kept = r .kept;
+  symbols = take (r .length) symbols;
+}
+
+-- a run that ended so after so many entries, with this progress
+abbrev pub ended : Ending → ℕ → Progress → Run
+ended e n p = record { ending = e; rewrites = p .rewrites; entries = n; granted = p .granted; kept = p .kept; length = p .length }
+
+-- what holds of the numbers whatever the ending
+pub record Bounded (l : Limits) (schedule symbols : List ℕ) (r : Run) : Type 0 where
+  pub long : length symbols ≡ 1024
+  pub most : r .length ≤ 1024
+  pub allowed : r .rewrites ≤ l .budget
+  pub used : r .entries ≤ length schedule
+  pub forks : r .granted + r .kept ≤ r .entries
