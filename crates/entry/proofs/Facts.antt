@@ -4,10 +4,10 @@ use mathlib.Core.Path.{_≡_, refl, sym, ap, ap₂, subst, _∙_}
 use mathlib.Core.Bool.{true, false}
 use mathlib.Core.List.{List, _∷_}
 use mathlib.Core.Logic.{inl}
-use mathlib.Core.Option.{Option, some}
+use mathlib.Core.Option.{none, some}
 use Prim.Native.Nat.{ℕ, zero, suc, _+_, _*_, _-_, _≤_, _<_}
 use native.Mathlib.Omega.{arith}
-use lib.ListN.{length, getD, take, drop}
+use lib.ListN.{length, getD, take, drop, length-drop}
 use lib.Seq.{length-take-le, getD-take}
 use Rattle.paper.specs.Strategy.{Step}
 use Rattle.paper.specs.Book.{Book, arity, steps}
@@ -119,7 +119,6 @@ module _ {bytes operators rules symbols scratch work units : List ℕ} {u : ℕ}
     pub top-in : In f (stack s u)
     top-in = subst (λ (fs : List Frame). In f fs) (sym stack-is) (inl refl)
 
-
   -- A JOB: its numbers, its operator and what the tables say of that
 
   module _ {x : Job} (w : Working work units u x) where
@@ -159,6 +158,13 @@ module _ {bytes operators rules symbols scratch work units : List ℕ} {u : ℕ}
       next = next-most;
       count = omega (arith, count-most);
     }
+
+    -- there is a step for its next order
+    pub step-there : 1 ≤ x .next → none ≡ step-of (code-in operators o (x .next - 1)) → ⊥
+    step-there one e =
+        let d = here-is rowed (x .next - 1) (omega (arith, next-most)) none e in
+        let n = subst (λ (q : ℕ). x .next ≤ length (steps B q)) operator-is (rules-hold .nexts u (x .offset) (x .next) (x .count) job-in) in
+        omega (arith, ap length d, length-drop (x .next - 1) (steps-in operators o), ap length steps-are)
 
     -- its next order, if that is a step: the one that the table has there
     module _ {y : Step} (one : 1 ≤ x .next) (e : some y ≡ step-of (code-in operators o (x .next - 1))) where

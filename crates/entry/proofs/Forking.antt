@@ -105,8 +105,7 @@ module _ {bytes operators rules symbols scratch work units : List ℕ} {u : ℕ}
       let m = idle-below (s .units) v (omega (arith, inside)) q in
       let us = put (s .units) u (flat-unit true (O.goes-on ss x (x .count) (stack s u))) in
       let y = flat-unit true (Frame.job (a .offset) 0 0 ∷ Frame.exit u (length fs) ∷ stack s v) in
-      let h = stack-fits _ us v y (by-idle (some v) q) refl (omega (arith, m, length-set (s .units) u (flat-unit true (O.goes-on ss x (x .count) (stack s u))))) in
-      (
+      let h = stack-fits _ us v y (by-idle (some v) q) refl (omega (arith, m, length-set (s .units) u (flat-unit true (O.goes-on ss x (x .count) (stack s u))))) in (
         idle-other (s .units) u v q (ap (λ (b : FlatUnit). b .busy) (F.unit-is z r t (w .busy) (w .top))),
         omega (arith, h, F.height-is z r t v (omega (arith, m, F.units-count z r t))),
       )
@@ -126,15 +125,14 @@ module _ {bytes operators rules symbols scratch work units : List ℕ} {u : ℕ}
   pub fork-entered : {work′ units′ : List ℕ} {g : Bool} → O.Forked ss x a (l .units) u (store work units) (store work′ units′) g → (p′ : Progress) → p′ ≡ forked p g →
       (going (state symbols work′ units′ p′ l) ≡ flat-entry (F.B z r t) (F.L z r t) u s) × Arrays symbols scratch work′ units′ p′ l
   fork-entered {work′} {units′} {g} d p′ h =
-      subst (λ (q : Progress). (going (state symbols work′ units′ q l) ≡ flat-entry (F.B z r t) (F.L z r t) u s) × Arrays symbols scratch work′ units′ q l) (sym h)
-      (
+      subst (λ (q : Progress). (going (state symbols work′ units′ q l) ≡ flat-entry (F.B z r t) (F.L z r t) u s) × Arrays symbols scratch work′ units′ q l) (sym h) (
         sym (
-          F.entry-is z r t (w .busy) (w .top)
-          ∙ entries.fork-entry (F.B z r t) (F.L z r t) u (l .units) s (store work units) refl (t .one) _ fs (F.unit-is z r t (w .busy) (w .top)) (r .tables .tables)
-          (r .known) x (omega (arith, F.offset-inside z r t w, F.length-is z r t)) one (omega (arith, F.next-most z r t w)) i
-          (subst (λ (q : ℕ). some (Step.fork i) ≡ step-of (code-in operators q (x .next - 1))) (sym (F.operator-is z r t w)) e) there
-          (subst (λ (q : ℕ). O.Forked (steps-in operators q) x a (l .units) u (store work units) (store work′ units′) g) (sym (F.operator-is z r t w)) d)
-          ∙ ap (λ (y : FlatState). going y) (counted work′ units′ g)
-        ),
+            F.entry-is z r t (w .busy) (w .top)
+            ∙ entries.fork-entry (F.B z r t) (F.L z r t) u (l .units) s (store work units) refl (t .one) _ fs (F.unit-is z r t (w .busy) (w .top)) (r .tables .tables)
+            (r .known) x (omega (arith, F.offset-inside z r t w, F.length-is z r t)) one (omega (arith, F.next-most z r t w)) i
+            (subst (λ (q : ℕ). some (Step.fork i) ≡ step-of (code-in operators q (x .next - 1))) (sym (F.operator-is z r t w)) e) there
+            (subst (λ (q : ℕ). O.Forked (steps-in operators q) x a (l .units) u (store work units) (store work′ units′) g) (sym (F.operator-is z r t w)) d)
+            ∙ ap (λ (y : FlatState). going y) (counted work′ units′ g)
+            ),
         forked-arrays g (record { symbols-long = z .symbols-long; scratch-long = z .scratch-long; most = z .most; fit = d .fit; few = z .few }),
       )

@@ -1,13 +1,16 @@
 -- One entry (document 01, 'Orders of a unit'): what it asks of the state, and that its outcome is the machine's on lists. Assumes nothing.
 use mathlib.Core.Bool.{Bool, true, false}
 use mathlib.Core.List.{List}
+use mathlib.Core.Option.{some}
 use mathlib.Core.Path.{_≡_}
-use Prim.Native.Nat.{ℕ, suc, _+_, _^_, _≤_, _<_}
-use lib.ListN.{length}
+use Prim.Native.Nat.{ℕ, suc, _+_, _-_, _^_, _≤_, _<_}
+use lib.ListN.{length, getD}
 use Rattle.paper.specs.Machine.{Ending}
 use Rattle.paper.specs.Sound.{All}
-use Rattle.flat.specs.Machine.{Frame, FlatState, FlatOutcome, going, ended}
+use Rattle.paper.specs.Strategy.{Step}
+use Rattle.flat.specs.Machine.{Frame, FlatState, FlatOutcome, going, ended, flat-entry}
 use Rattle.flat.specs.Run.{Reached}
+use Rattle.tables.specs.Layout.{step-of, code-in}
 use Rattle.tables.specs.Tables.{book-of, TablesOf}
 use Rattle.units.specs.Stacks.{busy-in, store}
 use Rattle.units.specs.Contracts.{Top-is}
@@ -53,3 +56,12 @@ forked p false = record { length = p .length; rewrites = p .rewrites; granted = 
 pub record Working (work units : List ℕ) (u : ℕ) (x : Job) : Type 0 where
   pub busy : busy-in units u ≡ true
   pub top : Top-is u (Frame.job (x .offset) (x .next) (x .count)) (store work units)
+
+-- the job's next order is the step y of its operator, as the table has it
+pub record Next (operators symbols : List ℕ) (x : Job) (y : Step) : Type 0 where
+  pub one : 1 ≤ x .next
+  pub is : some y ≡ step-of (code-in operators (getD symbols (x .offset) 0) (x .next - 1))
+
+-- what the machine on lists does for unit u in the state s
+abbrev pub entered : List ℕ → Limits → ℕ → FlatState → FlatOutcome
+entered bytes l u s = flat-entry (book-of bytes) (limited (l .budget)) u s

@@ -1,10 +1,17 @@
-// One schedule entry (stub).
+// One schedule entry (document 01, 'Orders of a unit'): a busy unit carries out the order of its top frame, for an idle one nothing happens.
+use tables::Step;
+use units::Frame;
+use units::Job;
 use whole::Limits;
 use whole::Progress;
+use whole::Whole;
+ghost use mathlib.Core.Option.{some};
 ghost use mathlib.Core.Path.{_≡_};
-ghost use Prim.Native.Nat.{_+_, _<_};
-ghost use lib.ListN.{length};
+ghost use Prim.Native.Nat.{_+_, _-_, _^_, _≤_, _<_};
+ghost use lib.ListN.{getD};
+ghost use Rattle.paper.specs.Strategy as P;
 ghost use Rattle.flat.specs.Machine.{FlatState, flat-entry};
+ghost use Rattle.tables.specs.Layout.{step-of, code-in};
 ghost use Rattle.tables.specs.Tables.{book-of};
 ghost use Rattle.entry.specs.State as S;
 ghost use Rattle.entry.specs.Contracts as E;
@@ -15,6 +22,179 @@ pub enum Entry {
     Finished,
     Spent,
     Full,
+}
+
+// The unit whose turn it is, and the job on top of its stack.
+struct Task {
+    unit: usize,
+    job: Job,
+}
+
+// A FORK has been carried out.
+fn forked(p: Progress, granted: bool) -> Progress
+    requires { ⌜ p .granted + p .kept + 1 < 2 ^ 64 ⌝ }
+    ensures { λ r. ⌜ r ≡ E.forked p granted ⌝ }
+{
+    let mut next = p;
+    if granted {
+        next.granted = p.granted + 1;
+    } else {
+        next.kept = p.kept + 1;
+    }
+    next
+}
+
+// WHOLE of the job.
+fn rewrite(
+    book: &[u8],
+    operators: &[u8; 4352],
+    rules: &[u32; 1024],
+    symbols: &mut [u8; 1024],
+    scratch: &mut [u8; 1024],
+    work: &mut [u8],
+    units: &mut [u16; 8],
+    task: Task,
+    p: Progress,
+    l: Limits,
+) -> Entry
+    ghost { FlatState }
+    requires { λ s. ⌜ S.state (now symbols) (now work) (now units) p l ≡ s ⌝ }
+    requires { λ s. ⌜ S.Arrays (now symbols) (now scratch) (now work) (now units) p l ⌝ }
+    requires { λ s. ⌜ E.Running (now book) (now operators) (now rules) l s × E.Turn l (task .unit) s × E.Working (now work) (now units) (task .unit) (task .job) ⌝ }
+    requires { λ s. ⌜ E.Next (now operators) (now symbols) (task .job) P.Step.whole ⌝ }
+    ensures { λ s r. ⌜ E.outcome r (S.state (now (symbols .exit)) (now (work .exit)) (now (units .exit)) (E.after p r) l) ≡ E.entered (now (book .entry)) l (task .unit) s ⌝ }
+    ensures { λ s r. ⌜ S.Arrays (now (symbols .exit)) (now (scratch .exit)) (now (work .exit)) (now (units .exit)) (E.after p r) l ⌝ }
+{
+    let u = task.unit;
+    let job = task.job;
+    let o = symbols[casts::offset(job.offset)];
+    match whole::rewrite(
+        book,
+        operators,
+        rules,
+        symbols,
+        scratch,
+        work,
+        units,
+        u,
+        job.offset,
+        p,
+        l,
+    ) {
+        Whole::Missed => {
+            orders::proceed(operators, work, units, u, o, job);
+            Entry::Going(p)
+        }
+        Whole::Rewrote(next) => Entry::Going(next),
+        Whole::Spent => Entry::Spent,
+        Whole::Full => Entry::Full,
+    }
+}
+
+// The next step of the job, of operator o.
+fn step(
+    book: &[u8],
+    operators: &[u8; 4352],
+    rules: &[u32; 1024],
+    symbols: &mut [u8; 1024],
+    scratch: &mut [u8; 1024],
+    work: &mut [u8],
+    units: &mut [u16; 8],
+    task: Task,
+    p: Progress,
+    l: Limits,
+) -> Entry
+    ghost { FlatState }
+    requires { λ s. ⌜ S.state (now symbols) (now work) (now units) p l ≡ s ⌝ }
+    requires { λ s. ⌜ S.Arrays (now symbols) (now scratch) (now work) (now units) p l ⌝ }
+    requires { λ s. ⌜ E.Running (now book) (now operators) (now rules) l s × E.Turn l (task .unit) s × E.Working (now work) (now units) (task .unit) (task .job) ⌝ }
+    requires { λ s. ⌜ 1 ≤ task .job .next ⌝ }
+    ensures { λ s r. ⌜ E.outcome r (S.state (now (symbols .exit)) (now (work .exit)) (now (units .exit)) (E.after p r) l) ≡ E.entered (now (book .entry)) l (task .unit) s ⌝ }
+    ensures { λ s r. ⌜ S.Arrays (now (symbols .exit)) (now (scratch .exit)) (now (work .exit)) (now (units .exit)) (E.after p r) l ⌝ }
+{
+    let u = task.unit;
+    let job = task.job;
+    let o = symbols[casts::offset(job.offset)];
+    match tables::step_at(operators, o, job.next - 1) {
+        // A job with no step left is not kept on a stack.
+        Step::None => Entry::Going(p),
+        Step::Whole => rewrite(
+            book,
+            operators,
+            rules,
+            symbols,
+            scratch,
+            work,
+            units,
+            task,
+            p,
+            l,
+        ),
+        Step::Visit(i) => {
+            orders::visit_argument(operators, symbols, p.length, work, units, u, o, job, i);
+            Entry::Going(p)
+        }
+        Step::Fork(i) => {
+            let granted = orders::fork(
+                operators,
+                symbols,
+                p.length,
+                work,
+                units,
+                l.units,
+                u,
+                o,
+                job,
+                i,
+            );
+            Entry::Going(forked(p, granted))
+        }
+        Step::Join(_) => {
+            orders::join(operators, work, units, u, o, job);
+            Entry::Going(p)
+        }
+    }
+}
+
+// VISIT of the job, or its next step.
+fn carry_out(
+    book: &[u8],
+    operators: &[u8; 4352],
+    rules: &[u32; 1024],
+    symbols: &mut [u8; 1024],
+    scratch: &mut [u8; 1024],
+    work: &mut [u8],
+    units: &mut [u16; 8],
+    task: Task,
+    p: Progress,
+    l: Limits,
+) -> Entry
+    ghost { FlatState }
+    requires { λ s. ⌜ S.state (now symbols) (now work) (now units) p l ≡ s ⌝ }
+    requires { λ s. ⌜ S.Arrays (now symbols) (now scratch) (now work) (now units) p l ⌝ }
+    requires { λ s. ⌜ E.Running (now book) (now operators) (now rules) l s × E.Turn l (task .unit) s × E.Working (now work) (now units) (task .unit) (task .job) ⌝ }
+    ensures { λ s r. ⌜ E.outcome r (S.state (now (symbols .exit)) (now (work .exit)) (now (units .exit)) (E.after p r) l) ≡ E.entered (now (book .entry)) l (task .unit) s ⌝ }
+    ensures { λ s r. ⌜ S.Arrays (now (symbols .exit)) (now (scratch .exit)) (now (work .exit)) (now (units .exit)) (E.after p r) l ⌝ }
+{
+    let u = task.unit;
+    let job = task.job;
+    if job.next == 0 {
+        let o = symbols[casts::offset(job.offset)];
+        orders::visit(operators, work, units, u, o, job.offset);
+        return Entry::Going(p);
+    }
+    step(
+        book,
+        operators,
+        rules,
+        symbols,
+        scratch,
+        work,
+        units,
+        task,
+        p,
+        l,
+    )
 }
 
 // The entry of unit u of the units.
@@ -34,9 +214,34 @@ pub fn enter(
     requires { λ s. ⌜ S.state (now symbols) (now work) (now units) p l ≡ s ⌝ }
     requires { λ s. ⌜ S.Arrays (now symbols) (now scratch) (now work) (now units) p l ⌝ }
     requires { λ s. ⌜ E.Running (now book) (now operators) (now rules) l s × E.Turn l u s ⌝ }
-    requires { λ s. ⌜ 0 < 0 ⌝ }
-    ensures { λ s r. ⌜ E.outcome r (S.state (now (symbols .exit)) (now (work .exit)) (now (units .exit)) (E.after p r) l) ≡ flat-entry (book-of (now (book .entry))) (S.limited (l .budget)) u s ⌝ }
+    ensures { λ s r. ⌜ E.outcome r (S.state (now (symbols .exit)) (now (work .exit)) (now (units .exit)) (E.after p r) l) ≡ E.entered (now (book .entry)) l u s ⌝ }
     ensures { λ s r. ⌜ S.Arrays (now (symbols .exit)) (now (scratch .exit)) (now (work .exit)) (now (units .exit)) (E.after p r) l ⌝ }
 {
-    Entry::Finished
+    let unit = units::load(units, u);
+    if !unit.busy {
+        return Entry::Going(p);
+    }
+    match units::top(work, units, u) {
+        Frame::Job(job) => carry_out(
+            book,
+            operators,
+            rules,
+            symbols,
+            scratch,
+            work,
+            units,
+            Task { unit: u, job },
+            p,
+            l,
+        ),
+        Frame::Exit(exit) => {
+            orders::exit(work, units, u, exit);
+            Entry::Going(p)
+        }
+        Frame::Sleep => {
+            units::sleep_unit(units, u);
+            Entry::Going(p)
+        }
+        Frame::Bingo => Entry::Finished,
+    }
 }
