@@ -15,8 +15,10 @@ use Rattle.paper.specs.Result.{Result, refused, accepted}
 use Rattle.paper.specs.Tree.{node, trees}
 use Rattle.paper.specs.Book.{Term, Book, arity}
 use Rattle.paper.specs.Line.{symbol-limit, line-fault, unless-fault, readLine}
-use Rattle.term.specs.declared.Line.the-variants.{Sound, Refused}
-use Rattle.term.specs.Line.{arity-in, Tables, fault, by-fault, judgement, verdict}
+use Rattle.line.specs.declared.Line.the-variants.{Sound, Refused}
+use Rattle.tables.specs.Layout.{arity-in}
+use Rattle.tables.specs.Tables.{Operators}
+use Rattle.line.specs.Line.{fault, by-fault, judgement, verdict}
 
 -- the check of the line l from byte i on, by cases
 module _ (n : ℕ) (arity : ℕ → ℕ) (l : List ℕ) (i : ℕ) where
@@ -38,28 +40,28 @@ module _ (n : ℕ) (arity : ℕ → ℕ) (l : List ℕ) (i : ℕ) where
   fault-unknown zero h z u = absurd (z refl)
   fault-unknown (suc due) h z u = rw (drop-cons l i 0) (rw (le-ltb (getD l i 0) n u, fault))
 
-  pub fault-known : (due o due′ : ℕ) → i < length l → (due ≡ 0 → ⊥) → o ≡ getD l i 0 → o < n → due′ ≡ due - 1 + arity o →
+  pub fault-known : (due due′ : ℕ) → i < length l → (due ≡ 0 → ⊥) → getD l i 0 < n → due′ ≡ due - 1 + arity (getD l i 0) →
       fault n arity due (drop i l) ≡ fault n arity due′ (drop (i + 1) l)
   unfolding fault
-  fault-known zero o due′ h z e k f = absurd (z refl)
-  fault-known (suc due) o due′ h z e k f =
-      rw (drop-cons l i 0, ← e, add-one) (rw (lt-ltb o n k, fault) (ap (λ (d : ℕ). fault n arity d (drop (suc i) l)) (omega arith)))
+  fault-known zero due′ h z k f = absurd (z refl)
+  fault-known (suc due) due′ h z k f =
+      rw (drop-cons l i 0, add-one) (rw (lt-ltb (getD l i 0) n k, fault) (ap (λ (d : ℕ). fault n arity d (drop (suc i) l)) (omega arith)))
 
-module _ (B : Book) (n : ℕ) (arities : List ℕ) (t : Tables B n arities) where
+module _ (B : Book) {n : ℕ} {operators : List ℕ} (count : length (B .operators) ≡ n) (t : Operators (B .operators) operators) where
   -- the paper's line-fault depends on the book only through the number of operators and their arities
-  pub fault-paper : (due : ℕ) (line : List ℕ) → fault n (arity-in arities) due line ≡ line-fault B due line
+  pub fault-paper : (due : ℕ) (line : List ℕ) → fault n (arity-in operators) due line ≡ line-fault B due line
   unfolding fault line-fault
   fault-paper zero [] = refl
   fault-paper zero (o ∷ os) = refl
   fault-paper (suc due) [] = refl
   fault-paper (suc due) (o ∷ os) = go (ltb o n) refl (λ k. fault-paper k os)
     where
-      go : (b : Bool) → ltb o n ≡ b → ((k : ℕ) → fault n (arity-in arities) k os ≡ line-fault B k os) →
-          fault n (arity-in arities) (suc due) (o ∷ os) ≡ line-fault B (suc due) (o ∷ os)
+      go : (b : Bool) → ltb o n ≡ b → ((k : ℕ) → fault n (arity-in operators) k os ≡ line-fault B k os) →
+          fault n (arity-in operators) (suc due) (o ∷ os) ≡ line-fault B (suc due) (o ∷ os)
       go true e rest =
-          rw (t .count, e, fault, line-fault)
-          (ap (λ (k : ℕ). fault n (arity-in arities) (k + due) os) (t .arities-are o (ltb-true o n e)) ∙ rest (arity B o + due))
-      go false e rest = rw (t .count, e, fault, line-fault)
+          rw (count, e, fault, line-fault)
+          (ap (λ (k : ℕ). fault n (arity-in operators) (k + due) os) (t .each o (let l = ltb-true o n e in omega arith) .arity-is) ∙ rest (arity B o + due))
+      go false e rest = rw (count, e, fault, line-fault)
 
   fault-verdict : (f : Option ℕ) (x : Term) → by-fault f ≡ verdict (unless-fault f x)
   unfolding unless-fault
@@ -67,23 +69,23 @@ module _ (B : Book) (n : ℕ) (arities : List ℕ) (t : Tables B n arities) wher
   fault-verdict (some r) x = refl
 
   -- the check answers what the paper's reader answers
-  pub judgement-paper : (line : List ℕ) → judgement n (arity-in arities) line ≡ verdict (readLine B line)
+  pub judgement-paper : (line : List ℕ) → judgement n (arity-in operators) line ≡ verdict (readLine B line)
   unfolding judgement readLine
   judgement-paper [] = refl
   judgement-paper (o ∷ os) = go (ltb symbol-limit (length (o ∷ os))) refl
     where
-      go : (b : Bool) → ltb symbol-limit (length (o ∷ os)) ≡ b → judgement n (arity-in arities) (o ∷ os) ≡ verdict (readLine B (o ∷ os))
+      go : (b : Bool) → ltb symbol-limit (length (o ∷ os)) ≡ b → judgement n (arity-in operators) (o ∷ os) ≡ verdict (readLine B (o ∷ os))
       go true e = rw e
       go false e = rw e (ap by-fault (fault-paper 1 (o ∷ os)) ∙ fault-verdict (line-fault B 1 (o ∷ os)) (node o (trees (arity B) os)))
 
-  pub sound-accepted : (line : List ℕ) → judgement n (arity-in arities) line ≡ Sound → (x : Term) × (readLine B line ≡ accepted x)
+  pub sound-accepted : (line : List ℕ) → judgement n (arity-in operators) line ≡ Sound → (x : Term) × (readLine B line ≡ accepted x)
   sound-accepted line e = go (readLine B line) refl (sym (judgement-paper line) ∙ e)
     where
       go : (a : Result Term) → readLine B line ≡ a → verdict a ≡ Sound → (x : Term) × (readLine B line ≡ accepted x)
       go (refused r) p q = let z : _≡_ {A = ℕ} 0 1 = cc in absurd (omega arith)
       go (accepted x) p q = (x, p)
 
-  pub refused-refused : (line : List ℕ) (r : ℕ) → judgement n (arity-in arities) line ≡ Refused r → readLine B line ≡ refused r
+  pub refused-refused : (line : List ℕ) (r : ℕ) → judgement n (arity-in operators) line ≡ Refused r → readLine B line ≡ refused r
   refused-refused line r e = go (readLine B line) refl (sym (judgement-paper line) ∙ e)
     where
       go : (a : Result Term) → readLine B line ≡ a → verdict a ≡ Refused r → readLine B line ≡ refused r

@@ -1,26 +1,16 @@
--- The line's check by what the code has of the book: the number of operators and the table of their arities (document 01, the row Term of
--- 'What is checked where'). Assumes nothing.
+-- The line's check by what the code has of the book: the number of operators and their arities (document 01, the row Term of 'What is checked
+-- where'). Assumes nothing.
 use mathlib.Core.Bool.{true, false}
 use mathlib.Core.List.{List, [], _∷_}
 use mathlib.Core.Option.{Option, none, some}
-use mathlib.Core.Path.{_≡_}
-use Prim.Native.Nat.{ℕ, zero, suc, _+_, _<_}
+use Prim.Native.Nat.{ℕ, zero, suc, _+_}
 use lib.Dec.{ltb}
-use lib.ListN.{length, getD}
+use lib.ListN.{length}
 use Rattle.paper.specs.Result.{Result, refused, accepted, if}
-use Rattle.paper.specs.Book.{Term, Book, arity}
+use Rattle.paper.specs.Book.{Term}
 use Rattle.paper.specs.Line.{symbol-limit}
-use Rattle.term.specs.declared.Line as D
-use Rattle.term.specs.declared.Line.the-variants.{Sound, Refused}
-
--- the arities in a table
-abbrev pub arity-in : List ℕ → ℕ → ℕ
-arity-in arities o = getD arities o 0
-
--- the table holds the arities of a book's n operators
-pub record Tables (B : Book) (n : ℕ) (arities : List ℕ) : Type 0 where
-  pub count : length (B .operators) ≡ n
-  pub arities-are : (o : ℕ) → o < n → arity-in arities o ≡ arity B o
+use Rattle.line.specs.declared.Line as D
+use Rattle.line.specs.declared.Line.the-variants.{Sound, Refused}
 
 module _ (n : ℕ) (arity : ℕ → ℕ) where
   -- the paper's line-fault, by the number of operators and their arities
