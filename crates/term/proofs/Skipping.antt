@@ -9,7 +9,8 @@ use lib.Seq.{drop-cons}
 use Rattle.paper.specs.Book.{Book, arity}
 use Rattle.paper.specs.Sound.{All}
 use Rattle.flat.specs.Symbols.{skip, argument}
-use Rattle.term.specs.Line.{arity-in, Tables}
+use Rattle.tables.specs.Layout.{arity-in}
+use Rattle.tables.specs.Tables.{Operators}
 
 -- the symbols l from offset i on, by cases
 module _ (arity : ℕ → ℕ) where
@@ -47,15 +48,15 @@ all-drop P zero l a = a
 all-drop P (suc i) [] a = tt
 all-drop P (suc i) (x ∷ xs) a = all-drop P i xs (a .1)
 
-module _ (B : Book) (n : ℕ) (arities : List ℕ) (t : Tables B n arities) where
-  known-arities : (l : List ℕ) → All (λ o. o < n) l → All (λ o. arity-in arities o ≡ arity B o) l
+module _ (B : Book) {operators : List ℕ} (t : Operators (B .operators) operators) where
+  known-arities : (l : List ℕ) → All (λ o. o < length (B .operators)) l → All (λ o. arity-in operators o ≡ arity B o) l
   known-arities [] a = tt
-  known-arities (x ∷ xs) a = (t .arities-are x (a .0), known-arities xs (a .1))
+  known-arities (x ∷ xs) a = (t .each x (a .0) .arity-is, known-arities xs (a .1))
 
   -- on the book's operators, by the book's arities
-  pub skip-book : (k : ℕ) (l : List ℕ) → All (λ o. o < n) l → skip (arity-in arities) k l ≡ skip (arity B) k l
-  skip-book k l a = skip-same (arity-in arities) (arity B) k l (known-arities l a)
+  pub skip-book : (k : ℕ) (l : List ℕ) → All (λ o. o < length (B .operators)) l → skip (arity-in operators) k l ≡ skip (arity B) k l
+  skip-book k l a = skip-same (arity-in operators) (arity B) k l (known-arities l a)
 
-  pub argument-book : (l : List ℕ) (at i : ℕ) → All (λ o. o < n) l → argument (arity-in arities) l at i ≡ argument (arity B) l at i
+  pub argument-book : (l : List ℕ) (at i : ℕ) → All (λ o. o < length (B .operators)) l → argument (arity-in operators) l at i ≡ argument (arity B) l at i
   unfolding argument
-  argument-book l at i a = ap (λ (k : ℕ). suc at + k) (skip-book i (drop (suc at) l) (all-drop (λ o. o < n) (suc at) l a))
+  argument-book l at i a = ap (λ (k : ℕ). suc at + k) (skip-book i (drop (suc at) l) (all-drop _ (suc at) l a))

@@ -1,4 +1,4 @@
--- `term::replace` meets its contract: the rest moved, then the part copied. Assumes nothing.
+-- `term::replace` meets its contract: what moves kept behind the part, then all put in one piece. Assumes nothing.
 use native.Mathlib.Omega.{arith}
 use borrow.Author.Needs.{needs}
 use Rattle.term.proofs.Replacing.{replaced}
@@ -7,12 +7,14 @@ use Rattle.term.proofs.replace.Tie as tie
 
 returns : tie.Need-returns
 returns c =
-    let start = c .before .before .before .before in
-    let a = start .args in
-    replaced _ _ _ _ (a .len) (a .a) (a .e) (a .n) _ (start .pre .0) (start .pre .1) (omega arith) (omega arith) (omega arith) (omega arith)
-    (c .before .before .move-part .ensures) (c .copy .ensures)
+    let kept = c .before .before .before in
+    let moves = kept .before .before .before in
+    let start = moves .before in
+    replaced (start .pre .0) (start .pre .1) (omega arith) (omega arith) (omega arith) (omega arith) (moves .moving .ensures) (kept .copy .ensures)
+    (c .copy2 .ensures)
 
 pub replace-spec : {M : Type 1} → statement M
 replace-spec =
     tie.close
-    (tie.spec (λ c. search needs) (λ c. search needs) (λ c κs. search needs) (λ c κs. search needs) (λ c. search needs) (λ c. search needs) returns)
+    (tie.spec (λ c. search needs) (λ c κs. search needs) (λ c κs. search needs) (λ c. search needs) (λ c κs. search needs) (λ c. search needs)
+    (λ c. search needs) returns)
