@@ -1,3 +1,6 @@
+pub mod Areas
+pub mod Bytes
+pub mod Stacks
+pub mod Units
 pub mod Changes
 pub mod Loops
-pub mod Units

@@ -13,126 +13,146 @@ use lib.ListN.{length, getD, set, replicate, length-set, length-map, length-repl
 use lib.Seq.{getD-set-same, getD-set-other}
 use borrow.Author.Tests.{lt-ltb, le-ltb, ltb-true, ltb-false}
 use Rattle.flat.specs.Machine.{Frame, FlatUnit, flat-unit, unit, asleep, idle, idle-from, shift-frame, shift-unit, flat-start}
-use Rattle.stack.specs.Frames.{height, Kept, Put}
-use Rattle.stack.specs.Stacks.{stackOf, Shifted}
-use Rattle.stack.proofs.Frames.{kept-none, kept-then}
-use Rattle.stack.proofs.Stacks.{kept-stack, push}
-use Rattle.units.specs.Units.{busy-in, height-in, units-from, units-of, Area, woken, pushed, topped, at, Change, Turned, Moved, Quiet, Started}
-use Rattle.units.proofs.Units.{length-units, unit-at, units-are, change-then}
+use Rattle.units.specs.Stacks.{height, stackOf, busy-in, height-in, units-from, units-of, Store, store, units-in, unit-in}
+use Rattle.units.specs.Contracts.{
+  Same-outside,
+  Frame-put,
+  Stack-shifted,
+  Eight-regions,
+  Stacks-fit,
+  woken,
+  pushed,
+  topped,
+  at,
+  Changed,
+  Cell-changed,
+  Units-shifted,
+  Asleep-below,
+  Started,
+}
+use Rattle.units.proofs.Areas.{outside-none, outside-then}
+use Rattle.units.proofs.Stacks.{outside-stack, push}
+use Rattle.units.proofs.Units.{length-units, unit-at, units-are, changed-then}
 use Rattle.units.proofs.Changes.{store-same, store-other}
 
 -- the search, from unit 1 up: what is left of it at unit u with m units to go
-module _ (w cs : List ℕ) where
-  pub idle-start : (n : ℕ) → idle (units-of w cs n) ≡ idle-from 1 (units-from w cs 1 (n - 1))
+module _ (w c : List ℕ) where
+  pub idle-start : (n : ℕ) → idle (units-of w c n) ≡ idle-from 1 (units-from w c 1 (n - 1))
   unfolding idle units-from
   idle-start zero = refl
   idle-start (suc n) = let e : suc n - 1 ≡ n = omega arith in rw e
 
-  pub idle-next : (u v m k : ℕ) → getD cs u 0 < 2048 → v ≡ u + 1 → m ≡ k + 1 → idle-from u (units-from w cs u m) ≡ idle-from v (units-from w cs v k)
+  pub idle-next : (u v m k : ℕ) → getD c u 0 < 2048 → v ≡ u + 1 → m ≡ k + 1 → idle-from u (units-from w c u m) ≡ idle-from v (units-from w c v k)
   unfolding idle-from units-from
-  idle-next u v m k e f g = rw (f, g, add-one u, add-one k, lt-ltb (getD cs u 0) 2048 e)
+  idle-next u v m k e f g = rw (f, g, add-one u, add-one k, lt-ltb (getD c u 0) 2048 e)
 
-  pub idle-here : (u m : ℕ) → 2048 ≤ getD cs u 0 → 0 < m → idle-from u (units-from w cs u m) ≡ some u
+  pub idle-here : (u m : ℕ) → 2048 ≤ getD c u 0 → 0 < m → idle-from u (units-from w c u m) ≡ some u
   unfolding idle-from units-from
   idle-here u zero n l = absurd (omega arith)
-  idle-here u (suc m) n l = rw (le-ltb (getD cs u 0) 2048 n)
+  idle-here u (suc m) n l = rw (le-ltb (getD c u 0) 2048 n)
 
-  pub idle-none : (u m : ℕ) → m ≡ 0 → idle-from u (units-from w cs u m) ≡ none
+  pub idle-none : (u m : ℕ) → m ≡ 0 → idle-from u (units-from w c u m) ≡ none
   unfolding idle-from units-from
   idle-none u m e = rw e
 
--- the offsets of units 0 to u - 1 have moved
-pub record Passed (w cs : List ℕ) (u a e k : ℕ) (w′ : List ℕ) : Type 0 where
-  pub kept : Kept w 0 (u * height) w′
-  pub stacks : (v : ℕ) → v < u → stackOf w′ (v * height) (height-in cs v) ≡ map (shift-frame a e k) (stackOf w (v * height) (height-in cs v))
+-- the offsets of the jobs of units 0 to u - 1 have gone along
+pub record Shifted-below (u a e k : ℕ) (s : Store) (w′ : List ℕ) : Type 0 where
+  pub outside : Same-outside 0 (u * height) (s .work) w′
+  pub stacks : (v : ℕ) → v < u → unit-in (store w′ (s .cells)) v .stack ≡ map (shift-frame a e k) (unit-in s v .stack)
 
-module _ (w cs : List ℕ) (a e k : ℕ) where
-  pub passed-none : Passed w cs 0 a e k w
-  passed-none = record { kept = kept-none w 0 0; stacks = λ v l. absurd (omega arith) }
+module _ {s : Store} {a e k : ℕ} where
+  pub below-none : Shifted-below 0 a e k s (s .work)
+  below-none = record { outside = outside-none; stacks = λ v l. absurd (omega arith) }
 
-  module _ (u : ℕ) (w₁ : List ℕ) (p : Passed w cs u a e k w₁) where
-    pub passed-rest : stackOf w₁ (u * height) (height-in cs u) ≡ stackOf w (u * height) (height-in cs u)
-    passed-rest = kept-stack (p .kept) (u * height) (height-in cs u) (inr (omega arith))
+  pub below-rest : {u : ℕ} {w₁ : List ℕ} → Shifted-below u a e k s w₁ → unit-in (store w₁ (s .cells)) u .stack ≡ unit-in s u .stack
+  below-rest {u} p = outside-stack (p .outside) (u * height) (height-in (s .cells) u) (inr (omega arith))
 
-    pub passed-more : (w₂ : List ℕ) (base y : ℕ) → base ≡ u * height → y ≡ height-in cs u → ((v : ℕ) → height-in cs v ≤ height) → Shifted w₁ base y a e k w₂ →
-        Passed w cs (u + 1) a e k w₂
-    passed-more w₂ base y eb ey m s = record {
-      kept = kept-then 0 ((u + 1) * height) (p .kept) (s .kept) (omega arith) (omega arith) (omega arith) (omega (arith, m u));
-      stacks = λ v l.
-          elim (ℕ-discrete v u) [
-            | yes d ↦ rw d (here ∙ ap (map (shift-frame a e k)) passed-rest)
-            | no d ↦ kept-stack (s .kept) (v * height) (height-in cs v) (inl (omega (arith, m v))) ∙ p .stacks v (omega arith)
-          ];
-    }
-      where
-        here : stackOf w₂ (u * height) (height-in cs u) ≡ map (shift-frame a e k) (stackOf w₁ (u * height) (height-in cs u))
-        here = rw (← eb, ← ey) (s .stack)
+  pub below-more : {u : ℕ} {w₁ w₂ : List ℕ} {base y : ℕ} → Shifted-below u a e k s w₁ → base ≡ u * height → y ≡ height-in (s .cells) u →
+      ((v : ℕ) → height-in (s .cells) v ≤ height) → Stack-shifted base y a e k w₁ w₂ → Shifted-below (u + 1) a e k s w₂
+  below-more {u} {w₁} {w₂} p eb ey m q = record {
+    outside = outside-then (p .outside) (q .outside) (omega arith) (omega arith) (omega arith) (omega (arith, m u));
+    stacks = λ v l.
+        elim (ℕ-discrete v u) [
+          | yes d ↦ rw d (here ∙ ap (map (shift-frame a e k)) (below-rest p))
+          | no d ↦ outside-stack (q .outside) (v * height) (height-in (s .cells) v) (inl (omega (arith, m v))) ∙ p .stacks v (omega arith)
+        ];
+  }
+    where
+      here : unit-in (store w₂ (s .cells)) u .stack ≡ map (shift-frame a e k) (unit-in (store w₁ (s .cells)) u .stack)
+      here = rw (← eb, ← ey) (q .stack)
 
-  pub passed-all : (n u : ℕ) (w′ : List ℕ) → u ≡ n → Area w cs → Passed w cs u a e k w′ → Moved w cs n a e k w′
+  pub below-all : {n u : ℕ} {w′ : List ℕ} → Stacks-fit s → u ≡ n → Shifted-below u a e k s w′ → Units-shifted n a e k s (store w′ (s .cells))
   unfolding shift-frame
-  passed-all n u w′ en q p = record {
-    area = record { bytes = omega (arith, p .kept .size, q .bytes); cells = q .cells; most = q .most };
+  below-all {n} {w′ = w′} q en p = record {
+    fit = record {
+      regions = record { bytes = omega (arith, p .outside .size, q .regions .bytes); eight = q .regions .eight };
+      most = q .most;
+    };
     units =
-        let us = units-of w cs n in
-        units-are w′ cs n (map (shift-unit a e k) us) (length-map us (shift-unit a e k) ∙ length-units w cs 0 n)
-        (λ v l. ap (flat-unit (busy-in cs v)) (p .stacks v (omega arith)) ∙ ap (shift-unit a e k) (sym (unit-at w cs n v l))
+        let w = s .work in
+        let c = s .cells in
+        let us = units-of w c n in
+        units-are w′ c n (map (shift-unit a e k) us) (length-map us (shift-unit a e k) ∙ length-units w c 0 n)
+        (λ v l. ap (flat-unit (busy-in c v)) (p .stacks v (omega arith)) ∙ ap (shift-unit a e k) (sym (unit-at w c n v l))
         ∙ sym (List·getD-map (shift-unit a e k) us v asleep));
   }
 
 -- one more unit is put to sleep; the units of the start
-module _ (w cs : List ℕ) where
-  pub quiet-none : 3 * (8 * height) ≤ length w → length cs ≡ 8 → Quiet 0 w cs
-  quiet-none p q = record { bytes = p; cells = q; units = λ v l. absurd (omega arith) }
+pub asleep-none : {s : Store} → Eight-regions s → Asleep-below 0 s
+asleep-none q = record { regions = q; heights = λ v l. absurd (omega arith); units = λ v l. absurd (omega arith) }
 
-  pub quiet-more : (w′ cs′ : List ℕ) (u base : ℕ) → Quiet u w cs → u < 8 → base ≡ u * height → Put w base Frame.sleep w′ → cs′ ≡ set cs u 2049 →
-      Quiet (u + 1) w′ cs′
-  unfolding stackOf
-  quiet-more w′ cs′ u base q l e p ec =
-      let lc : u < length cs = omega (arith, q .cells) in
-      record {
-        bytes = omega (arith, p .kept .size, q .bytes);
-        cells = rw (ec, length-set) (q .cells);
-        units = λ v k.
-            elim (ℕ-discrete v u) [
-              | yes d ↦ rw d (
-                rw (ec, getD-set-same cs u 2049 0 lc),
-                store-same w cs w′ cs′ u 2049 false 1 ec refl refl lc ∙ ap (flat-unit false) (push p (u * height) 0 1 (omega arith) refl),
-              )
-              | no d ↦
-                  let c = q .units v (omega arith) in (
-                    rw (ec, getD-set-other cs u v 2049 0 d) (c .0),
-                    store-other w cs w′ cs′ u 2049 false 1 ec refl refl base (base + 1) (p .kept) (omega arith) (omega arith) v d (omega (arith, c .0)) ∙ c .1,
-                  )
-            ];
-      }
+pub asleep-more : {s s′ : Store} {u base : ℕ} → Asleep-below u s → u < 8 → base ≡ u * height → Frame-put base Frame.sleep (s .work) (s′ .work) →
+    s′ .cells ≡ set (s .cells) u 2049 → Asleep-below (u + 1) s′
+unfolding stackOf
+asleep-more {s} {s′} {u} {base} q l e p ec = record {
+  regions = record { bytes = omega (arith, p .outside .size, q .regions .bytes); eight = rw (ec, length-set) (q .regions .eight) };
+  heights = high;
+  units = λ v k.
+      elim (ℕ-discrete v u) [
+        | yes d ↦
+            rw d (store-same s s′ u 2049 false 1 ec refl refl lc ∙ ap (flat-unit false) (push p (u * height) 0 1 (omega arith) refl))
+        | no d ↦
+            store-other s s′ u 2049 false 1 ec refl refl base (base + 1) (p .outside) (omega arith) (omega arith) v d
+            (omega (arith, q .heights v (omega arith)))
+            ∙ q .units v (omega arith)
+      ];
+}
+  where
+    lc : u < length (s .cells)
+    lc = omega (arith, q .regions .eight)
 
-  pub quiet-area : Quiet 8 w cs → Area w cs
-  quiet-area q = record { bytes = q .bytes; cells = q .cells; most = λ u. go u (ltb u 8) refl }
-    where
-      go : (u : ℕ) (t : Bool) → ltb u 8 ≡ t → height-in cs u ≤ height
-      go u true e = omega (arith, q .units u (ltb-true u 8 e) .0)
-      go u false e = omega (arith, List·getD-eq-default cs 0 {n = u} (omega (arith, ltb-false u 8 e, q .cells)))
+    high : (v : ℕ) → v < u + 1 → height-in (s′ .cells) v ≡ 1
+    high v k =
+        elim (ℕ-discrete v u) [
+          | yes d ↦ rw (d, ec, getD-set-same (s .cells) u 2049 0 lc)
+          | no d ↦ rw (ec, getD-set-other (s .cells) u v 2049 0 d) (q .heights v (omega arith))
+        ]
 
-  quiet-units : Quiet 8 w cs → (n : ℕ) → n ≤ 8 → units-of w cs n ≡ replicate n asleep
-  quiet-units q n l =
-      units-are w cs n (replicate n asleep) (length-replicate n asleep)
-      (λ v k. q .units v (omega arith) .1 ∙ sym (getD-replicate n v asleep asleep k))
+pub asleep-fit : {s : Store} → Asleep-below 8 s → Stacks-fit s
+asleep-fit {s} q = record { regions = q .regions; most = λ u. go u (ltb u 8) refl }
+  where
+    go : (u : ℕ) (t : Bool) → ltb u 8 ≡ t → height-in (s .cells) u ≤ height
+    go u true e = omega (arith, q .heights u (ltb-true u 8 e))
+    go u false e = omega (arith, List·getD-eq-default (s .cells) 0 {n = u} (omega (arith, ltb-false u 8 e, q .regions .eight)))
 
-  pub started : (w₁ w₂ c₂ c₃ : List ℕ) → Quiet 8 w cs → Change 0 (topped Frame.bingo) w cs w₁ cs → Change 0 (pushed (Frame.job 0 0 0)) w₁ cs w₂ c₂ →
-      Turned 0 woken c₂ c₃ → Started w₂ c₃
-  unfolding flat-start
-  started w₁ w₂ c₂ c₃ q c d t =
-      let z = t .change w₂ (d .area) in
-      record {
-        area = z .area;
-        units = λ n xs l m.
-            change-then (change-then c d) z .units n
-            ∙ ap (at 0 (λ (x : FlatUnit). woken (pushed (Frame.job 0 0 0) (topped Frame.bingo x)))) (quiet-units q n m)
-            ∙ first n l;
-      }
-    where
-      first : (n : ℕ) → 1 ≤ n →
-          at 0 (λ (x : FlatUnit). woken (pushed (Frame.job 0 0 0) (topped Frame.bingo x))) (replicate n asleep)
-          ≡ flat-unit true (Frame.job 0 0 0 ∷ Frame.bingo ∷ []) ∷ replicate (n - 1) asleep
-      first zero l = absurd (omega arith)
-      first (suc n) l = let e : suc n - 1 ≡ n = omega arith in rw e
+asleep-units : (s : Store) → Asleep-below 8 s → (n : ℕ) → n ≤ 8 → units-in s n ≡ replicate n asleep
+asleep-units s q n l =
+    units-are (s .work) (s .cells) n (replicate n asleep) (length-replicate n asleep)
+    (λ v k. q .units v (omega arith) ∙ sym (getD-replicate n v asleep asleep k))
+
+abbrev first : FlatUnit → FlatUnit
+first x = woken (pushed (Frame.job 0 0 0) (topped Frame.bingo x))
+
+pub started : {s s₁ : Store} {w c c′ : List ℕ} → Asleep-below 8 s → Changed 0 (topped Frame.bingo) s s₁ →
+    Changed 0 (pushed (Frame.job 0 0 0)) s₁ (store w c) → Cell-changed 0 woken c c′ → Started (store w c′)
+unfolding flat-start
+started {s} {w = w} q p d t =
+    let z = t .change w (d .fit) in
+    record {
+      fit = z .fit;
+      units = λ n xs l m. changed-then (changed-then p d) z .units n ∙ ap (at 0 first) (asleep-units s q n m) ∙ from n l;
+    }
+  where
+    from : (n : ℕ) → 1 ≤ n → at 0 first (replicate n asleep) ≡ flat-unit true (Frame.job 0 0 0 ∷ Frame.bingo ∷ []) ∷ replicate (n - 1) asleep
+    from zero l = absurd (omega arith)
+    from (suc n) l = let e : suc n - 1 ≡ n = omega arith in rw e

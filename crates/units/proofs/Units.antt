@@ -12,49 +12,57 @@ use lib.Seq.{ext-getD, getD-set-same, getD-set-other, set-set, set-comm, set-out
 use borrow.Author.Tests.{ltb-true, ltb-false}
 use Rattle.paper.specs.Sound.{All}
 use Rattle.flat.specs.Machine.{FlatUnit, unit, asleep}
-use Rattle.stack.specs.Frames.{height}
-use Rattle.stack.specs.Stacks.{stackOf, Offsets}
-use Rattle.stack.proofs.Stacks.{length-stack, shift-offsets}
-use Rattle.units.specs.Units.{height-in, unit-of, units-from, units-of, at, Change, Room}
+use Rattle.units.specs.Stacks.{height, stackOf, Offsets, height-in, unit-of, units-from, units-of, Store, units-in, unit-in}
+use Rattle.units.specs.Contracts.{Stacks-fit, at, Changed, Shiftable}
+use Rattle.units.proofs.Stacks.{length-stack, shift-offsets}
 
-pub length-units : (w cs : List ℕ) (u m : ℕ) → length (units-from w cs u m) ≡ m
+pub length-units : (w c : List ℕ) (u m : ℕ) → length (units-from w c u m) ≡ m
 unfolding units-from
-length-units w cs u zero = refl
-length-units w cs u (suc m) = ap suc (length-units w cs (suc u) m)
+length-units w c u zero = refl
+length-units w c u (suc m) = ap suc (length-units w c (suc u) m)
 
 -- the units one by one
-unit-from : (w cs : List ℕ) (u m j : ℕ) → j < m → unit (units-from w cs u m) j ≡ unit-of w cs (u + j)
+unit-from : (w c : List ℕ) (u m j : ℕ) → j < m → unit (units-from w c u m) j ≡ unit-of w c (u + j)
 unfolding units-from
-unit-from w cs u zero j l = absurd (omega arith)
-unit-from w cs u (suc m) zero l = let e : u ≡ u + 0 = omega arith in ap (λ (v : ℕ). unit-of w cs v) e
-unit-from w cs u (suc m) (suc j) l =
+unit-from w c u zero j l = absurd (omega arith)
+unit-from w c u (suc m) zero l = let e : u ≡ u + 0 = omega arith in ap (λ (v : ℕ). unit-of w c v) e
+unit-from w c u (suc m) (suc j) l =
     let e : suc u + j ≡ u + suc j = omega arith in
-    unit-from w cs (suc u) m j (omega arith) ∙ ap (λ (v : ℕ). unit-of w cs v) e
+    unit-from w c (suc u) m j (omega arith) ∙ ap (λ (v : ℕ). unit-of w c v) e
 
-pub unit-at : (w cs : List ℕ) (n u : ℕ) → u < n → unit (units-of w cs n) u ≡ unit-of w cs u
-unit-at w cs n u l = let e : 0 + u ≡ u = omega arith in unit-from w cs 0 n u l ∙ ap (λ (v : ℕ). unit-of w cs v) e
+pub unit-at : (w c : List ℕ) (n u : ℕ) → u < n → unit (units-of w c n) u ≡ unit-of w c u
+unit-at w c n u l = let e : 0 + u ≡ u = omega arith in unit-from w c 0 n u l ∙ ap (λ (v : ℕ). unit-of w c v) e
 
-pub height-at : (w cs : List ℕ) (n u : ℕ) → u < n → length (unit (units-of w cs n) u .stack) ≡ height-in cs u
-height-at w cs n u l = ap (λ (x : FlatUnit). length (x .stack)) (unit-at w cs n u l) ∙ length-stack w (u * height) (height-in cs u)
+pub height-at : (w c : List ℕ) (n u : ℕ) → u < n → length (unit (units-of w c n) u .stack) ≡ height-in c u
+height-at w c n u l = ap (λ (x : FlatUnit). length (x .stack)) (unit-at w c n u l) ∙ length-stack w (u * height) (height-in c u)
 
-pub units-are : (w cs : List ℕ) (n : ℕ) (us : List FlatUnit) → length us ≡ n → ((u : ℕ) → u < n → unit-of w cs u ≡ unit us u) → units-of w cs n ≡ us
-units-are w cs n us e f =
-    ext-getD asleep (units-of w cs n) us (length-units w cs 0 n ∙ sym e)
-    (λ u l. let l′ : u < n = omega (arith, length-units w cs 0 n) in unit-at w cs n u l′ ∙ f u l′)
+pub units-are : (w c : List ℕ) (n : ℕ) (us : List FlatUnit) → length us ≡ n → ((u : ℕ) → u < n → unit-of w c u ≡ unit us u) → units-of w c n ≡ us
+units-are w c n us e f =
+    ext-getD asleep (units-of w c n) us (length-units w c 0 n ∙ sym e)
+    (λ u l. let l′ : u < n = omega (arith, length-units w c 0 n) in unit-at w c n u l′ ∙ f u l′)
 
 -- one unit changes, the others are as they were
-pub units-changed : (w cs w′ cs′ : List ℕ) (u : ℕ) (g : FlatUnit → FlatUnit) → ((v : ℕ) → (v ≡ u → ⊥) → unit-of w′ cs′ v ≡ unit-of w cs v) →
-    unit-of w′ cs′ u ≡ g (unit-of w cs u) → (n : ℕ) → units-of w′ cs′ n ≡ at u g (units-of w cs n)
-units-changed w cs w′ cs′ u g f e n =
-    let us = units-of w cs n in
-    units-are w′ cs′ n (at u g us) (length-set us u (g (unit us u)) ∙ length-units w cs 0 n)
-    (λ v l. elim (ℕ-discrete v u) [
-      | yes d ↦
-          ap (λ (i : ℕ). unit-of w′ cs′ i) d ∙ e ∙ ap g (sym (unit-at w cs n u (omega arith)))
-          ∙ sym (getD-set-same us u (g (unit us u)) asleep (omega (arith, length-units w cs 0 n)))
-          ∙ ap (λ (i : ℕ). unit (at u g us) i) (sym d)
-      | no d ↦ f v d ∙ sym (unit-at w cs n v l) ∙ sym (getD-set-other us u v (g (unit us u)) asleep d)
-    ])
+pub units-changed : {s s′ : Store} {u : ℕ} {g : FlatUnit → FlatUnit} → Stacks-fit s′ → ((v : ℕ) → (v ≡ u → ⊥) → unit-in s′ v ≡ unit-in s v) →
+    unit-in s′ u ≡ g (unit-in s u) → Changed u g s s′
+units-changed {s} {s′} {u} {g} q f e = record { fit = q; units = is }
+  where
+    is : (n : ℕ) → units-in s′ n ≡ at u g (units-in s n)
+    is n =
+        let w = s .work in
+        let c = s .cells in
+        let us = units-of w c n in
+        units-are (s′ .work) (s′ .cells) n (at u g us) (length-set us u (g (unit us u)) ∙ length-units w c 0 n)
+        (λ v l. elim (ℕ-discrete v u) [
+          | yes d ↦
+              ap (λ (i : ℕ). unit-in s′ i) d ∙ e ∙ ap g (sym (unit-at w c n u (omega arith)))
+              ∙ sym (getD-set-same us u (g (unit us u)) asleep (omega (arith, length-units w c 0 n)))
+              ∙ ap (λ (i : ℕ). unit (at u g us) i) (sym d)
+          | no d ↦ f v d ∙ sym (unit-at w c n v l) ∙ sym (getD-set-other us u v (g (unit us u)) asleep d)
+        ])
+
+-- nothing has changed
+pub changed-none : {s : Store} {u : ℕ} {g : FlatUnit → FlatUnit} → Stacks-fit s → g (unit-in s u) ≡ unit-in s u → Changed u g s s
+changed-none q e = units-changed q (λ v n. refl) (sym e)
 
 -- what is done to unit u, if there is a unit u; u is below a number of units or not
 module _ (u : ℕ) (us : List FlatUnit) where
@@ -91,22 +99,38 @@ pub at-comm : (u v : ℕ) (f g : FlatUnit → FlatUnit) (us : List FlatUnit) →
 at-comm u v f g us n =
     rw (at-else u us f v (λ e. n (sym e)), at-else v us g u n) (set-comm us u v (f (unit us u)) (g (unit us v)) n)
 
-pub change-then : {w cs w₁ cs₁ w₂ cs₂ : List ℕ} {u : ℕ} {f g : FlatUnit → FlatUnit} → Change u f w cs w₁ cs₁ → Change u g w₁ cs₁ w₂ cs₂ →
-    Change u (λ (x : FlatUnit). g (f x)) w cs w₂ cs₂
-change-then {w} {cs} {u = u} {f = f} {g = g} c d = record {
-  area = d .area;
-  units = λ n. d .units n ∙ ap (at u g) (c .units n) ∙ at-at u f g (units-of w cs n);
+pub changed-then : {s s₁ s₂ : Store} {u : ℕ} {f g : FlatUnit → FlatUnit} → Changed u f s s₁ → Changed u g s₁ s₂ →
+    Changed u (λ (x : FlatUnit). g (f x)) s s₂
+changed-then {s} {u = u} {f = f} {g = g} c d = record {
+  fit = d .fit;
+  units = λ n. d .units n ∙ ap (at u g) (c .units n) ∙ at-at u f g (units-in s n);
 }
 
 -- the same change said in another way
-pub change-as : {w cs w′ cs′ : List ℕ} {u : ℕ} {f : FlatUnit → FlatUnit} → Change u f w cs w′ cs′ → (g : FlatUnit → FlatUnit) →
-    f (unit-of w cs u) ≡ g (unit-of w cs u) → Change u g w cs w′ cs′
-change-as {w} {cs} {u = u} {f = f} c g e = record {
-  area = c .area;
+pub changed-as : {s s′ : Store} {u : ℕ} {f g : FlatUnit → FlatUnit} → Changed u f s s′ → f (unit-in s u) ≡ g (unit-in s u) → Changed u g s s′
+changed-as {s} {u = u} {f = f} {g = g} c e = record {
+  fit = c .fit;
   units = λ n. c .units n
-      ∙ at-as u (units-of w cs n) f g
-      (λ l. let q = unit-at w cs n u (omega (arith, length-units w cs 0 n)) in ap f q ∙ e ∙ ap g (sym q));
+      ∙ at-as u (units-in s n) f g
+      (λ l. let q = unit-at (s .work) (s .cells) n u (omega (arith, length-units (s .work) (s .cells) 0 n)) in ap f q ∙ e ∙ ap g (sym q));
 }
+
+-- the heights after a change at unit u
+module _ {s s′ : Store} {u : ℕ} {g : FlatUnit → FlatUnit} (c : Changed u g s s′) where
+  height-is : (v : ℕ) (x : FlatUnit) → unit (at u g (units-in s (v + 1))) v ≡ x → height-in (s′ .cells) v ≡ length (x .stack)
+  height-is v x e =
+      sym (height-at (s′ .work) (s′ .cells) (v + 1) v (omega arith)) ∙ ap (λ (us : List FlatUnit). length (unit us v .stack)) (c .units (v + 1))
+      ∙ ap (λ (y : FlatUnit). length (y .stack)) e
+
+  pub height-same : height-in (s′ .cells) u ≡ length (g (unit-in s u) .stack)
+  height-same =
+      height-is u (g (unit-in s u))
+      (at-same u (units-in s (u + 1)) g (omega (arith, length-units (s .work) (s .cells) 0 (u + 1)))
+      ∙ ap g (unit-at (s .work) (s .cells) (u + 1) u (omega arith)))
+
+  pub height-other : (v : ℕ) → (v ≡ u → ⊥) → height-in (s′ .cells) v ≡ height-in (s .cells) v
+  height-other v n =
+      height-is v (unit (units-in s (v + 1)) v) (at-else u (units-in s (v + 1)) g v n) ∙ height-at (s .work) (s .cells) (v + 1) v (omega arith)
 
 -- what holds of all units holds of each
 all-unit : (P : FlatUnit → Type 0) (us : List FlatUnit) (u : ℕ) → All P us → u < length us → P (unit us u)
@@ -115,8 +139,13 @@ all-unit P (x ∷ us) zero (p, q) l = p
 all-unit P (x ∷ us) (suc u) (p, q) l = all-unit P us u q (omega arith)
 
 -- offsets below the length, moved, fit if the new length does
-pub offsets-moved : (w cs : List ℕ) (n len a e k : ℕ) → len ≤ 1024 → a + k + (len - e) ≤ 1024 →
-    All (λ (x : FlatUnit). Offsets len (x .stack)) (units-of w cs n) → Room w cs n a e k
-offsets-moved w cs n len a e k l m q u r =
-    shift-offsets 1024 len a e k l m (stackOf w (u * height) (height-in cs u))
-    (rw (unit-at w cs n u r) at (all-unit (λ (x : FlatUnit). Offsets len (x .stack)) (units-of w cs n) u q (omega (arith, length-units w cs 0 n))))
+pub shiftable : {s : Store} {n a e k : ℕ} (len : ℕ) → Stacks-fit s → n ≤ 8 → len ≤ 1024 → a + k + (len - e) ≤ 1024 →
+    All (λ (x : FlatUnit). Offsets len (x .stack)) (units-in s n) → Shiftable n a e k s
+shiftable {s} {n} {a} {e} {k} len p f l m q = record {
+  fit = p;
+  few = f;
+  offsets = λ u r.
+      shift-offsets 1024 len a e k l m (unit-in s u .stack)
+      (rw (unit-at (s .work) (s .cells) n u r) at
+      (all-unit (λ (x : FlatUnit). Offsets len (x .stack)) (units-in s n) u q (omega (arith, length-units (s .work) (s .cells) 0 n))));
+}

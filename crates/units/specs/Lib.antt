@@ -1,1 +1,3 @@
-pub mod Units
+pub mod Frames
+pub mod Stacks
+pub mod Contracts

@@ -1,14 +1,19 @@
 // The states and the stacks of all units (document 01, 'Orders of a unit'), as the engine keeps them: a lent work area with the stacks, and a cell for
-// each unit, which is the height of its stack, and 2,048 more if the unit is idle.
+// each unit, which is the height of its stack and 2,048 times its rank. Rank 0 is busy, above 0 idle; here an idle unit's rank is 1.
+pub mod frames;
+
+pub use frames::Exit;
+pub use frames::Frame;
+pub use frames::Job;
 ghost use mathlib.Core.Path.{_≡_};
 ghost use mathlib.Core.Bool.{true, false};
 ghost use mathlib.Core.List.{List};
 ghost use Prim.Native.Nat.{ℕ, _+_, _-_, _*_, _%_, _<_, _≤_};
-ghost use lib.ListN.{length, getD, set};
+ghost use lib.ListN.{length, getD, set, replicate};
 ghost use Rattle.flat.specs.Machine.{arrive};
-ghost use Rattle.stack.specs.Frames.{height, flat, Fits};
-ghost use Rattle.units.specs.Units as U;
-use stack::Frame;
+ghost use Rattle.units.specs.Frames.{flat, In-three-bytes};
+ghost use Rattle.units.specs.Stacks as K;
+ghost use Rattle.units.specs.Contracts as U;
 
 // The state of one unit, by value: whether it is busy, and the height of its stack.
 pub struct Unit {
@@ -50,7 +55,7 @@ fn wide(x: u16) -> usize
 
 fn cell_of(busy: bool, height: usize) -> u16
     requires { ⌜ height < 2048 ⌝ }
-    ensures { λ r. ⌜ r ≡ U.cell busy height ⌝ }
+    ensures { λ r. ⌜ r ≡ K.cell busy height ⌝ }
 {
     if busy {
         return height as u16;
@@ -58,43 +63,43 @@ fn cell_of(busy: bool, height: usize) -> u16
     (height + 2048) as u16
 }
 
-pub fn load(cells: &[u16; 8], u: usize) -> Unit
+pub fn load(units: &[u16; 8], u: usize) -> Unit
     requires { ⌜ u < 8 ⌝ }
-    ensures { λ r. ⌜ U.Loaded (now (cells .entry)) u r ⌝ }
+    ensures { λ r. ⌜ U.State-of (now (units .entry)) u r ⌝ }
 {
-    let x = cells[u];
+    let x = units[u];
     Unit {
         busy: x < 2048,
         height: wide(x % 2048),
     }
 }
 
-pub fn store(cells: &mut [u16; 8], u: usize, x: Unit)
+pub fn store(units: &mut [u16; 8], u: usize, x: Unit)
     requires { ⌜ (u < 8) × (x .height < 2048) ⌝ }
-    ensures { λ _. ⌜ now (cells .exit) ≡ set (now (cells .entry)) u (U.cell (x .busy) (x .height)) ⌝ }
+    ensures { λ _. ⌜ now (units .exit) ≡ set (now (units .entry)) u (K.cell (x .busy) (x .height)) ⌝ }
 {
-    cells[u] = cell_of(x.busy, x.height);
+    units[u] = cell_of(x.busy, x.height);
 }
 
-pub fn wake_unit(cells: &mut [u16; 8], u: usize)
+pub fn wake_unit(units: &mut [u16; 8], u: usize)
     requires { ⌜ u < 8 ⌝ }
-    ensures { λ _. ⌜ U.Turned u U.woken (now (cells .entry)) (now (cells .exit)) ⌝ }
+    ensures { λ _. ⌜ U.Cell-changed u U.woken (now (units .entry)) (now (units .exit)) ⌝ }
 {
-    store(cells, u, load(cells, u).wake());
+    store(units, u, load(units, u).wake());
 }
 
-pub fn wait_unit(cells: &mut [u16; 8], u: usize)
+pub fn wait_unit(units: &mut [u16; 8], u: usize)
     requires { ⌜ u < 8 ⌝ }
-    ensures { λ _. ⌜ U.Turned u U.idled (now (cells .entry)) (now (cells .exit)) ⌝ }
+    ensures { λ _. ⌜ U.Cell-changed u U.idled (now (units .entry)) (now (units .exit)) ⌝ }
 {
-    store(cells, u, load(cells, u).wait());
+    store(units, u, load(units, u).wait());
 }
 
-pub fn sleep_unit(cells: &mut [u16; 8], u: usize)
+pub fn sleep_unit(units: &mut [u16; 8], u: usize)
     requires { ⌜ u < 8 ⌝ }
-    ensures { λ _. ⌜ U.Turned u U.idled (now (cells .entry)) (now (cells .exit)) ⌝ }
+    ensures { λ _. ⌜ U.Cell-changed u U.idled (now (units .entry)) (now (units .exit)) ⌝ }
 {
-    store(cells, u, load(cells, u).sleep());
+    store(units, u, load(units, u).sleep());
 }
 
 // The lowest-numbered idle unit from 1 up, of n units.
@@ -103,13 +108,13 @@ pub enum Idle {
     None,
 }
 
-pub fn lowest_idle(cells: &[u16; 8], n: usize) -> Idle
-    requires { ⌜ n ≤ 8 ⌝ }
-    ensures { λ r. ⌜ U.Lowest (now (cells .entry)) n r ⌝ }
+pub fn lowest_idle(units: &[u16; 8], count: usize) -> Idle
+    requires { ⌜ count ≤ 8 ⌝ }
+    ensures { λ r. ⌜ U.Lowest-idle (now (units .entry)) count r ⌝ }
 {
     let mut u = 1;
-    while u < n {
-        if 2048 <= cells[u] {
+    while u < count {
+        if 2048 <= units[u] {
             return Idle::Unit(u);
         }
         u += 1;
@@ -118,41 +123,45 @@ pub fn lowest_idle(cells: &[u16; 8], n: usize) -> Idle
 }
 
 // The height of unit u's stack.
-fn height_of(cells: &[u16; 8], u: usize) -> usize
+fn height_of(units: &[u16; 8], u: usize) -> usize
     requires { ⌜ u < 8 ⌝ }
-    ensures { λ r. ⌜ r ≡ U.height-in (now (cells .entry)) u ⌝ }
+    ensures { λ r. ⌜ r ≡ K.height-in (now (units .entry)) u ⌝ }
 {
-    wide(cells[u] % 2048)
+    wide(units[u] % 2048)
 }
 
 // The stack index of unit u's top frame.
-pub fn top_index(cells: &[u16; 8], u: usize) -> u16
-    requires { ⌜ (u < 8) × (0 < U.height-in (now cells) u) ⌝ }
-    ensures { λ r. ⌜ r ≡ U.height-in (now (cells .entry)) u - 1 ⌝ }
+pub fn top_index(units: &[u16; 8], u: usize) -> u16
+    requires { ⌜ (u < 8) × (0 < K.height-in (now units) u) ⌝ }
+    ensures { λ r. ⌜ r ≡ K.height-in (now (units .entry)) u - 1 ⌝ }
 {
-    cells[u] % 2048 - 1
+    units[u] % 2048 - 1
 }
 
 // The first frame of unit u's stack.
-pub fn top(work: &[u8], cells: &[u16; 8], u: usize) -> Frame
-    requires { ⌜ U.Area (now work) (now cells) × (u < 8) × (0 < U.height-in (now cells) u) ⌝ }
-    ensures { λ r. ⌜ U.Top u (flat r) (now (work .entry)) (now (cells .entry)) ⌝ }
+pub fn top(work: &[u8], units: &[u16; 8], u: usize) -> Frame
+    ghost { K.Store }
+    requires { λ s. ⌜ K.store (now work) (now units) ≡ s ⌝ }
+    requires { λ s. ⌜ U.Has-frame s u 0 ⌝ }
+    ensures { λ s r. ⌜ U.Top-is u (flat r) s ⌝ }
 {
-    stack::frame_at(work, stack::base_of(u) + (height_of(cells, u) - 1))
+    frames::frame_at(work, frames::base_of(u) + (height_of(units, u) - 1))
 }
 
-pub fn set_top(work: &mut [u8], cells: &[u16; 8], u: usize, f: Frame)
-    requires { ⌜ U.Area (now work) (now cells) × (u < 8) × (0 < U.height-in (now cells) u) × Fits (flat f) ⌝ }
-    ensures { λ _. ⌜ U.Change u (U.topped (flat f)) (now (work .entry)) (now (cells .entry)) (now (work .exit)) (now (cells .entry)) ⌝ }
+pub fn set_top(work: &mut [u8], units: &[u16; 8], u: usize, f: Frame)
+    ghost { K.Store }
+    requires { λ s. ⌜ K.store (now work) (now units) ≡ s ⌝ }
+    requires { λ s. ⌜ U.Has-frame s u 0 × In-three-bytes (flat f) ⌝ }
+    ensures { λ s _. ⌜ U.Changed u (U.topped (flat f)) s (K.store (now (work .exit)) (s .cells)) ⌝ }
 {
-    stack::put_frame(work, stack::base_of(u) + (height_of(cells, u) - 1), f);
+    frames::put_frame(work, frames::base_of(u) + (height_of(units, u) - 1), f);
 }
 
-pub fn drop_top(cells: &mut [u16; 8], u: usize)
-    requires { ⌜ (u < 8) × (0 < U.height-in (now cells) u) ⌝ }
-    ensures { λ _. ⌜ U.Turned u U.dropped (now (cells .entry)) (now (cells .exit)) ⌝ }
+pub fn drop_top(units: &mut [u16; 8], u: usize)
+    requires { ⌜ (u < 8) × (0 < K.height-in (now units) u) ⌝ }
+    ensures { λ _. ⌜ U.Cell-changed u U.dropped (now (units .entry)) (now (units .exit)) ⌝ }
 {
-    cells[u] = cells[u] - 1;
+    units[u] = units[u] - 1;
 }
 
 // A cell whose height is one more.
@@ -163,48 +172,54 @@ fn higher(x: u16) -> u16
     x + 1
 }
 
-pub fn push(work: &mut [u8], cells: &mut [u16; 8], u: usize, f: Frame)
-    requires { ⌜ U.Area (now work) (now cells) × (u < 8) × (U.height-in (now cells) u < height) × Fits (flat f) ⌝ }
-    ensures { λ _. ⌜ U.Change u (U.pushed (flat f)) (now (work .entry)) (now (cells .entry)) (now (work .exit)) (now (cells .exit)) ⌝ }
+pub fn push(work: &mut [u8], units: &mut [u16; 8], u: usize, f: Frame)
+    ghost { K.Store }
+    requires { λ s. ⌜ K.store (now work) (now units) ≡ s ⌝ }
+    requires { λ s. ⌜ U.Has-room s u 1 × In-three-bytes (flat f) ⌝ }
+    ensures { λ s _. ⌜ U.Changed u (U.pushed (flat f)) s (K.store (now (work .exit)) (now (units .exit))) ⌝ }
 {
-    stack::put_frame(work, stack::base_of(u) + height_of(cells, u), f);
-    cells[u] = higher(cells[u]);
+    frames::put_frame(work, frames::base_of(u) + height_of(units, u), f);
+    units[u] = higher(units[u]);
 }
 
 // EXIT at unit v, which holds its JOIN: the count of the job at stack index i falls by one; if it is now 0, the unit is busy.
-pub fn arrive(work: &mut [u8], cells: &mut [u16; 8], v: usize, i: usize)
-    requires { ⌜ U.Area (now work) (now cells) × (v < 8) × (i < U.height-in (now cells) v) ⌝ }
-    ensures { λ _. ⌜ U.Change v (arrive i) (now (work .entry)) (now (cells .entry)) (now (work .exit)) (now (cells .exit)) ⌝ }
+pub fn arrive(work: &mut [u8], units: &mut [u16; 8], v: usize, i: usize)
+    ghost { K.Store }
+    requires { λ s. ⌜ K.store (now work) (now units) ≡ s ⌝ }
+    requires { λ s. ⌜ U.Has-frame s v i ⌝ }
+    ensures { λ s _. ⌜ U.Changed v (arrive i) s (K.store (now (work .exit)) (now (units .exit))) ⌝ }
 {
-    let base = stack::base_of(v);
-    stack::lower_at(work, base, i);
-    if stack::is_zero_at(work, base, i) {
-        wake_unit(cells, v);
+    let base = frames::base_of(v);
+    frames::lower_at(work, base, i);
+    if frames::is_zero_at(work, base, i) {
+        wake_unit(units, v);
     }
 }
 
-// The symbols from offset a to offset e give way to k others: the offsets of the jobs of n units go along.
-pub fn shift_units(work: &mut [u8], cells: &[u16; 8], n: usize, a: usize, e: usize, k: usize)
-    requires { ⌜ U.Area (now work) (now cells) × (n ≤ 8) × U.Room (now work) (now cells) n a e k ⌝ }
-    ensures { λ _. ⌜ U.Moved (now (work .entry)) (now (cells .entry)) n a e k (now (work .exit)) ⌝ }
+// The symbols from offset a to offset e give way to k others: the offsets of the jobs of count units go along.
+pub fn shift_units(work: &mut [u8], units: &[u16; 8], count: usize, a: usize, e: usize, k: usize)
+    ghost { K.Store }
+    requires { λ s. ⌜ K.store (now work) (now units) ≡ s ⌝ }
+    requires { λ s. ⌜ U.Shiftable count a e k s ⌝ }
+    ensures { λ s _. ⌜ U.Units-shifted count a e k s (K.store (now (work .exit)) (s .cells)) ⌝ }
 {
     let mut u = 0;
-    while u < n {
-        stack::shift_stack(work, stack::base_of(u), height_of(cells, u), a, e, k);
+    while u < count {
+        frames::shift_stack(work, frames::base_of(u), height_of(units, u), a, e, k);
         u += 1;
     }
 }
 
 // All units idle with SLEEP.
-fn sleep_all(work: &mut [u8], cells: &mut [u16; 8])
-    requires { ⌜ (3 * (8 * height) ≤ length (now work)) × (length (now cells) ≡ 8) ⌝ }
-    ensures { λ _. ⌜ U.Quiet 8 (now (work .exit)) (now (cells .exit)) ⌝ }
+fn sleep_all(work: &mut [u8], units: &mut [u16; 8])
+    requires { ⌜ U.Eight-regions (K.store (now work) (now units)) ⌝ }
+    ensures { λ _. ⌜ U.Asleep-below 8 (K.store (now (work .exit)) (now (units .exit))) ⌝ }
 {
     let mut u = 0;
     while u < 8 {
-        stack::put_frame(work, stack::base_of(u), Frame::Sleep);
+        frames::put_frame(work, frames::base_of(u), Frame::Sleep);
         store(
-            cells,
+            units,
             u,
             Unit {
                 busy: false,
@@ -216,12 +231,31 @@ fn sleep_all(work: &mut [u8], cells: &mut [u16; 8])
 }
 
 // Unit 0 busy with VISIT(root) over BINGO, the others idle with SLEEP.
-pub fn start(work: &mut [u8], cells: &mut [u16; 8])
-    requires { ⌜ (3 * (8 * height) ≤ length (now work)) × (length (now cells) ≡ 8) ⌝ }
-    ensures { λ _. ⌜ U.Started (now (work .exit)) (now (cells .exit)) ⌝ }
+pub fn start(work: &mut [u8], units: &mut [u16; 8])
+    requires { ⌜ U.Eight-regions (K.store (now work) (now units)) ⌝ }
+    ensures { λ _. ⌜ U.Started (K.store (now (work .exit)) (now (units .exit))) ⌝ }
 {
-    sleep_all(work, cells);
-    set_top(work, cells, 0, Frame::Bingo);
-    push(work, cells, 0, Frame::Job(0, 0, 0));
-    wake_unit(cells, 0);
+    sleep_all(work, units);
+    set_top(work, units, 0, Frame::Bingo);
+    push(
+        work,
+        units,
+        0,
+        Frame::Job(Job {
+            offset: 0,
+            next: 0,
+            count: 0,
+        }),
+    );
+    wake_unit(units, 0);
+}
+
+pub fn clear(work: &mut [u8])
+    ensures { λ _. ⌜ now (work .exit) ≡ replicate (length (now (work .entry))) 0 ⌝ }
+{
+    let mut i = 0;
+    while i < work.len() {
+        work[i] = 0;
+        i += 1;
+    }
 }

@@ -9,28 +9,28 @@ use Rattle.units.proofs.arrive.Tie as tie
 lower-at-requires : tie.Need-lower-at-requires
 lower-at-requires c κs =
     let s = c .before .before .before in
-    omega (arith, s .pre .0 .most (s .args .v), s .pre .0 .bytes)
+    omega (arith, s .pre .fit .most (s .args .v), s .pre .fit .regions .bytes)
 
 is-zero-at-requires : tie.Need-is-zero-at-requires
 is-zero-at-requires c κs =
-    let s = c .before .before .before .before .before .before .before in
-    omega (arith, s .pre .0 .most (s .args .v), s .pre .0 .bytes, c .before .before .before .lower-at .ensures .kept .size)
+    let l = c .before .before .before in
+    let s = l .before .before .before .before in
+    omega (arith, s .pre .fit .most (s .args .v), s .pre .fit .regions .bytes, l .lower-at .ensures .outside .size)
 
 returns : tie.Need-returns
 returns c =
     let i = c .before .before .before in
     let l = i .before .before .before .before in
     let s = l .before .before .before .before in
-    arrive-last _ _ _ _ _ _ (s .pre .0) (s .pre .1) (s .pre .2) (l .before .before .base-of .ensures) (l .lower-at .ensures)
-    (i .is-zero-at .ensures _ (s .pre .2) ∙ c .before .before .if1 .taken) _ (c .wake-unit .ensures)
+    arrive-last (s .pre) (l .before .before .base-of .ensures) (l .lower-at .ensures) (i .is-zero-at .ensures _ (s .pre .index) ∙ c .before .before .if1 .taken)
+    (c .wake-unit .ensures)
 
 returns-2 : tie.Need-returns-2
 returns-2 c =
     let i = c .before in
     let l = i .before .before .before .before in
     let s = l .before .before .before .before in
-    arrive-more _ _ _ _ _ _ (s .pre .0) (s .pre .1) (s .pre .2) (l .before .before .base-of .ensures) (l .lower-at .ensures)
-    (i .is-zero-at .ensures _ (s .pre .2) ∙ c .if1 .left)
+    arrive-more (s .pre) (l .before .before .base-of .ensures) (l .lower-at .ensures) (i .is-zero-at .ensures _ (s .pre .index) ∙ c .if1 .left)
 
 pub arrive-spec : {M : Type 1} → statement M
 arrive-spec = tie.close (tie.spec (λ c κs. search needs) lower-at-requires is-zero-at-requires (λ c κs. search needs) (λ c. search needs) returns (λ c. search needs) returns-2)

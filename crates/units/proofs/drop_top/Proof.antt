@@ -7,7 +7,7 @@ use Rattle.units.proofs.drop_top.Statement.{statement}
 use Rattle.units.proofs.drop_top.Tie as tie
 
 returns : tie.Need-returns
-returns c = record { change = drops _ _ _ _ (search needs) (search needs) (omega arith) refl }
+returns c = drops _ (search needs) (search needs) (omega arith) refl
 
 pub drop-top-spec : {M : Type 1} → statement M
 drop-top-spec = tie.close (tie.spec (λ c. search needs) (λ c. search needs) (λ c. search needs) (λ c. search needs) (λ c. search needs) returns)

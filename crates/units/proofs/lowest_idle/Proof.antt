@@ -5,16 +5,16 @@ use Prim.Native.Nat.{ℕ, _-_, _≤_}
 use native.Mathlib.Omega.{arith}
 use borrow.Author.Needs.{needs}
 use Rattle.flat.specs.Machine.{idle, idle-from}
-use Rattle.units.specs.Units.{units-from, units-of}
+use Rattle.units.specs.Stacks.{units-from, units-of}
 use Rattle.units.proofs.Loops.{idle-start, idle-next, idle-here, idle-none}
 use Rattle.units.proofs.lowest_idle.Statement.{statement}
 use Rattle.units.proofs.lowest_idle.Tie as tie
 
 abbrev Inv-loop : tie.InvT-loop
-Inv-loop cells n u₀ u = (1 ≤ u) × ((w : List ℕ) → idle (units-of w cells n) ≡ idle-from u (units-from w cells u (n - u)))
+Inv-loop units n u₀ u = (1 ≤ u) × ((w : List ℕ) → idle (units-of w units n) ≡ idle-from u (units-from w units u (n - u)))
 
 abbrev μ-loop : tie.MeasureT-loop
-μ-loop cells n u₀ u = n - u
+μ-loop units n u₀ u = n - u
 
 loop-holds : tie.Need-loop-holds Inv-loop μ-loop
 loop-holds c = (omega arith, λ w. idle-start w _ _)
@@ -23,7 +23,7 @@ returns : tie.Need-returns Inv-loop μ-loop
 returns c =
     let l = c .before .before .before in
     let i = l .loop .inv in
-    record { units = λ w. i .1 w ∙ idle-here w _ _ _ (c .if1 .taken) (omega arith); other = (i .0, c .before .before .loop-test .taken) }
+    record { units = λ w. i .1 w ∙ idle-here w _ _ _ (c .if1 .taken) (omega arith); one = (i .0, c .before .before .loop-test .taken) }
 
 loop-again : tie.Need-loop-again Inv-loop μ-loop
 loop-again c =
@@ -32,7 +32,7 @@ loop-again c =
 
 returns-2 : tie.Need-returns-2 Inv-loop μ-loop
 returns-2 c =
-    record { units = λ w. c .before .loop .inv .1 w ∙ idle-none w _ _ _ (omega arith); other = tt }
+    record { units = λ w. c .before .loop .inv .1 w ∙ idle-none w _ _ _ (omega arith); one = tt }
 
 pub lowest-idle-spec : {M : Type 1} → statement M
 lowest-idle-spec = tie.close (tie.spec Inv-loop μ-loop loop-holds (λ c. search needs) (λ c. search needs) returns (λ c. search needs) (λ c. search needs) loop-again returns-2)

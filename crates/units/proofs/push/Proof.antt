@@ -11,9 +11,9 @@ use Rattle.units.proofs.push.Tie as tie
 
 returns : tie.Need-returns
 returns c =
-    let s = c .before .before .before .before .before .before .before .before .before .before in
-    pushes (c .before .before .before .before .put-frame .ensures) _ _ _ (s .pre .1) (s .pre .2) (omega arith)
-    (ap (λ (x : ℕ). set (now (s .args .cells)) (s .args .u) x) (c .higher .ensures)) (s .pre .0)
+    let p = c .before .before .before .before in
+    let s = p .before .before .before .before .before .before in
+    pushes (p .put-frame .ensures) (s .pre .0) (omega arith) (ap (λ (x : ℕ). set (now (s .args .units)) (s .args .u) x) (c .higher .ensures))
 
 pub push-spec : {M : Type 1} → statement M
 push-spec = tie.close (tie.spec (λ c κs. search needs) (λ c κs. search needs) (λ c. search needs) (λ c κs. search needs) (λ c. search needs) (λ c. search needs) (λ c κs. search needs) (λ c. search needs) (λ c. search needs) (λ c. search needs) returns)

@@ -9,12 +9,12 @@ use Rattle.units.proofs.set_top.Tie as tie
 put-frame-requires : tie.Need-put-frame-requires
 put-frame-requires c κs =
     let s = c .before .before .before .before in
-    (omega (arith, s .pre .0 .most (s .args .u), s .pre .0 .bytes), s .pre .3)
+    (omega (arith, s .pre .0 .fit .most (s .args .u), s .pre .0 .fit .regions .bytes), s .pre .1)
 
 returns : tie.Need-returns
 returns c =
-    let s = c .before .before .before .before .before .before .before in
-    tops (c .before .before .put-frame .ensures) _ _ (c .before .before .before .height-of .result - 1) (s .pre .1) (omega arith) (omega arith) (s .pre .0)
+    let p = c .before .before in
+    tops (p .put-frame .ensures) (p .before .height-of .result - 1) (p .before .before .before .before .before .pre .0) (omega arith) (omega arith)
 
 pub set-top-spec : {M : Type 1} → statement M
 set-top-spec = tie.close (tie.spec (λ c κs. search needs) (λ c κs. search needs) (λ c. search needs) (λ c. search needs) put-frame-requires (λ c. search needs) returns)

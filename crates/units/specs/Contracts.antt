@@ -1,0 +1,132 @@
+-- What the functions on frames, stacks and units ask and ensure. Assumes nothing.
+use mathlib.Core.Path.{_≡_}
+use mathlib.Core.Bool.{Bool, true, false}
+use mathlib.Core.List.{List, _∷_, map}
+use mathlib.Core.Logic.{_⊎_}
+use mathlib.Core.Option.{Option, none, some}
+use Prim.Native.Nat.{ℕ, _+_, _*_, _≤_, _<_}
+use lib.ListN.{length, getD, drop}
+use lib.ListN.{set as put}
+use Rattle.flat.specs.Machine.{Frame, FlatUnit, flat-unit, unit, asleep, idle, fall, shift-frame, shift-unit, flat-start}
+use Rattle.units.specs.Frames.{frameAt, In-three-bytes}
+use Rattle.units.specs.Stacks.{height, stackOf, Offsets, busy-in, height-in, units-of, Store, store, units-in, unit-in}
+use Rattle.units.specs.declared.Unit as S
+use Rattle.units.specs.declared.Idle as I
+
+-- FRAMES OF A WORK AREA
+
+-- the bytes outside the frames from k to m are as they were
+pub record Same-outside (k m : ℕ) (w w′ : List ℕ) : Type 0 where
+  pub size : length w′ ≡ length w
+  pub rest : (i : ℕ) → (i < 3 * k) ⊎ (3 * m ≤ i) → getD w′ i 0 ≡ getD w i 0
+
+-- the frame k is f, and nothing else has changed
+pub record Frame-put (k : ℕ) (f : Frame) (w w′ : List ℕ) : Type 0 where
+  pub outside : Same-outside k (k + 1) w w′
+  pub frame : frameAt w′ k ≡ f
+
+-- the count of the job at index i of the stack from frame base on has fallen by one, however high the stack is
+pub record Count-lowered (base i : ℕ) (w w′ : List ℕ) : Type 0 where
+  pub outside : Same-outside (base + i) (base + i + 1) w w′
+  pub stack : (h : ℕ) → i < h → stackOf w′ base h ≡ fall i (stackOf w base h)
+
+-- the symbols from offset a to offset e give way to k others: the offset of each job of the stack has gone along
+pub record Stack-shifted (base h a e k : ℕ) (w w′ : List ℕ) : Type 0 where
+  pub outside : Same-outside base (base + h) w w′
+  pub stack : stackOf w′ base h ≡ map (shift-frame a e k) (stackOf w base h)
+
+-- UNITS
+
+-- there are regions and cells for eight units; what always holds: no stack is higher than its region
+pub record Eight-regions (s : Store) : Type 0 where
+  pub bytes : 3 * (8 * height) ≤ length (s .work)
+  pub eight : length (s .cells) ≡ 8
+
+pub record Stacks-fit (s : Store) : Type 0 where
+  pub regions : Eight-regions s
+  pub most : (u : ℕ) → height-in (s .cells) u ≤ height
+
+-- the stack of unit u, one of eight, has a frame at index i; it has room for k frames more
+pub record Has-frame (s : Store) (u i : ℕ) : Type 0 where
+  pub fit : Stacks-fit s
+  pub unit : u < 8
+  pub index : i < height-in (s .cells) u
+
+pub record Has-room (s : Store) (u k : ℕ) : Type 0 where
+  pub fit : Stacks-fit s
+  pub unit : u < 8
+  pub room : height-in (s .cells) u + k ≤ height
+
+-- x is unit u's state
+pub record State-of (c : List ℕ) (u : ℕ) (x : S.Unit) : Type 0 where
+  pub busy : x .busy ≡ busy-in c u
+  pub height : x .height ≡ height-in c u
+  pub small : x .height < 2048
+
+-- what is done to a unit
+abbrev pub woken : FlatUnit → FlatUnit
+woken x = flat-unit true (x .stack)
+
+abbrev pub idled : FlatUnit → FlatUnit
+idled x = flat-unit false (x .stack)
+
+abbrev pub dropped : FlatUnit → FlatUnit
+dropped x = flat-unit (x .busy) (drop 1 (x .stack))
+
+abbrev pub pushed : Frame → FlatUnit → FlatUnit
+pushed f x = flat-unit (x .busy) (f ∷ x .stack)
+
+abbrev pub topped : Frame → FlatUnit → FlatUnit
+topped f x = flat-unit (x .busy) (f ∷ drop 1 (x .stack))
+
+-- the units, of which unit u has become another
+abbrev pub at : ℕ → (FlatUnit → FlatUnit) → List FlatUnit → List FlatUnit
+at u g us = put us u (g (unit us u))
+
+-- g has been done to unit u, and nothing else has changed
+pub record Changed (u : ℕ) (g : FlatUnit → FlatUnit) (s s′ : Store) : Type 0 where
+  pub fit : Stacks-fit s′
+  pub units : (n : ℕ) → units-in s′ n ≡ at u g (units-in s n)
+
+-- the same, of the cells alone
+pub record Cell-changed (u : ℕ) (g : FlatUnit → FlatUnit) (c c′ : List ℕ) : Type 0 where
+  pub change : (w : List ℕ) → Stacks-fit (store w c) → Changed u g (store w c) (store w c′)
+
+-- the top frame of unit u's stack is f
+pub record Top-is (u : ℕ) (f : Frame) (s : Store) : Type 0 where
+  pub stack : (n : ℕ) → u < n → unit (units-in s n) u .stack ≡ f ∷ drop 1 (unit (units-in s n) u .stack)
+  pub fits : In-three-bytes f
+
+-- an answer of the search for an idle unit, as the machine on lists has it, and that it is one of units 1 to n - 1
+abbrev pub answer : I.Idle → Option ℕ
+answer (I.the-variants.Unit u) = some u
+answer I.the-variants.None = none
+
+abbrev pub One-of : ℕ → I.Idle → Type 0
+One-of n (I.the-variants.Unit u) = (1 ≤ u) × (u < n)
+One-of n I.the-variants.None = Unit {0}
+
+pub record Lowest-idle (c : List ℕ) (n : ℕ) (r : I.Idle) : Type 0 where
+  pub units : (w : List ℕ) → idle (units-of w c n) ≡ answer r
+  pub one : One-of n r
+
+-- The symbols from offset a to offset e give way to k others: the offsets of the jobs of n units go along, and ten bits hold the new ones.
+pub record Shiftable (n a e k : ℕ) (s : Store) : Type 0 where
+  pub fit : Stacks-fit s
+  pub few : n ≤ 8
+  pub offsets : (u : ℕ) → u < n → Offsets 1024 (map (shift-frame a e k) (unit-in s u .stack))
+
+pub record Units-shifted (n a e k : ℕ) (s s′ : Store) : Type 0 where
+  pub fit : Stacks-fit s′
+  pub units : units-in s′ n ≡ map (shift-unit a e k) (units-in s n)
+
+-- units 0 to u - 1 are idle with SLEEP
+pub record Asleep-below (u : ℕ) (s : Store) : Type 0 where
+  pub regions : Eight-regions s
+  pub heights : (v : ℕ) → v < u → height-in (s .cells) v ≡ 1
+  pub units : (v : ℕ) → v < u → unit-in s v ≡ asleep
+
+-- the units of the machine's start, however many they are
+pub record Started (s : Store) : Type 0 where
+  pub fit : Stacks-fit s
+  pub units : (n : ℕ) (xs : List ℕ) → 1 ≤ n → n ≤ 8 → units-in s n ≡ flat-start n xs .units
