@@ -6,7 +6,7 @@ ghost use Prim.Native.Nat.{_+_, _-_, _*_, _<_, _≤_, _^_};
 ghost use lib.ListN.{length, getD, take, drop};
 ghost use Rattle.flat.specs.Symbols as flat;
 ghost use Rattle.tables.specs.Tables.{book-of};
-ghost use Rattle.rule.specs.Packed.{binding};
+ghost use Rattle.rule.specs.Packed.{binding, Binds-within};
 ghost use Rattle.rule.specs.Contracts as R;
 
 // The offset behind the term that a left side agrees with.
@@ -204,7 +204,7 @@ fn fill_one(
     scratch: &mut [u8; 1024],
     k: usize,
 ) -> Taken
-    requires { ⌜ (length (now book) ≤ 2 ^ 60) × R.Offset-in (now symbols) len 0 × (length (now scratch) ≡ 1024) × R.Bound-within (now bound) len × R.Symbols-fit (now book) at (now operators) (binding (now bound)) k ⌝ }
+    requires { ⌜ (length (now book) ≤ 2 ^ 60) × R.Offset-in (now symbols) len 0 × (length (now scratch) ≡ 1024) × Binds-within (binding (now bound)) len × R.Symbols-fit (now book) at (now operators) (binding (now bound)) k ⌝ }
     ensures { λ r. ⌜ R.Symbol-filled (now (book .entry)) at (now (operators .entry)) (take len (now (symbols .entry))) (binding (now (bound .entry))) k (now (scratch .entry)) (now (scratch .exit)) r ⌝ }
 {
     match side::symbol_at(book, at) {
@@ -238,7 +238,7 @@ pub fn fill(
     bound: &[u16; 32],
     scratch: &mut [u8; 1024],
 ) -> usize
-    requires { ⌜ (length (now book) ≤ 2 ^ 60) × R.Offset-in (now symbols) len 0 × (length (now scratch) ≡ 1024) × R.Bound-within (now bound) len × R.Side-fits (now book) at (now operators) (binding (now bound)) ⌝ }
+    requires { ⌜ (length (now book) ≤ 2 ^ 60) × R.Offset-in (now symbols) len 0 × (length (now scratch) ≡ 1024) × Binds-within (binding (now bound)) len × R.Side-fits (now book) at (now operators) (binding (now bound)) ⌝ }
     ensures { λ r. ⌜ R.Side-filled (now (book .entry)) at (now (operators .entry)) (take len (now (symbols .entry))) (binding (now (bound .entry))) (now (scratch .exit)) r ⌝ }
 {
     let mut p = at;

@@ -32,7 +32,7 @@ inside : (c : tie.After-start-of) →
 inside c =
     let h = c .before .before in
     let v = h .before .before in
-    let w = v .before .before .before .before .pre .3 .within (v .v .given .0 .0) in
+    let w = v .before .before .before .before .pre .3 (v .v .given .0 .0) in
     omega (arith, c .start-of .ensures .0, h .size-of .ensures .0)
 
 copy-requires : tie.Need-copy-requires
