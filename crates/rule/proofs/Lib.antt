@@ -2,6 +2,7 @@ pub mod Sides
 pub mod Bindings
 pub mod Matches
 pub mod Fills
-pub mod Choices
+pub mod Arities
 pub mod Tables
+pub mod Choices
 pub mod Laws

@@ -1,25 +1,31 @@
 -- A left side matched symbol by symbol, as the book's bits give them. Assumes nothing.
-use mathlib.Core.Bool.{true, false}
+use mathlib.Core.Bool.{Bool, true, false}
 use mathlib.Core.List.{List, [], _∷_}
 use mathlib.Core.Logic.{_⊎_}
 use mathlib.Core.Path.{_≡_, refl, sym, ap, _∙_, subst}
-use Prim.Native.Nat.{ℕ, zero, suc, _+_, _-_, _≤_, _<_}
+use Prim.Native.Nat.{ℕ, zero, suc, _+_, _-_, _%_, _^_, _≤_, _<_}
 use native.Mathlib.Numerals.{add-one}
 use native.Mathlib.Omega.{arith}
 use lib.Dec.{eqb}
 use lib.ListN.{length, getD, drop, drop-of-length-le}
 use lib.Seq.{drop-cons, drop-drop}
+use borrow.Author.Tests.{ne-eqb}
 use Rattle.paper.specs.Book.{Symbol}
 use Rattle.flat.specs.Symbols as flat
 use Rattle.flat.specs.Symbols.{segment, Binding, bind, skip, match}
+use Rattle.bits.specs.Field.{Nine}
 use Rattle.side.specs.Side.{StandingAt}
 use Rattle.side.specs.declared.Standing as Sd
-use Rattle.term.specs.Line.{arity-in}
-use Rattle.rule.specs.Packed.{All-at, binding, Within, Holds, head-is, Step-matches, MatchStep, Answers}
-use Rattle.rule.specs.declared.Step as S
+use Rattle.side.proofs.There.{stands-operator}
+use Rattle.tables.specs.Layout.{arity-in}
+use Rattle.rule.specs.Packed.{All-at, binding, Binds-within}
+use Rattle.rule.specs.Contracts.{Holds-binding, Bound-within, head-is, head-or, Other-stands, Symbol-agrees, Rest-matched}
+use Rattle.rule.specs.declared.Taken as T
 use Rattle.rule.specs.declared.Found as F
-use Rattle.rule.proofs.Sides.{goes-operator, goes-variable, all-operator, none-left}
+use Rattle.rule.proofs.Sides.{taken, goes-operator, goes-variable, all-operator, none-left}
 use Rattle.rule.proofs.Bindings.{within-bind}
+
+-- THE FIRST SYMBOL
 
 match-head : (arity : ℕ → ℕ) (o : ℕ) (ss : List Symbol) (a : ℕ) (xs : List ℕ) (b : Binding) → head-is o xs ≡ true →
     match arity (Symbol.operator o ∷ ss) a xs b ≡ match arity ss (suc a) (drop 1 xs) b
@@ -44,13 +50,22 @@ match-variable arity v ss a xs b k p =
     ap (λ (i : ℕ). match arity ss (a + i) (drop i (drop a xs)) (bind v (segment a i) b)) p
     ∙ ap (λ (l : List ℕ). match arity ss (a + k) l (bind v (segment a k) b)) (drop-drop k a xs)
 
-pub head-at : (o a : ℕ) (xs : List ℕ) (x : ℕ) → a < length xs → x ≡ getD xs a 0 → head-is o (drop a xs) ≡ eqb o x
-unfolding head-is
-head-at o a xs x h e = rw (drop-cons xs a 0, e)
+module _ (a : ℕ) (xs : List ℕ) where
+  pub head-at : (o x : ℕ) → a < length xs → x ≡ getD xs a 0 → head-is o (drop a xs) ≡ eqb o x
+  unfolding head-is
+  head-at o x h e = rw (drop-cons xs a 0, e)
 
-pub head-end : (o a : ℕ) (xs : List ℕ) → length xs ≤ a → head-is o (drop a xs) ≡ false
-unfolding head-is
-head-end o a xs h = rw (drop-of-length-le xs h)
+  pub head-end : (o : ℕ) → length xs ≤ a → head-is o (drop a xs) ≡ false
+  unfolding head-is
+  head-end o h = rw (drop-of-length-le xs h)
+
+  pub or-at : (x : ℕ) → a < length xs → x ≡ getD xs a 0 → x ≡ head-or (drop a xs)
+  unfolding head-or
+  or-at x h e = rw (drop-cons xs a 0, e)
+
+  pub or-end : length xs ≤ a → _≡_ {A = ℕ} 256 (head-or (drop a xs))
+  unfolding head-or
+  or-end h = rw (drop-of-length-le xs h)
 
 pub head-inside : (o a : ℕ) (xs : List ℕ) → head-is o (drop a xs) ≡ true → a < length xs
 unfolding head-is
@@ -59,52 +74,73 @@ head-inside o (suc a) [] e = let z : _≡_ {A = ℕ} 0 1 = cc in absurd (omega a
 head-inside o zero (x ∷ xs) e = omega arith
 head-inside o (suc a) (x ∷ xs) e = let h = head-inside o a xs e in omega arith
 
--- One symbol
+-- ANOTHER OPERATOR
 
-module _ (bytes : List ℕ) (arities xs : List ℕ) (at a len : ℕ) (starts sizes : List ℕ) (long : length starts ≡ 16) (wide : length sizes ≡ 16) where
-  module _ (o next : ℕ) (h : StandingAt bytes at (Sd.Standing.Operator o next)) where
-    pub step-other : head-is o (drop a xs) ≡ false → MatchStep bytes at arities xs a len (binding starts sizes) starts sizes S.Step.Stops
-    step-other e =
-        record { starts-long = long; sizes-long = wide; is = all-operator bytes arities _ at o next h (λ ss. match-other (arity-in arities) o ss a (drop a xs) (binding starts sizes) e) }
+-- of nine bits below 256
+pub other-stands : {bytes : List ℕ} {at w : ℕ} (x : ℕ) (r : Bool) → Nine bytes at w → length bytes ≤ 2 ^ 60 → w < 256 → (r ≡ true → w ≡ x → ⊥) →
+    Other-stands bytes at x r
+other-stands {bytes} {at} {w} x true n h l d = (w, (at + 9) % 2 ^ 64, l, d refl, stands-operator bytes at w n h w ((at + 9) % 2 ^ 64) l refl refl)
+other-stands x false n h l d = tt
 
-    pub step-same : (arity : ℕ) → head-is o (drop a xs) ≡ true → arity ≡ arity-in arities o → arity < 256 → length xs ≤ len → Within (binding starts sizes) len →
-        MatchStep bytes at arities xs a len (binding starts sizes) starts sizes (S.Step.Took arity next 1)
-    step-same arity e f m l w =
-        let i = head-inside o a xs e in
-        record {
-          starts-long = long;
-          sizes-long = wide;
-          is = (m, omega arith, w, goes-operator bytes arities _ at o next arity h f λ ss. match-same (arity-in arities) o ss a xs (binding starts sizes) e);
-        }
+not-head : (o : ℕ) (xs : List ℕ) → o < 256 → (o ≡ head-or xs → ⊥) → head-is o xs ≡ false
+unfolding head-is head-or
+not-head o [] l d = refl
+not-head o (x ∷ xs) l d = ne-eqb o x d
 
-  pub step-variable : (v next e : ℕ) (starts′ sizes′ : List ℕ) → StandingAt bytes at (Sd.Standing.Variable v next) → e ≡ a + skip (arity-in arities) 1 (drop a xs) → e ≤ len →
-      Within (binding starts sizes) len → Holds starts′ sizes′ (bind v (segment a (e - a)) (binding starts sizes)) →
-      MatchStep bytes at arities xs a len (binding starts sizes) starts′ sizes′ (S.Step.Took 0 next (e - a))
-  step-variable v next e starts′ sizes′ h f l w g =
+-- where an operator stands that is not the term's next symbol, the symbols differ
+pub differs-at : {bytes : List ℕ} {at : ℕ} (operators xs : List ℕ) (a : ℕ) (b : Binding) (o next : ℕ) → StandingAt bytes at (Sd.Standing.Operator o next) →
+    head-is o (drop a xs) ≡ false → All-at bytes at operators (λ ss. match (arity-in operators) ss a (drop a xs) b ≡ flat.Match.differs)
+differs-at {bytes} {at} operators xs a b o next h e =
+    all-operator bytes operators _ at o next h (λ ss. match-other (arity-in operators) o ss a (drop a xs) b e)
+
+pub other-differs : {bytes : List ℕ} {at : ℕ} (operators xs : List ℕ) (a : ℕ) (b : Binding) → Other-stands bytes at (head-or (drop a xs)) true →
+    All-at bytes at operators (λ ss. match (arity-in operators) ss a (drop a xs) b ≡ flat.Match.differs)
+other-differs operators xs a b (o, next, l, d, s) = differs-at operators xs a b o next s (not-head o (drop a xs) l d)
+
+-- ONE SYMBOL
+
+module _ {bytes operators xs : List ℕ} {at a len : ℕ} {bound : List ℕ} (w : Bound-within bound len) where
+  pub step-same : (o next arity : ℕ) → StandingAt bytes at (Sd.Standing.Operator o next) → head-is o (drop a xs) ≡ true → arity ≡ arity-in operators o →
+      arity < 256 → length xs ≤ len → Symbol-agrees bytes at operators xs a len (binding bound) bound (taken arity next 1)
+  step-same o next arity h e f m l =
+      let i = head-inside o a xs e in
       record {
-        starts-long = g .starts-long;
-        sizes-long = g .sizes-long;
-        is = (
-          omega arith,
-          omega arith,
-          subst (λ (b : Binding). Within b len) (sym (g .is)) (within-bind v a (e - a) len (binding starts sizes) (omega arith) w),
-          goes-variable bytes arities _ at v next h λ ss. match-variable (arity-in arities) v ss a xs (binding starts sizes) (e - a) (omega arith) ∙ ap (λ (b : Binding). match (arity-in arities) ss (a + (e - a)) (drop (a + (e - a)) xs) b) (sym (g .is)),
-        );
+        arity = m;
+        end = omega arith;
+        bound-within = w;
+        goes = goes-operator bytes operators _ at o next arity h f (λ ss. match-same (arity-in operators) o ss a xs (binding bound) e);
       }
 
--- The rest of a side
+  pub step-variable : (v next e : ℕ) (bound′ : List ℕ) → StandingAt bytes at (Sd.Standing.Variable v next) →
+      e ≡ a + skip (arity-in operators) 1 (drop a xs) → e ≤ len → Holds-binding bound′ (bind v (segment a (e - a)) (binding bound)) →
+      Symbol-agrees bytes at operators xs a len (binding bound) bound′ (taken 0 next (e - a))
+  step-variable v next e bound′ h f l g =
+      record {
+        arity = omega arith;
+        end = omega arith;
+        bound-within = record {
+          within =
+              subst (λ (b : Binding). Binds-within b len) (sym (g .is)) (within-bind v a (e - a) len (binding bound) (omega arith) (w .within));
+          long = g .long;
+        };
+        goes = goes-variable bytes operators _ at v next h (λ ss.
+            match-variable (arity-in operators) v ss a xs (binding bound) (e - a) (omega arith)
+            ∙ ap (λ (b : Binding). match (arity-in operators) ss (a + (e - a)) (drop (a + (e - a)) xs) b) (sym (g .is)));
+      }
 
-module _ (bytes : List ℕ) (arities xs : List ℕ) (at due room a : ℕ) (b : Binding) where
-  pub ended : (due ≡ 0) ⊎ (room ≡ 0) → Answers bytes at arities due room xs a b (F.Found.Agrees a) b
+-- THE REST OF A SIDE
+
+module _ {bytes operators xs : List ℕ} {at due room a : ℕ} {b : Binding} where
+  pub ended : (due ≡ 0) ⊎ (room ≡ 0) → Rest-matched bytes at operators due room xs a b b (F.Found.Agrees a)
   unfolding match
-  ended e = record { is = λ ss s. rw (none-left bytes arities at due room ss s e) }
+  ended e = record { is = λ ss s. rw (none-left bytes operators at due room ss s e) }
 
-  pub stopped : (b′ : Binding) → 0 < due → All-at bytes at arities (λ ss. match (arity-in arities) ss a (drop a xs) b ≡ flat.Match.differs) →
-      Answers bytes at arities due room xs a b F.Found.Differs b′
-  stopped b′ d h = record { is = λ ss s. h due room ss d s }
+  pub stopped : {b′ : Binding} → 0 < due → All-at bytes at operators (λ ss. match (arity-in operators) ss a (drop a xs) b ≡ flat.Match.differs) →
+      Rest-matched bytes at operators due room xs a b b′ F.Found.Differs
+  stopped d h = record { is = λ ss s. h due room ss d s }
 
-  pub went : (b′ : Binding) (len arity next size due′ room′ : ℕ) (r : F.Found) (b″ : Binding) → 0 < due →
-      Step-matches bytes at arities xs a len b b′ (S.Step.Took arity next size) → due′ ≡ due - 1 + arity → room′ ≡ room - 1 →
-      Answers bytes next arities due′ room′ xs (a + size) b′ r b″ → Answers bytes at arities due room xs a b r b″
-  went b′ len arity next size due′ room′ r b″ d (m, l, w, h) p q g =
-      record { is = λ ss s. let (ss′, k, e) = h due room ss d s in e ∙ g .is ss′ (k due′ room′ p q) }
+  pub went : {bound : List ℕ} {len due′ room′ : ℕ} {t : T.Taken} {r : F.Found} {b″ : Binding} → 0 < due → Symbol-agrees bytes at operators xs a len b bound t →
+      due′ ≡ due - 1 + t .arity → room′ ≡ room - 1 → Rest-matched bytes (t .next) operators due′ room′ xs (a + t .size) (binding bound) b″ r →
+      Rest-matched bytes at operators due room xs a b b″ r
+  went {due′ = due′} {room′ = room′} d h p q g =
+      record { is = λ ss s. let (ss′, k, e) = h .goes due room ss d s in e ∙ g .is ss′ (k due′ room′ p q) }

@@ -11,47 +11,52 @@ use Rattle.paper.specs.Bits.{toBits, bitsOf}
 use Rattle.paper.specs.Book.{Operator, Symbol}
 use Rattle.paper.specs.Reader.{read-symbol}
 use Rattle.paper.specs.Sound.{All}
-use Rattle.paper.specs.Tree.{Complete}
-use Rattle.paper.specs.WellFormed as paper
 use Rattle.paper.specs.Writer.{concat, write-symbol}
 use Rattle.paper.proofs.Bits.{length-toBits}
 use Rattle.paper.proofs.Readers.{accepted-injective}
+use Rattle.paper.proofs.Rules as paper
 use Rattle.paper.proofs.Rules.{symbol-written}
+use Rattle.paper.specs.Tree.{Complete}
 use Rattle.side.specs.Side.{bitsAt, standing, Held, StandingAt}
 use Rattle.side.specs.declared.Standing as Sd
-use Rattle.term.specs.Line.{arity-in}
+use Rattle.tables.specs.Layout.{arity-in}
 use Rattle.rule.specs.Packed.{symbol-arity, Stands, Goes, All-at}
+use Rattle.rule.specs.declared.Taken as T
+
+-- what is read of a symbol
+abbrev pub taken : ℕ → ℕ → ℕ → T.Taken
+taken arity next size = record { arity = arity; next = next; size = size }
 
 -- any 256 operators serve to read a symbol
-operators : List Operator
-operators = replicate 256 (record { arity = 0; strategy = [] })
+any : List Operator
+any = replicate 256 (record { arity = 0; strategy = [] })
 
-fits : (s : Symbol) → Held s → paper.Fits operators s
-unfolding operators
+fits : (s : Symbol) → Held s → paper.Fits any s
+unfolding any
 fits (Symbol.operator o) h = rw length-replicate h
 fits (Symbol.variable v) h = h
 
 -- the first of the symbols that bits spell is read off them
 first : (s : Symbol) (ss : List Symbol) (rest xs : List ℕ) → Held s → xs ≡ concat write-symbol (s ∷ ss) ++ rest →
-    read-symbol operators xs ≡ accepted (record { value = s; left = concat write-symbol ss ++ rest })
-unfolding operators concat return
+    read-symbol any xs ≡ accepted (record { value = s; left = concat write-symbol ss ++ rest })
+unfolding any concat return
 first s ss rest xs f e =
-    let l : length operators ≡ 256 = length-replicate {A = Operator} 256 (record { arity = 0; strategy = [] }) in
-    ap (read-symbol operators) (e ∙ append-assoc (write-symbol s) (concat write-symbol ss) rest)
-    ∙ symbol-written operators s (concat write-symbol ss ++ rest) (omega arith) (fits s f)
+    let l : length any ≡ 256 = length-replicate {A = Operator} 256 (record { arity = 0; strategy = [] }) in
+    ap (read-symbol any) (e ∙ append-assoc (write-symbol s) (concat write-symbol ss) rest)
+    ∙ symbol-written any s (concat write-symbol ss ++ rest) (omega arith) (fits s f)
 
-module _ (bytes : List ℕ) (arities : List ℕ) where
+module _ (bytes : List ℕ) (operators : List ℕ) where
   -- of the symbols ss, s is the first, and the others stand at the position next
   abbrev Behind : ℕ → ℕ → List Symbol → Symbol → ℕ → Type 0
   Behind due room ss s next =
       (ss′ : List Symbol) × (ss ≡ s ∷ ss′)
-      × ((due′ room′ : ℕ) → due′ ≡ due - 1 + symbol-arity arities s → room′ ≡ room - 1 → Stands bytes next arities due′ room′ ss′)
+      × ((due′ room′ : ℕ) → due′ ≡ due - 1 + symbol-arity operators s → room′ ≡ room - 1 → Stands bytes next operators due′ room′ ss′)
 
   abbrev Took : ℕ → ℕ → List Symbol → Sd.Standing → Type 0
   Took due room ss (Sd.Standing.Operator o next) = Behind due room ss (Symbol.operator o) next
   Took due room ss (Sd.Standing.Variable v next) = Behind due room ss (Symbol.variable v) next
 
-  behind : (due room : ℕ) (s : Symbol) (ss : List Symbol) (rest : List ℕ) → All Held ss → Complete (symbol-arity arities) (symbol-arity arities s + due) ss →
+  behind : (due room : ℕ) (s : Symbol) (ss : List Symbol) (rest : List ℕ) → All Held ss → Complete (symbol-arity operators) (symbol-arity operators s + due) ss →
       suc (length ss) ≤ room → (t : Symbol) (next : ℕ) →
       _≡_ {A = Read Symbol} (record { value = t; left = bitsAt bytes next }) (record { value = s; left = concat write-symbol ss ++ rest }) →
       Behind (suc due) room (s ∷ ss) t next
@@ -61,44 +66,44 @@ module _ (bytes : List ℕ) (arities : List ℕ) where
         ap (λ (x : Symbol). x ∷ ss) z,
         λ due′ room′ d r. record {
           stand = record { rest = rest; is = ap (λ (x : Read Symbol). x .left) q };
-          fits = fs;
-          complete = subst (λ (d : ℕ). Complete (symbol-arity arities) d ss) (let k = ap (symbol-arity arities) z in omega arith) c;
+          held = fs;
+          complete = subst (λ (d : ℕ). Complete (symbol-arity operators) d ss) (let k = ap (symbol-arity operators) z in omega arith) c;
           short = omega arith;
         },
       )
 
   -- what is read is the first of the symbols that stand there
-  took : (at due room : ℕ) (ss : List Symbol) (r : Sd.Standing) → StandingAt bytes at r → 0 < due → Stands bytes at arities due room ss → Took due room ss r
+  took : (at due room : ℕ) (ss : List Symbol) (r : Sd.Standing) → StandingAt bytes at r → 0 < due → Stands bytes at operators due room ss → Took due room ss r
   unfolding concat
   took at zero room ss r h d k = absurd (omega arith)
   took at (suc due) room [] r h d k = absurd (k .complete)
   took at (suc due) room (s ∷ ss) r h d k =
-      go r (h .is s _ (k .fits .0) (k .stand .is ∙ append-assoc (write-symbol s) (concat write-symbol ss) (k .stand .rest)))
+      go r (h .is s _ (k .held .0) (k .stand .is ∙ append-assoc (write-symbol s) (concat write-symbol ss) (k .stand .rest)))
     where
       go : (r : Sd.Standing) → standing bytes r ≡ record { value = s; left = concat write-symbol ss ++ k .stand .rest } → Took (suc due) room (s ∷ ss) r
-      go (Sd.Standing.Operator o next) e = behind due room s ss (k .stand .rest) (k .fits .1) (k .complete) (k .short) (Symbol.operator o) next e
-      go (Sd.Standing.Variable v next) e = behind due room s ss (k .stand .rest) (k .fits .1) (k .complete) (k .short) (Symbol.variable v) next e
+      go (Sd.Standing.Operator o next) e = behind due room s ss (k .stand .rest) (k .held .1) (k .complete) (k .short) (Symbol.operator o) next e
+      go (Sd.Standing.Variable v next) e = behind due room s ss (k .stand .rest) (k .held .1) (k .complete) (k .short) (Symbol.variable v) next e
 
-  pub goes-operator : (P : List Symbol → List Symbol → Type 0) (at o next arity : ℕ) → StandingAt bytes at (Sd.Standing.Operator o next) → arity ≡ arity-in arities o →
-      ((ss : List Symbol) → P (Symbol.operator o ∷ ss) ss) → Goes bytes at arities P arity next
+  pub goes-operator : (P : List Symbol → List Symbol → Type 0) (at o next arity : ℕ) → StandingAt bytes at (Sd.Standing.Operator o next) → arity ≡ arity-in operators o →
+      ((ss : List Symbol) → P (Symbol.operator o ∷ ss) ss) → Goes bytes at operators P arity next
   goes-operator P at o next arity h e p due room ss d s =
       let (ss′, z, k) = took at due room ss (Sd.Standing.Operator o next) h d s in
       (ss′, λ due′ room′ f g. k due′ room′ (omega arith) g, subst (λ (l : List Symbol). P l ss′) (sym z) (p ss′))
 
   pub goes-variable : (P : List Symbol → List Symbol → Type 0) (at v next : ℕ) → StandingAt bytes at (Sd.Standing.Variable v next) →
-      ((ss : List Symbol) → P (Symbol.variable v ∷ ss) ss) → Goes bytes at arities P 0 next
+      ((ss : List Symbol) → P (Symbol.variable v ∷ ss) ss) → Goes bytes at operators P 0 next
   goes-variable P at v next h p due room ss d s =
       let (ss′, z, k) = took at due room ss (Sd.Standing.Variable v next) h d s in
       (ss′, k, subst (λ (l : List Symbol). P l ss′) (sym z) (p ss′))
 
   pub all-operator : (P : List Symbol → Type 0) (at o next : ℕ) → StandingAt bytes at (Sd.Standing.Operator o next) → ((ss : List Symbol) → P (Symbol.operator o ∷ ss)) →
-      All-at bytes at arities P
+      All-at bytes at operators P
   all-operator P at o next h p due room ss d s =
       let (ss′, z, k) = took at due room ss (Sd.Standing.Operator o next) h d s in subst P (sym z) (p ss′)
 
   -- behind the nine bits of a root stand the symbols of its arguments
-  pub under-root : (at o arity : ℕ) (ss : List Symbol) → Stands bytes at arities 1 64 (Symbol.operator o ∷ ss) → arity ≡ arity-in arities o →
-      Stands bytes (at + 9) arities arity 63 ss
+  pub under-root : (at o arity : ℕ) (ss : List Symbol) → Stands bytes at operators 1 64 (Symbol.operator o ∷ ss) → arity ≡ arity-in operators o →
+      Stands bytes (at + 9) operators arity 63 ss
   unfolding concat write-symbol
   under-root at o arity ss k e =
       let root = write-symbol (Symbol.operator o) in
@@ -110,21 +115,21 @@ module _ (bytes : List ℕ) (arities : List ℕ) where
               ∙ ap (drop 9) (k .stand .is ∙ append-assoc root (concat write-symbol ss) (k .stand .rest))
               ∙ drop-at root (concat write-symbol ss ++ k .stand .rest) 9 (length-append (toBits 1 0) (toBits 8 o) ∙ ap₂ _+_ (length-toBits 1 0) (length-toBits 8 o));
         };
-        fits = k .fits .1;
-        complete = subst (λ (d : ℕ). Complete (symbol-arity arities) d ss) (omega arith) (k .complete);
+        held = k .held .1;
+        complete = subst (λ (d : ℕ). Complete (symbol-arity operators) d ss) (omega arith) (k .complete);
         short = omega arith;
       }
 
   -- no symbol is to come where no term is due or no room is left
-  pub none-left : (at due room : ℕ) (ss : List Symbol) → Stands bytes at arities due room ss → (due ≡ 0) ⊎ (room ≡ 0) → ss ≡ []
+  pub none-left : (at due room : ℕ) (ss : List Symbol) → Stands bytes at operators due room ss → (due ≡ 0) ⊎ (room ≡ 0) → ss ≡ []
   none-left at due room [] k e = refl
   none-left at zero room (s ∷ ss) k (inl e) = absurd (k .complete)
   none-left at (suc due) room (s ∷ ss) k (inl e) = absurd (omega arith)
   none-left at due room (s ∷ ss) k (inr e) = let l = k .short in absurd (omega arith)
 
   -- bits spell only one list of symbols
-  spelt-once : (due : ℕ) (ss ts : List Symbol) (xs rest rest′ : List ℕ) → All Held ss → All Held ts → Complete (symbol-arity arities) due ss →
-      Complete (symbol-arity arities) due ts → xs ≡ concat write-symbol ss ++ rest → xs ≡ concat write-symbol ts ++ rest′ → ss ≡ ts
+  spelt-once : (due : ℕ) (ss ts : List Symbol) (xs rest rest′ : List ℕ) → All Held ss → All Held ts → Complete (symbol-arity operators) due ss →
+      Complete (symbol-arity operators) due ts → xs ≡ concat write-symbol ss ++ rest → xs ≡ concat write-symbol ts ++ rest′ → ss ≡ ts
   spelt-once zero [] [] xs rest rest′ f g c d p q = refl
   spelt-once zero [] (t ∷ ts) xs rest rest′ f g c d p q = absurd d
   spelt-once zero (s ∷ ss) ts xs rest rest′ f g c d p q = absurd c
@@ -134,9 +139,9 @@ module _ (bytes : List ℕ) (arities : List ℕ) where
       let e = accepted-injective (sym (first s ss rest xs (f .0) p) ∙ first t ts rest′ xs (g .0) q) in
       let z : s ≡ t = ap (λ (x : Read Symbol). x .value) e in
       ap₂ (λ (x : Symbol) (l : List Symbol). x ∷ l) z
-      (spelt-once (symbol-arity arities s + due) ss ts (concat write-symbol ss ++ rest) rest rest′ (f .1) (g .1) c
-      (subst (λ (x : Symbol). Complete (symbol-arity arities) (symbol-arity arities x + due) ts) (sym z) d) refl (ap (λ (x : Read Symbol). x .left) e))
+      (spelt-once (symbol-arity operators s + due) ss ts (concat write-symbol ss ++ rest) rest rest′ (f .1) (g .1) c
+      (subst (λ (x : Symbol). Complete (symbol-arity operators) (symbol-arity operators x + due) ts) (sym z) d) refl (ap (λ (x : Read Symbol). x .left) e))
 
-  pub stands-once : (at due room : ℕ) (ss ts : List Symbol) → Stands bytes at arities due room ss → Stands bytes at arities due room ts → ss ≡ ts
+  pub stands-once : (at due room : ℕ) (ss ts : List Symbol) → Stands bytes at operators due room ss → Stands bytes at operators due room ts → ss ≡ ts
   stands-once at due room ss ts h k =
-      spelt-once due ss ts (bitsAt bytes at) (h .stand .rest) (k .stand .rest) (h .fits) (k .fits) (h .complete) (k .complete) (h .stand .is) (k .stand .is)
+      spelt-once due ss ts (bitsAt bytes at) (h .stand .rest) (k .stand .rest) (h .held) (k .held) (h .complete) (k .complete) (h .stand .is) (k .stand .is)

@@ -2,10 +2,12 @@
 // (document 01, 'Reduction one after the other').
 use side::Standing;
 ghost use mathlib.Core.Path.{_≡_};
-ghost use Prim.Native.Nat.{_+_, _-_, _<_, _≤_, _^_};
+ghost use Prim.Native.Nat.{_+_, _-_, _*_, _<_, _≤_, _^_};
 ghost use lib.ListN.{length, getD, take, drop};
 ghost use Rattle.flat.specs.Symbols as flat;
-ghost use Rattle.rule.specs.Packed.{binding, Within, Holds, head-is, MatchStep, Bounded, Answers, SizeStep, Sized, ToFill, FillStep, Fillable, Filled, Tried, Onward, Chosen};
+ghost use Rattle.tables.specs.Tables.{book-of};
+ghost use Rattle.rule.specs.Packed.{binding, Binds-within};
+ghost use Rattle.rule.specs.Contracts as R;
 
 // The offset behind the term that a left side agrees with.
 pub enum Found {
@@ -13,71 +15,50 @@ pub enum Found {
     Differs,
 }
 
-// The first rule that matches, by its index, and the offset behind the term.
+// A rule that matches, by its index, and the offset behind the term.
+pub struct Match {
+    pub rule: usize,
+    pub end: usize,
+}
+
+// The first rule that matches.
 pub enum Hit {
-    Rule(usize, usize),
+    Rule(Match),
     None,
 }
 
 // A symbol of a side that goes on: its arity, the position behind it, and how many symbols of the term it takes or gives.
+struct Taken {
+    arity: usize,
+    next: usize,
+    size: usize,
+}
+
 enum Step {
-    Took(usize, usize, usize),
+    Took(Taken),
     Stops,
 }
 
-fn wide(x: u8) -> usize
-    ensures { λ r. ⌜ (r ≡ x) × (r < 256) ⌝ }
-{
-    x as usize
-}
-
-fn arity_of(arities: &[u8; 256], o: u8) -> usize
-    ensures { λ r. ⌜ (r ≡ getD (now (arities .entry)) o 0) × (r < 256) ⌝ }
-{
-    wide(arities[wide(o)])
-}
-
-fn long(x: u16) -> usize
-    ensures { λ r. ⌜ (r ≡ x) × (r < 65536) ⌝ }
-{
-    x as usize
-}
-
-fn place(x: u32) -> usize
-    ensures { λ r. ⌜ (r ≡ x) × (r < 2 ^ 32) ⌝ }
-{
-    x as usize
-}
-
-fn short(x: usize) -> u16
-    requires { ⌜ x ≤ 1024 ⌝ }
-    ensures { λ r. ⌜ r ≡ x ⌝ }
-{
-    x as u16
-}
-
-// What an array holds for the variable v.
-fn held(xs: &[u16; 16], v: u8) -> usize
+// A binding is kept as an array: variable v's start at 2 * v, its size behind it.
+fn start_of(bound: &[u16; 32], v: u8) -> usize
     requires { ⌜ v < 16 ⌝ }
-    ensures { λ r. ⌜ (r ≡ getD (now (xs .entry)) v 0) × (r < 65536) ⌝ }
+    ensures { λ r. ⌜ (r ≡ getD (now (bound .entry)) (2 * v) 0) × (r < 65536) ⌝ }
 {
-    long(xs[wide(v)])
+    casts::offset(bound[2 * casts::index(v)])
 }
 
-// Is o the symbol at offset at?
-fn stands(symbols: &[u8; 1024], len: usize, at: usize, o: u8) -> bool
-    requires { ⌜ (length (now symbols) ≡ 1024) × (len ≤ 1024) ⌝ }
-    ensures { λ r. ⌜ r ≡ head-is o (drop at (take len (now (symbols .entry)))) ⌝ }
+fn size_of(bound: &[u16; 32], v: u8) -> usize
+    requires { ⌜ v < 16 ⌝ }
+    ensures { λ r. ⌜ (r ≡ getD (now (bound .entry)) (2 * v + 1) 0) × (r < 65536) ⌝ }
 {
-    if at < len { o == symbols[at] } else { false }
+    casts::offset(bound[2 * casts::index(v) + 1])
 }
 
 // No variable is bound.
-fn clear(starts: &mut [u16; 16], sizes: &mut [u16; 16])
-    ensures { λ _. ⌜ Holds (now (starts .exit)) (now (sizes .exit)) flat.blank ⌝ }
+fn clear(bound: &mut [u16; 32])
+    ensures { λ _. ⌜ R.Holds-binding (now (bound .exit)) flat.blank ⌝ }
 {
-    *starts = [0; 16];
-    *sizes = [0; 16];
+    *bound = [0; 32];
 }
 
 // How many symbols stand from offset at up to offset end.
@@ -85,44 +66,60 @@ fn span(at: usize, end: usize) -> u16
     requires { ⌜ (at ≤ end) × (end ≤ 1024) ⌝ }
     ensures { λ r. ⌜ r ≡ end - at ⌝ }
 {
-    short(end - at)
+    casts::short(end - at)
 }
 
 // The variable v is bound to the symbols from offset at up to offset end.
-fn bind(starts: &mut [u16; 16], sizes: &mut [u16; 16], v: u8, at: usize, end: usize)
-    requires { ⌜ (length (now starts) ≡ 16) × (length (now sizes) ≡ 16) × (v < 16) × (at ≤ end) × (end ≤ 1024) ⌝ }
-    ensures { λ _. ⌜ Holds (now (starts .exit)) (now (sizes .exit)) (flat.bind v (flat.segment at (end - at)) (binding (now (starts .entry)) (now (sizes .entry)))) ⌝ }
+fn bind(bound: &mut [u16; 32], v: u8, at: usize, end: usize)
+    requires { ⌜ (length (now bound) ≡ 32) × (v < 16) × (at ≤ end) × (end ≤ 1024) ⌝ }
+    ensures { λ _. ⌜ R.Holds-binding (now (bound .exit)) (flat.bind v (flat.segment at (end - at)) (binding (now (bound .entry)))) ⌝ }
 {
-    starts[wide(v)] = short(at);
-    sizes[wide(v)] = span(at, end);
+    let i = 2 * casts::index(v);
+    bound[i] = casts::short(at);
+    bound[i + 1] = span(at, end);
+}
+
+// Is o the symbol at offset at?
+fn stands(symbols: &[u8; 1024], len: usize, at: usize, o: u8) -> bool
+    requires { ⌜ (length (now symbols) ≡ 1024) × (len ≤ 1024) ⌝ }
+    ensures { λ r. ⌜ r ≡ R.head-is o (drop at (take len (now (symbols .entry)))) ⌝ }
+{
+    if at < len { o == symbols[at] } else { false }
 }
 
 // The symbol at position at of a left side, against the term at an offset.
 fn match_one(
     book: &[u8],
     at: usize,
-    arities: &[u8; 256],
+    operators: &[u8; 4352],
     symbols: &[u8; 1024],
     len: usize,
     offset: usize,
-    starts: &mut [u16; 16],
-    sizes: &mut [u16; 16],
+    bound: &mut [u16; 32],
 ) -> Step
-    requires { ⌜ (length (now book) ≤ 2 ^ 60) × (length (now symbols) ≡ 1024) × (len ≤ 1024) × (offset ≤ len) × (length (now starts) ≡ 16) × (length (now sizes) ≡ 16) × Within (binding (now starts) (now sizes)) len ⌝ }
-    ensures { λ r. ⌜ MatchStep (now (book .entry)) at (now (arities .entry)) (take len (now (symbols .entry))) offset len (binding (now (starts .entry)) (now (sizes .entry))) (now (starts .exit)) (now (sizes .exit)) r ⌝ }
+    requires { ⌜ (length (now book) ≤ 2 ^ 60) × R.Offset-in (now symbols) len offset × R.Bound-within (now bound) len ⌝ }
+    ensures { λ r. ⌜ R.Symbol-matched (now (book .entry)) at (now (operators .entry)) (take len (now (symbols .entry))) offset len (binding (now (bound .entry))) (now (bound .exit)) r ⌝ }
 {
     match side::symbol_at(book, at) {
         Standing::Operator(o, next) => {
             if stands(symbols, len, offset, o) {
-                Step::Took(arity_of(arities, o), next, 1)
+                Step::Took(Taken {
+                    arity: tables::arity(operators, o),
+                    next: next,
+                    size: 1,
+                })
             } else {
                 Step::Stops
             }
         }
         Standing::Variable(v, next) => {
-            let end = term::skip(symbols, len, arities, offset, 1);
-            bind(starts, sizes, v, offset, end);
-            Step::Took(0, next, end - offset)
+            let end = term::skip(symbols, len, operators, offset, 1);
+            bind(bound, v, offset, end);
+            Step::Took(Taken {
+                arity: 0,
+                next: next,
+                size: end - offset,
+            })
         }
     }
 }
@@ -132,69 +129,65 @@ fn match_one(
 fn match_rest(
     book: &[u8],
     at: usize,
-    arities: &[u8; 256],
+    operators: &[u8; 4352],
     symbols: &[u8; 1024],
     len: usize,
     offset: usize,
     due: usize,
-    starts: &mut [u16; 16],
-    sizes: &mut [u16; 16],
+    bound: &mut [u16; 32],
 ) -> Found
-    requires { ⌜ (length (now book) ≤ 2 ^ 60) × (length (now symbols) ≡ 1024) × (len ≤ 1024) × (offset ≤ len) × (due < 256) × (length (now starts) ≡ 16) × (length (now sizes) ≡ 16) × Within (binding (now starts) (now sizes)) len ⌝ }
-    ensures { λ r. ⌜ Answers (now (book .entry)) at (now (arities .entry)) due 63 (take len (now (symbols .entry))) offset (binding (now (starts .entry)) (now (sizes .entry))) r (binding (now (starts .exit)) (now (sizes .exit))) × Bounded len (binding (now (starts .exit)) (now (sizes .exit))) r ⌝ }
+    requires { ⌜ (length (now book) ≤ 2 ^ 60) × R.Offset-in (now symbols) len offset × R.Bound-within (now bound) len × (due < 256) ⌝ }
+    ensures { λ r. ⌜ R.Rest-matched (now (book .entry)) at (now (operators .entry)) due 63 (take len (now (symbols .entry))) offset (binding (now (bound .entry))) (binding (now (bound .exit))) r × R.Agrees-within len (binding (now (bound .exit))) r ⌝ }
 {
     let mut p = at;
     let mut q = offset;
     let mut owed = due;
     let mut room: usize = 63;
     while 0 < owed && 0 < room {
-        let Step::Took(arity, next, size) = match_one(
-            book,
-            p,
-            arities,
-            symbols,
-            len,
-            q,
-            starts,
-            sizes,
-        ) else {
+        let Step::Took(taken) = match_one(book, p, operators, symbols, len, q, bound) else {
             return Found::Differs;
         };
-        owed = owed - 1 + arity;
-        p = next;
-        q += size;
+        owed = owed - 1 + taken.arity;
+        p = taken.next;
+        q += taken.size;
         room -= 1;
     }
     Found::Agrees(q)
 }
 
 // How many symbols the symbol at position at of a right side gives.
-fn size_one(book: &[u8], at: usize, arities: &[u8; 256], sizes: &[u16; 16]) -> Step
+fn size_one(book: &[u8], at: usize, operators: &[u8; 4352], bound: &[u16; 32]) -> Taken
     requires { ⌜ length (now book) ≤ 2 ^ 60 ⌝ }
-    ensures { λ r. ⌜ SizeStep (now (book .entry)) at (now (arities .entry)) (now (sizes .entry)) r ⌝ }
+    ensures { λ r. ⌜ R.Symbol-sized (now (book .entry)) at (now (operators .entry)) (binding (now (bound .entry))) r ⌝ }
 {
     match side::symbol_at(book, at) {
-        Standing::Operator(o, next) => Step::Took(arity_of(arities, o), next, 1),
-        Standing::Variable(v, next) => Step::Took(0, next, held(sizes, v)),
+        Standing::Operator(o, next) => Taken {
+            arity: tables::arity(operators, o),
+            next: next,
+            size: 1,
+        },
+        Standing::Variable(v, next) => Taken {
+            arity: 0,
+            next: next,
+            size: size_of(bound, v),
+        },
     }
 }
 
 // How many symbols the filled right side at position at of the book has.
-pub fn filled_size(book: &[u8], at: usize, arities: &[u8; 256], sizes: &[u16; 16]) -> usize
+pub fn filled_size(book: &[u8], at: usize, operators: &[u8; 4352], bound: &[u16; 32]) -> usize
     requires { ⌜ length (now book) ≤ 2 ^ 60 ⌝ }
-    ensures { λ r. ⌜ Sized (now (book .entry)) at (now (arities .entry)) (now (sizes .entry)) r ⌝ }
+    ensures { λ r. ⌜ R.Side-sized (now (book .entry)) at (now (operators .entry)) (binding (now (bound .entry))) r ⌝ }
 {
     let mut p = at;
     let mut due = 1;
     let mut room: usize = 64;
     let mut size = 0;
     while 0 < due && 0 < room {
-        let Step::Took(arity, next, more) = size_one(book, p, arities, sizes) else {
-            return size;
-        };
-        due = due - 1 + arity;
-        p = next;
-        size += more;
+        let taken = size_one(book, p, operators, bound);
+        due = due - 1 + taken.arity;
+        p = taken.next;
+        size += taken.size;
         room -= 1;
     }
     size
@@ -204,26 +197,33 @@ pub fn filled_size(book: &[u8], at: usize, arities: &[u8; 256], sizes: &[u16; 16
 fn fill_one(
     book: &[u8],
     at: usize,
-    arities: &[u8; 256],
+    operators: &[u8; 4352],
     symbols: &[u8; 1024],
     len: usize,
-    starts: &[u16; 16],
-    sizes: &[u16; 16],
+    bound: &[u16; 32],
     scratch: &mut [u8; 1024],
     k: usize,
-) -> Step
-    requires { ⌜ (length (now book) ≤ 2 ^ 60) × (length (now symbols) ≡ 1024) × (len ≤ 1024) × (length (now scratch) ≡ 1024) × Within (binding (now starts) (now sizes)) len × ToFill (now book) at (now arities) (take len (now symbols)) (binding (now starts) (now sizes)) k ⌝ }
-    ensures { λ r. ⌜ FillStep (now (book .entry)) at (now (arities .entry)) (take len (now (symbols .entry))) (binding (now (starts .entry)) (now (sizes .entry))) k (now (scratch .entry)) (now (scratch .exit)) r ⌝ }
+) -> Taken
+    requires { ⌜ (length (now book) ≤ 2 ^ 60) × R.Offset-in (now symbols) len 0 × (length (now scratch) ≡ 1024) × Binds-within (binding (now bound)) len × R.Symbols-fit (now book) at (now operators) (binding (now bound)) k ⌝ }
+    ensures { λ r. ⌜ R.Symbol-filled (now (book .entry)) at (now (operators .entry)) (take len (now (symbols .entry))) (binding (now (bound .entry))) k (now (scratch .entry)) (now (scratch .exit)) r ⌝ }
 {
     match side::symbol_at(book, at) {
         Standing::Operator(o, next) => {
             scratch[k] = o;
-            Step::Took(arity_of(arities, o), next, 1)
+            Taken {
+                arity: tables::arity(operators, o),
+                next: next,
+                size: 1,
+            }
         }
         Standing::Variable(v, next) => {
-            let size = held(sizes, v);
-            term::copy(scratch, k, symbols, held(starts, v), size);
-            Step::Took(0, next, size)
+            let size = size_of(bound, v);
+            term::copy(scratch, k, symbols, start_of(bound, v), size);
+            Taken {
+                arity: 0,
+                next: next,
+                size: size,
+            }
         }
     }
 }
@@ -232,119 +232,112 @@ fn fill_one(
 pub fn fill(
     book: &[u8],
     at: usize,
-    arities: &[u8; 256],
+    operators: &[u8; 4352],
     symbols: &[u8; 1024],
     len: usize,
-    starts: &[u16; 16],
-    sizes: &[u16; 16],
+    bound: &[u16; 32],
     scratch: &mut [u8; 1024],
 ) -> usize
-    requires { ⌜ (length (now book) ≤ 2 ^ 60) × (length (now symbols) ≡ 1024) × (len ≤ 1024) × (length (now scratch) ≡ 1024) × Within (binding (now starts) (now sizes)) len × Fillable (now book) at (now arities) (take len (now symbols)) (binding (now starts) (now sizes)) ⌝ }
-    ensures { λ r. ⌜ Filled (now (book .entry)) at (now (arities .entry)) (take len (now (symbols .entry))) (binding (now (starts .entry)) (now (sizes .entry))) (now (scratch .exit)) r ⌝ }
+    requires { ⌜ (length (now book) ≤ 2 ^ 60) × R.Offset-in (now symbols) len 0 × (length (now scratch) ≡ 1024) × Binds-within (binding (now bound)) len × R.Side-fits (now book) at (now operators) (binding (now bound)) ⌝ }
+    ensures { λ r. ⌜ R.Side-filled (now (book .entry)) at (now (operators .entry)) (take len (now (symbols .entry))) (binding (now (bound .entry))) (now (scratch .exit)) r ⌝ }
 {
     let mut p = at;
     let mut due = 1;
     let mut room: usize = 64;
     let mut k = 0;
     while 0 < due && 0 < room {
-        let Step::Took(arity, next, size) = fill_one(
-            book,
-            p,
-            arities,
-            symbols,
-            len,
-            starts,
-            sizes,
-            scratch,
-            k,
-        ) else {
-            return k;
-        };
-        due = due - 1 + arity;
-        p = next;
-        k += size;
+        let taken = fill_one(book, p, operators, symbols, len, bound, scratch, k);
+        due = due - 1 + taken.arity;
+        p = taken.next;
+        k += taken.size;
         room -= 1;
     }
     k
 }
 
-// Rule i, whose root is that of the term at an offset and has due arguments: what stands behind the root's nine bits.
-fn try_rule(
+// The symbol at offset at, or 256, which is none.
+fn symbol_or_none(symbols: &[u8; 1024], len: usize, at: usize) -> usize
+    requires { ⌜ (length (now symbols) ≡ 1024) × (len ≤ 1024) ⌝ }
+    ensures { λ r. ⌜ r ≡ R.head-or (drop at (take len (now (symbols .entry)))) ⌝ }
+{
+    if at < len {
+        casts::index(symbols[at])
+    } else {
+        256
+    }
+}
+
+// Does an operator other than x stand at position at?
+fn other_stands(book: &[u8], at: usize, x: usize) -> bool
+    requires { ⌜ length (now book) ≤ 2 ^ 60 ⌝ }
+    ensures { λ r. ⌜ R.Other-stands (now (book .entry)) at x r ⌝ }
+{
+    let w = bits::nine(book, at);
+    if w < 256 { w != x } else { false }
+}
+
+// The left side at a position, whose root is that of the term at an offset and has due arguments, by what stands behind the root's nine bits. Most
+// differ in the symbol behind the root, x in the term, which is told before anything is bound.
+fn try_left(
     book: &[u8],
-    i: usize,
-    arities: &[u8; 256],
-    lefts: &[u32; 256],
+    left: usize,
+    operators: &[u8; 4352],
+    x: usize,
     due: usize,
     symbols: &[u8; 1024],
     len: usize,
     offset: usize,
-    starts: &mut [u16; 16],
-    sizes: &mut [u16; 16],
+    bound: &mut [u16; 32],
 ) -> Found
-    requires { ⌜ (length (now book) ≤ 2 ^ 60) × (i < 256) × (length (now symbols) ≡ 1024) × (len ≤ 1024) × (offset < len) × (due ≡ getD (now arities) (getD (now symbols) offset 0) 0) × (due < 256) ⌝ }
-    ensures { λ r. ⌜ Tried (now (book .entry)) (now (arities .entry)) (now (lefts .entry)) i (take len (now (symbols .entry))) offset len (binding (now (starts .exit)) (now (sizes .exit))) r ⌝ }
+    requires { ⌜ (length (now book) ≤ 2 ^ 60) × (left < 2 ^ 32) × R.Offset-in (now symbols) len offset × R.Under-root (now operators) (take len (now symbols)) offset x due ⌝ }
+    ensures { λ r. ⌜ R.Left-tried (now (book .entry)) left (now (operators .entry)) (take len (now (symbols .entry))) offset len (binding (now (bound .exit))) r ⌝ }
 {
-    clear(starts, sizes);
-    match_rest(
-        book,
-        place(lefts[i]) + 9,
-        arities,
-        symbols,
-        len,
-        offset + 1,
-        due,
-        starts,
-        sizes,
-    )
+    let at = left + 9;
+    if 0 < due {
+        if other_stands(book, at, x) {
+            return Found::Differs;
+        }
+    }
+    clear(bound);
+    match_rest(book, at, operators, symbols, len, offset + 1, due, bound)
 }
 
-// The number of the next rule with the same root as the rule of number k. Numbers only go up, so that every walk ends.
-fn next_rule(chain: &[u8; 768], k: usize) -> usize
-    requires { ⌜ k < 256 ⌝ }
-    ensures { λ r. ⌜ Onward k (getD (now (chain .entry)) (255 + k) 0) r ⌝ }
-{
-    let next = wide(chain[255 + k]);
-    if k < next { next } else { 0 }
-}
-
-// The first of m rules that matches the term at an offset. Only those with the root of the term are tried.
+// The first rule that matches the term at an offset. Only those with the root of the term are tried.
 pub fn find(
     book: &[u8],
-    arities: &[u8; 256],
-    lefts: &[u32; 256],
-    chain: &[u8; 768],
-    m: usize,
+    operators: &[u8; 4352],
+    rules: &[u32; 1024],
     symbols: &[u8; 1024],
     len: usize,
     offset: usize,
-    starts: &mut [u16; 16],
-    sizes: &mut [u16; 16],
+    bound: &mut [u16; 32],
 ) -> Hit
-    requires { ⌜ (length (now book) ≤ 2 ^ 60) × (length (now symbols) ≡ 1024) × (len ≤ 1024) × (offset ≤ len) ⌝ }
-    ensures { λ r. ⌜ Chosen (now (book .entry)) (now (arities .entry)) (now (lefts .entry)) (now (chain .entry)) m (take len (now (symbols .entry))) offset len (binding (now (starts .exit)) (now (sizes .exit))) r ⌝ }
+    requires { ⌜ R.Present (now book) (now operators) (now rules) (now symbols) len offset ⌝ }
+    ensures { λ r. ⌜ R.Search-answers (book-of (now (book .entry))) (now (operators .entry)) offset (take len (now (symbols .entry))) len (binding (now (bound .exit))) r ⌝ }
 {
-    if len <= offset {
-        return Hit::None;
-    }
     let o = symbols[offset];
-    let due = arity_of(arities, o);
-    let mut k = wide(chain[wide(o)]);
+    let due = tables::arity(operators, o);
+    let x = symbol_or_none(symbols, len, offset + 1);
+    let mut k = tables::first_rule(rules, o);
     while 0 < k {
-        if let Found::Agrees(end) = try_rule(
+        let left = tables::left_side(rules, k - 1);
+        if let Found::Agrees(end) = try_left(
             book,
-            k - 1,
-            arities,
-            lefts,
+            left,
+            operators,
+            x,
             due,
             symbols,
             len,
             offset,
-            starts,
-            sizes,
+            bound,
         ) {
-            return Hit::Rule(k - 1, end);
+            return Hit::Rule(Match {
+                rule: k - 1,
+                end: end,
+            });
         }
-        k = next_rule(chain, k);
+        k = tables::next_rule(rules, k - 1);
     }
     Hit::None
 }

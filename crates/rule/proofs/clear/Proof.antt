@@ -5,4 +5,4 @@ use Rattle.rule.proofs.clear.Statement.{statement}
 use Rattle.rule.proofs.clear.Tie as tie
 
 pub clear-spec : {M : Type 1} → statement M
-clear-spec = tie.close (tie.spec (λ c. holds-blank _ _ refl refl))
+clear-spec = tie.close (tie.spec (λ c. holds-blank refl))

@@ -10,18 +10,17 @@ use Rattle.rule.proofs.stands.Tie as tie
 
 returns : tie.Need-returns
 returns c =
-    let s = c .before .before .args .symbols .now in
-    let n = c .before .before .args .len in
-    let a = c .before .before .args .at in
-    let l : length (take n s) ≡ n = length-take-le n s (omega arith) in
-    sym (head-at (c .before .before .args .o) a (take n s) (getD s a 0) (omega arith) (sym (getD-take n s a 0 (omega arith))))
+    let a = c .before .before .args in
+    let s = a .symbols .now in
+    let l : length (take (a .len) s) ≡ a .len = length-take-le (a .len) s (omega arith) in
+    sym (head-at (a .at) (take (a .len) s) (a .o) (getD s (a .at) 0) (omega arith) (sym (getD-take (a .len) s (a .at) 0 (omega arith))))
 
 returns-2 : tie.Need-returns-2
 returns-2 c =
-    let s = c .before .args .symbols .now in
-    let n = c .before .args .len in
-    let l : length (take n s) ≡ n = length-take-le n s (omega arith) in
-    sym (head-end (c .before .args .o) (c .before .args .at) (take n s) (omega arith))
+    let a = c .before .args in
+    let s = a .symbols .now in
+    let l : length (take (a .len) s) ≡ a .len = length-take-le (a .len) s (omega arith) in
+    sym (head-end (a .at) (take (a .len) s) (a .o) (omega arith))
 
 pub stands-spec : {M : Type 1} → statement M
 stands-spec = tie.close (tie.spec (λ c. search needs) returns returns-2)

@@ -1,0 +1,188 @@
+-- What the functions on packed rules ask and ensure, by the definitions on lists of symbols. Assumes nothing.
+use mathlib.Core.Bool.{Bool, true, false}
+use mathlib.Core.List.{List, [], _∷_, _++_}
+use mathlib.Core.Path.{_≡_}
+use Prim.Native.Nat.{ℕ, _+_, _*_, _^_, _≤_, _<_}
+use lib.Dec.{eqb}
+use lib.ListN.{length, getD, take, drop}
+use Rattle.paper.specs.Tree.{label, preorder}
+use Rattle.paper.specs.Book.{Symbol, Side, Rule, Book, arity}
+use Rattle.paper.specs.Sound.{All, IsOperator}
+use Rattle.flat.specs.Symbols as flat
+use Rattle.flat.specs.Symbols.{Binding, blank, match, fill, rewrite}
+use Rattle.side.specs.Side.{StandingAt}
+use Rattle.side.specs.declared.Standing as Sd
+use Rattle.tables.specs.Layout.{arity-in, left-in}
+use Rattle.tables.specs.Tables.{ruleAt, Chained, TablesOf, book-of}
+use Rattle.rule.specs.Packed.{Stands, SideAt, Goes, All-at, binding, Binds-within, filled-size}
+use Rattle.rule.specs.declared.Found as F
+use Rattle.rule.specs.declared.Match as M
+use Rattle.rule.specs.declared.Hit as H
+use Rattle.rule.specs.declared.Taken as T
+use Rattle.rule.specs.declared.Step as S
+
+-- WHAT IS THERE BEFORE
+
+-- the first len of 1024 symbols are in use, and a is an offset in them or the one behind them
+pub record Offset-in (symbols : List ℕ) (len a : ℕ) : Type 0 where
+  pub long : length symbols ≡ 1024
+  pub most : len ≤ 1024
+  pub inside : a ≤ len
+
+-- a book's tables, and the present term, whose symbols are its operators; a is an offset in it
+pub record Present (bytes operators rules symbols : List ℕ) (len a : ℕ) : Type 0 where
+  pub tables : TablesOf bytes operators rules
+  pub short : length bytes ≤ 2 ^ 60
+  pub long : length symbols ≡ 1024
+  pub most : len ≤ 1024
+  pub inside : a < len
+  pub known : All (λ o. o < length (book-of bytes .operators)) (take len symbols)
+
+-- an array of 16 variables' starts and sizes holds the binding b
+pub record Holds-binding (bound : List ℕ) (b : Binding) : Type 0 where
+  pub is : binding bound ≡ b
+  pub long : length bound ≡ 32
+
+-- it holds a binding within the first len symbols
+pub record Bound-within (bound : List ℕ) (len : ℕ) : Type 0 where
+  pub within : Binds-within (binding bound) len
+  pub long : length bound ≡ 32
+
+-- MATCHING
+
+-- is o the first symbol?
+unfoldable pub head-is : ℕ → List ℕ → Bool
+head-is o [] = false
+head-is o (x ∷ xs) = eqb o x
+
+-- the first symbol; 256, which is none, where there is none
+unfoldable pub head-or : List ℕ → ℕ
+head-or [] = 256
+head-or (x ∷ xs) = x
+
+-- an operator other than x stands at a position
+abbrev pub Other-stands : List ℕ → ℕ → ℕ → Bool → Type 0
+Other-stands bytes at x true = (o : ℕ) × (next : ℕ) × (o < 256) × (o ≡ x → ⊥) × StandingAt bytes at (Sd.Standing.Operator o next)
+Other-stands bytes at x false = Unit {0}
+
+abbrev pub found : F.Found → Binding → flat.Match
+found (F.Found.Agrees e) b = flat.Match.agrees b e
+found F.Found.Differs b = flat.Match.differs
+
+-- where r agrees, it binds and ends within the first len symbols
+abbrev pub Agrees-within : ℕ → Binding → F.Found → Type 0
+Agrees-within len b (F.Found.Agrees e) = Binds-within b len × (e ≤ len)
+Agrees-within len b F.Found.Differs = Unit
+
+-- one symbol against those of xs from offset a on, with the binding b so far
+pub record Symbol-agrees (bytes : List ℕ) (at : ℕ) (operators xs : List ℕ) (a len : ℕ) (b : Binding) (bound : List ℕ) (t : T.Taken) : Type 0 where
+  pub arity : t .arity < 256
+  pub end : a + t .size ≤ len
+  pub bound-within : Bound-within bound len
+  pub goes : Goes bytes at operators
+      (λ ss ss′. match (arity-in operators) ss a (drop a xs) b ≡ match (arity-in operators) ss′ (a + t .size) (drop (a + t .size) xs) (binding bound))
+      (t .arity) (t .next)
+
+abbrev pub Symbol-matched : List ℕ → ℕ → List ℕ → List ℕ → ℕ → ℕ → Binding → List ℕ → S.Step → Type 0
+Symbol-matched bytes at operators xs a len b bound (S.Step.Took t) = Symbol-agrees bytes at operators xs a len b bound t
+Symbol-matched bytes at operators xs a len b bound S.Step.Stops =
+    All-at bytes at operators (λ ss. match (arity-in operators) ss a (drop a xs) b ≡ flat.Match.differs)
+
+-- r and the binding b′ answer for the symbols at a position, against those of xs from offset a on, with the binding b so far
+pub record Rest-matched (bytes : List ℕ) (at : ℕ) (operators : List ℕ) (due room : ℕ) (xs : List ℕ) (a : ℕ) (b b′ : Binding) (r : F.Found) : Type 0 where
+  pub is : (ss : List Symbol) → Stands bytes at operators due room ss → match (arity-in operators) ss a (drop a xs) b ≡ found r b′
+
+-- FILLING
+
+-- one symbol's size
+pub record Symbol-sized (bytes : List ℕ) (at : ℕ) (operators : List ℕ) (b : Binding) (t : T.Taken) : Type 0 where
+  pub arity : t .arity < 256
+  pub size : t .size < 65536
+  pub goes : Goes bytes at operators (λ ss ss′. filled-size ss b ≡ t .size + filled-size ss′ b) (t .arity) (t .next)
+
+-- size is that of the filled side at a position
+pub record Side-sized (bytes : List ℕ) (at : ℕ) (operators : List ℕ) (b : Binding) (size : ℕ) : Type 0 where
+  pub is : (side : Side) → SideAt bytes at operators side → size ≡ filled-size (preorder side) b
+  pub most : size ≤ 64 * 65535
+
+-- symbols stand at a position that, filled, have room from place k on
+pub record Symbols-fit (bytes : List ℕ) (at : ℕ) (operators : List ℕ) (b : Binding) (k : ℕ) : Type 0 where
+  pub due : ℕ
+  pub room : ℕ
+  pub ss : List Symbol
+  pub some : 0 < due
+  pub stands : Stands bytes at operators due room ss
+  pub fit : k + filled-size ss b ≤ 1024
+
+-- one symbol filled, from place k on
+pub record Symbol-filled (bytes : List ℕ) (at : ℕ) (operators xs : List ℕ) (b : Binding) (k : ℕ) (scratch scratch′ : List ℕ) (t : T.Taken) : Type 0 where
+  pub arity : t .arity < 256
+  pub end : k + t .size ≤ 1024
+  pub long : length scratch′ ≡ 1024
+  pub goes : Goes bytes at operators
+      (λ ss ss′. (take k scratch ++ fill ss b xs ≡ take (k + t .size) scratch′ ++ fill ss′ b xs) × (filled-size ss b ≡ t .size + filled-size ss′ b))
+      (t .arity) (t .next)
+
+-- the side at a position, filled, has room in 1024 symbols
+pub record Side-fits (bytes : List ℕ) (at : ℕ) (operators : List ℕ) (b : Binding) : Type 0 where
+  pub side : Side
+  pub stands : SideAt bytes at operators side
+  pub fits : filled-size (preorder side) b ≤ 1024
+
+-- the first size symbols of scratch are the filled side at a position
+pub record Side-filled (bytes : List ℕ) (at : ℕ) (operators xs : List ℕ) (b : Binding) (scratch : List ℕ) (size : ℕ) : Type 0 where
+  pub is : (side : Side) → SideAt bytes at operators side → take size scratch ≡ fill (preorder side) b xs
+  pub most : size ≤ 1024
+  pub long : length scratch ≡ 1024
+
+-- RULES
+
+-- a left side, whose root is an operator
+pub record LeftAt (bytes : List ℕ) (operators : List ℕ) (at : ℕ) (side : Side) : Type 0 where
+  pub stands : SideAt bytes at operators side
+  pub root : IsOperator (label side)
+
+-- what the tables say of the left sides of the rules rs
+pub record Lefts (bytes operators rules : List ℕ) (rs : List Rule) : Type 0 where
+  pub each : (i : ℕ) → i < length rs → LeftAt bytes operators (left-in rules i) (ruleAt rs i .left)
+  pub chained : Chained rs rules
+  pub few : length rs < 256
+
+-- under the root of the term at offset a stand due arguments, the first of which begins with x
+pub record Under-root (operators xs : List ℕ) (a x due : ℕ) : Type 0 where
+  pub inside : a < length xs
+  pub second : x ≡ head-or (drop (a + 1) xs)
+  pub arguments : due ≡ arity-in operators (getD xs a 0)
+  pub few : due < 256
+
+-- r and the binding b answer for a left side at a position, if its root is the term's
+pub record Left-tried (bytes : List ℕ) (at : ℕ) (operators xs : List ℕ) (a len : ℕ) (b : Binding) (r : F.Found) : Type 0 where
+  pub is : (side : Side) → SideAt bytes at operators side → label side ≡ Symbol.operator (getD xs a 0) →
+      match (arity-in operators) (preorder side) a (drop a xs) blank ≡ found r b
+  pub within : Agrees-within len b r
+
+-- a match of rule i's left side
+abbrev pub tries : List ℕ → List Rule → ℕ → ℕ → List ℕ → flat.Match
+tries operators rs i a xs = match (arity-in operators) (preorder (ruleAt rs i .left)) a (drop a xs) blank
+
+-- the rules below i differ
+abbrev pub Passed : List ℕ → List Rule → ℕ → ℕ → List ℕ → Type 0
+Passed operators rs i a xs = (j : ℕ) → j < i → tries operators rs j a xs ≡ flat.Match.differs
+
+-- m is the first rule of the book B that matches, with the binding b, within the first len symbols
+pub record Hits (B : Book) (operators : List ℕ) (a : ℕ) (xs : List ℕ) (len : ℕ) (b : Binding) (m : M.Match) : Type 0 where
+  pub below : m .rule < length (B .rules)
+  pub passed : Passed operators (B .rules) (m .rule) a xs
+  pub agrees : tries operators (B .rules) (m .rule) a xs ≡ flat.Match.agrees b (m .end)
+  pub is : rewrite (arity B) (B .rules) a xs ≡ flat.Hit.hit (fill (preorder (ruleAt (B .rules) (m .rule) .right)) b xs) (m .end)
+  pub within : Binds-within b len
+  pub end : m .end ≤ len
+
+-- none of its rules matches
+pub record Misses (B : Book) (operators : List ℕ) (a : ℕ) (xs : List ℕ) : Type 0 where
+  pub passed : Passed operators (B .rules) (length (B .rules)) a xs
+  pub is : rewrite (arity B) (B .rules) a xs ≡ flat.Hit.miss
+
+abbrev pub Search-answers : Book → List ℕ → ℕ → List ℕ → ℕ → Binding → H.Hit → Type 0
+Search-answers B operators a xs len b (H.Hit.Rule m) = Hits B operators a xs len b m
+Search-answers B operators a xs len b H.Hit.None = Misses B operators a xs

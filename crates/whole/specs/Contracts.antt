@@ -1,0 +1,117 @@
+-- What WHOLE asks and ensures (document 01, 'Orders of a unit'), as do-whole of the machine on lists has it. Assumes nothing.
+use mathlib.Core.Bool.{Bool, true, false}
+use mathlib.Core.List.{List, _∷_, map}
+use mathlib.Core.Option.{some}
+use mathlib.Core.Path.{_≡_}
+use Prim.Native.Nat.{ℕ, suc, _+_, _-_, _≤_, _<_}
+use lib.Dec.{eqb}
+use lib.ListN.{length, take}
+use Rattle.paper.specs.Strategy.{Step}
+use Rattle.paper.specs.Book.{Book, arity}
+use Rattle.paper.specs.Line.{symbol-limit}
+use Rattle.paper.specs.Machine.{Ending, exceeds}
+use Rattle.paper.specs.Sound.{All}
+use Rattle.flat.specs.Symbols.{Hit, rewrite, splice}
+use Rattle.flat.specs.Machine.{Frame, FlatUnit, flat-unit, unit, FlatState, FlatOutcome, going, ended, shift-unit, with-unit, proceed, do-whole}
+use Rattle.units.specs.Stacks.{Offsets, Store, units-in}
+use Rattle.units.specs.Contracts.{Stacks-fit, Has-frame, topped, at}
+use Rattle.whole.specs.State.{Arrays, state, limits, progress}
+use Rattle.whole.specs.declared.Progress as P
+use Rattle.whole.specs.declared.Limits as L
+use Rattle.whole.specs.declared.Place as Pl
+use Rattle.whole.specs.declared.Whole as W
+use Rattle.whole.specs.declared.Filled as F
+use Rattle.whole.specs.declared.Allowance as A
+use Rattle.whole.specs.declared.Choice as C
+
+-- THE CHOICE OF A RULE
+
+-- is the budget used up; would the term be too long with ys for the symbols up to e?
+abbrev pub spent : P.Progress → L.Limits → Bool
+spent p l = eqb (p .rewrites) (l .budget)
+
+abbrev pub over : ℕ → List ℕ → List ℕ → ℕ → Bool
+over a xs ys e = exceeds (some symbol-limit) (length ys + (length xs - (e - a)))
+
+-- whether a rewriting to so many symbols is allowed
+abbrev pub Allows : ℕ → ℕ → ℕ → A.Allowance → Type 0
+Allows made budget size A.Allowance.Free = (made ≡ budget → ⊥) × (size ≤ 1024)
+Allows made budget size A.Allowance.Spent = made ≡ budget
+Allows made budget size A.Allowance.Full = (made ≡ budget → ⊥) × (1024 < size)
+
+-- a rule of the book B matches: ys is to stand for the symbols of xs from offset a up to e, and Q holds of them
+pub record Rule-gives (B : Book) (a : ℕ) (xs : List ℕ) (Q : List ℕ → ℕ → Type 0) : Type 0 where
+  pub ys : List ℕ
+  pub e : ℕ
+  pub hit : rewrite (arity B) (B .rules) a xs ≡ Hit.hit ys e
+  pub so : Q ys e
+
+-- its filled right side is the first symbols of scratch, and has room for those symbols
+pub record Right-fits (B : Book) (a : ℕ) (p : P.Progress) (l : L.Limits) (xs scratch : List ℕ) (f : F.Filled) : Type 0 where
+  pub left : spent p l ≡ false
+  pub least : a ≤ f .end
+  pub most : f .end ≤ p .length
+  pub fits : a + f .size + (p .length - f .end) ≤ 1024
+  pub hit : rewrite (arity B) (B .rules) a xs ≡ Hit.hit (take (f .size) scratch) (f .end)
+
+abbrev pub Choice-is : Book → ℕ → P.Progress → L.Limits → List ℕ → List ℕ → C.Choice → Type 0
+Choice-is B a p l xs scratch C.Choice.Missed = rewrite (arity B) (B .rules) a xs ≡ Hit.miss
+Choice-is B a p l xs scratch C.Choice.Spent = Rule-gives B a xs (λ ys e. spent p l ≡ true)
+Choice-is B a p l xs scratch C.Choice.Full = Rule-gives B a xs (λ ys e. (spent p l ≡ false) × (over a xs ys e ≡ true))
+Choice-is B a p l xs scratch (C.Choice.Fits f) = Right-fits B a p l xs scratch f
+
+pub record Chosen (B : Book) (a : ℕ) (p : P.Progress) (l : L.Limits) (xs scratch : List ℕ) (r : C.Choice) : Type 0 where
+  pub is : Choice-is B a p l xs scratch r
+  pub long : length scratch ≡ 1024
+
+-- THE REPLACEMENT
+
+-- a filled right side is to replace the symbols from an offset up to its end
+pub record Replaceable (s : Arrays) (len : ℕ) (scratch : List ℕ) (a : ℕ) (f : F.Filled) : Type 0 where
+  pub long : length (s .symbols) ≡ 1024
+  pub scratch-long : length scratch ≡ 1024
+  pub most : len ≤ 1024
+  pub inside : a < len
+  pub end : f .end ≤ len
+  pub fits : a + f .size + (len - f .end) ≤ 1024
+
+-- of count units, whose jobs are at offsets below len, the one at the place has a frame
+pub record Units-due (s : Store) (count : ℕ) (x : Pl.Place) (len : ℕ) : Type 0 where
+  pub few : count ≤ 8
+  pub one : x .unit < count
+  pub top : Has-frame s (x .unit) 0
+  pub offsets : All (λ (y : FlatUnit). Offsets len (y .stack)) (units-in s count)
+
+-- ys stands for the symbols from the place's offset up to e, the jobs' offsets have gone along, and the unit is to visit the new term
+pub record Replaced (x : Pl.Place) (ys : List ℕ) (e len count : ℕ) (s s′ : Arrays) (len′ : ℕ) : Type 0 where
+  pub symbols : take len′ (s′ .symbols) ≡ splice (x .offset) e ys (take len (s .symbols))
+  pub units : units-in (s′ .store) count
+      ≡ map (shift-unit (x .offset) e (length ys)) (at (x .unit) (topped (Frame.job (x .offset) 0 0)) (units-in (s .store) count))
+  pub most : len′ ≤ 1024
+  pub long : length (s′ .symbols) ≡ 1024
+  pub fit : Stacks-fit (s′ .store)
+
+-- WHOLE
+
+-- the outcome of an answer, from s to s′; k, c, ss and fs are the job's, as do-whole has them
+abbrev pub outcome : Pl.Place → ℕ → ℕ → List Step → List Frame → FlatState → FlatState → W.Whole → FlatOutcome
+outcome x k c ss fs s s′ W.Whole.Missed = going (with-unit s (x .unit) true (proceed (x .offset) (suc k) c ss fs))
+outcome x k c ss fs s s′ (W.Whole.Rewrote len) = going s′
+outcome x k c ss fs s s′ W.Whole.Spent = ended Ending.spent s
+outcome x k c ss fs s s′ W.Whole.Full = ended Ending.full s
+
+-- the symbols and the units are as they were, unless they were rewritten
+abbrev pub Stays : Arrays → Arrays → W.Whole → Type 0
+Stays s s′ (W.Whole.Rewrote len) = len ≤ 1024
+Stays s s′ W.Whole.Missed = s′ ≡ s
+Stays s s′ W.Whole.Spent = s′ ≡ s
+Stays s s′ W.Whole.Full = s′ ≡ s
+
+-- do-whole, for a unit that is busy with a job's frame on its stack
+pub record Carried-out (B : Book) (x : Pl.Place) (p : P.Progress) (l : L.Limits) (s s′ : Arrays) (r : W.Whole) : Type 0 where
+  pub is : (k c : ℕ) (ss : List Step) (f : Frame) (fs : List Frame) → unit (state s p l .units) (x .unit) ≡ flat-unit true (f ∷ fs) →
+      do-whole B (limits l) (x .unit) (state s p l) (x .offset) k c ss fs (rewrite (arity B) (B .rules) (x .offset) (state s p l .symbols))
+      ≡ outcome x k c ss fs (state s p l) (state s′ (progress p r) l) r
+  pub stays : Stays s s′ r
+  pub long : length (s′ .symbols) ≡ 1024
+  pub fit : Stacks-fit (s′ .store)
