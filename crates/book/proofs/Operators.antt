@@ -27,10 +27,10 @@ use Rattle.book.proofs.Grow.{operators-grow}
 
 -- The reader with its strategy in one piece
 
-made : ℕ → List Item → Reader Operator
+unfoldable pub made : ℕ → List Item → Reader Operator
 made a is = return (record { arity = a; strategy = is })
 
-operator-strategy : {bytes : List ℕ} {at a p : ℕ} → Got bytes at 3 a p → read-operator (bitsAt bytes at) ≡ ((field 1 >>= read-strategy a) >>= made a) (bitsAt bytes p)
+pub operator-strategy : {bytes : List ℕ} {at a p : ℕ} → Got bytes at 3 a p → read-operator (bitsAt bytes at) ≡ ((field 1 >>= read-strategy a) >>= made a) (bitsAt bytes p)
 unfolding read-operator made
 operator-strategy {bytes} {at} {a} {p} g =
     bind-return (field 3) _ (bitsAt bytes at) (bitsAt bytes p) a (g .is)

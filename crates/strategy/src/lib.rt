@@ -90,7 +90,7 @@ fn read_numbers(book: &[u8], at: usize, arity: u8, count: usize, items: &mut [u8
     let mut grouped = false;
     let mut k = 0;
     while k < count {
-        let Bits::Value(x, next) = bits::field(book, pos, 4) else {
+        let Bits::Value(x, next) = reader::field(book, pos, 4) else {
             return Numbers::Refused(1);
         };
         let v = casts::low_byte(x);
@@ -228,7 +228,7 @@ fn read_given(book: &[u8], at: usize, arity: u8, items: &mut [u8; 32]) -> Strate
     requires { ⌜ (length (now book) ≤ 2 ^ 60) × (arity < 8) × (length (now items) ≡ 32) ⌝ }
     ensures { λ r. ⌜ GivenRead (now (book .entry)) at arity (now (items .exit)) r ⌝ }
 {
-    let Bits::Value(count, next) = bits::field(book, at, 5) else {
+    let Bits::Value(count, next) = reader::field(book, at, 5) else {
         return Strategy::Refused(1);
     };
     let n = casts::offset(count);
@@ -247,7 +247,7 @@ pub fn read_strategy(book: &[u8], at: usize, arity: u8, items: &mut [u8; 32]) ->
     requires { ⌜ (length (now book) ≤ 2 ^ 60) × (arity < 8) × (length (now items) ≡ 32) ⌝ }
     ensures { λ r. ⌜ StrategyRead (now (book .entry)) at arity (now (items .exit)) r ⌝ }
 {
-    let Bits::Value(given, next) = bits::field(book, at, 1) else {
+    let Bits::Value(given, next) = reader::field(book, at, 1) else {
         return Strategy::Refused(1);
     };
     if given == 0 {
