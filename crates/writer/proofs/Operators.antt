@@ -5,14 +5,13 @@ use Prim.Native.Nat.{ℕ, zero, suc, _+_}
 use lib.ListN.{length, take}
 use Rattle.paper.specs.Result.{refused, Read, Reader, return, _>>=_, repeat}
 use Rattle.paper.specs.Bits.{toBits, field}
-use Rattle.paper.specs.Book.{Operator}
 use Rattle.paper.specs.Reader.{read-strategy, read-operator}
 use Rattle.paper.specs.Writer.{concat, write-strategy, write-operator}
 use Rattle.paper.proofs.Readers.{accepted-injective, refused-accepted, bind-accepted, bind-return}
 use Rattle.bits.proofs.Reading.{Got}
 use Rattle.strategy.specs.declared.Strategy.{Strategy}
 use Rattle.strategy.specs.declared.Listed.{Listed}
-use Rattle.strategy.specs.Contracts.{StrategyRead}
+use Rattle.strategy.specs.Contracts.{StrategyAt}
 use Rattle.strategy.proofs.Reading.{bind-refused, strategy-refused, strategy-read}
 use Rattle.book.proofs.Operators.{made, operator-strategy}
 use Rattle.side.specs.Contracts.{bitsAt}
@@ -61,7 +60,7 @@ module _ (bytes : List ℕ) (at to : ℕ) (out out′ : List ℕ) (at′ to′ :
   operator-out h = record { is = λ op left e. absurd (refused-accepted (sym (bind-refused (field 3) _ (bitsAt bytes at) 1 h) ∙ e)) }
 
   module _ (a p : ℕ) (g : Got bytes at 3 a p) (items : List ℕ) where
-    pub operator-refused : (k : ℕ) → StrategyRead bytes p a items (Strategy.Refused k) → OperatorWritten bytes at to out out′ at′ to′
+    pub operator-refused : (k : ℕ) → StrategyAt bytes p a items (Strategy.Refused k) → OperatorWritten bytes at to out out′ at′ to′
     unfolding return
     operator-refused k s = record {
       is = λ op left e.
@@ -69,7 +68,7 @@ module _ (bytes : List ℕ) (at to : ℕ) (out out′ : List ℕ) (at′ to′ :
           absurd (refused-accepted (sym (operator-strategy g ∙ f) ∙ e));
     }
 
-    pub operator-read : (l : Listed) (v : ℕ) → StrategyRead bytes p a items (Strategy.Read l) → l .next ≡ at′ → a ≡ v →
+    pub operator-read : (l : Listed) (v : ℕ) → StrategyAt bytes p a items (Strategy.Read l) → l .next ≡ at′ → a ≡ v →
         BitsPut to (toBits 3 v ++ list-bits a (take (l .len) items)) out out′ to′ → OperatorWritten bytes at to out out′ at′ to′
     unfolding made write-operator write-strategy list-bits
     operator-read l v s q h w = record {
