@@ -1,8 +1,8 @@
 -- Chains: the root that is read at a rule's left side is its root, and a rule that is linked becomes the first of its root. Assumes nothing.
-use mathlib.Core.List.{List, _∷_, _++_, append-assoc}
+use mathlib.Core.List.{List, append-assoc}
 use mathlib.Core.Logic.{inl, inr, _≢_}
-use mathlib.Core.Path.{_≡_, refl, sym, ap, _∙_, subst}
-use Prim.Native.Nat.{ℕ, zero, suc, _+_, _%_, _≤_, _<_}
+use mathlib.Core.Path.{_≡_, sym, ap, _∙_, subst}
+use Prim.Native.Nat.{ℕ, zero, suc, _+_, _≤_, _<_}
 use native.Mathlib.Omega.{arith}
 use lib.ListN.{length, getD, set, length-set}
 use lib.Seq.{getD-set-same, getD-set-other}
@@ -14,7 +14,7 @@ use Rattle.paper.specs.Writer.{concat, write-symbol}
 use Rattle.paper.proofs.Books.{GoodBook}
 use Rattle.paper.proofs.Rules.{Fits, GoodSide}
 use Rattle.paper.proofs.Tests.{eqb-cases}
-use Rattle.tables.specs.Layout.{first-in, next-in, left-in, right-in, with-link}
+use Rattle.tables.specs.Layout.{first-in, next-in, left-in, with-link}
 use Rattle.tables.specs.Tables.{Stand, ruleAt, Sides, NoneOf, FirstOf, Root, ChainedFrom}
 use Rattle.tables.proofs.Laws.{all-at}
 use Rattle.side.specs.Contracts.{standing, NumberFits, StandingAt}

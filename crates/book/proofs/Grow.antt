@@ -1,15 +1,15 @@
 -- Tables that grow by an entry at their end. Assumes nothing.
 use mathlib.Core.List.{List, [], _∷_, _++_}
 use mathlib.Core.Path.{_≡_, sym, ap, _∙_, subst}
-use Prim.Native.Nat.{ℕ, _+_, _*_, _%_, _≤_, _<_}
+use Prim.Native.Nat.{ℕ, _+_, _*_, _≤_, _<_}
 use native.Mathlib.Omega.{arith}
-use lib.ListN.{length, getD, set, take, drop, length-append, length-set, length-take, List·getD-append}
+use lib.ListN.{length, getD, set, take, length-append, length-set, List·getD-append}
 use lib.Seq.{getD-at, getD-take, getD-set-same, getD-set-other, drop-set-lt, length-take-le}
 use borrow.Author.Count.{below-more}
 use Rattle.paper.specs.Strategy.{layout}
 use Rattle.paper.specs.Book.{Operator, Rule}
-use Rattle.tables.specs.Layout.{row, arity-in, row-in, set-row, first-in, left-in, right-in, with-sides}
-use Rattle.tables.specs.Tables.{OperatorIn, RuleIn, Operators, Sides}
+use Rattle.tables.specs.Layout.{row, arity-in, row-in, set-row, left-in, right-in, with-sides}
+use Rattle.tables.specs.Tables.{OperatorIn, RuleIn, Operators}
 use Rattle.tables.proofs.Rows.{row-length, row-set, row-other}
 use Rattle.book.specs.Contracts.{Unlinked}
 

@@ -24,7 +24,7 @@ use Rattle.bits.proofs.Reading.{Got, bits-left}
 use Rattle.tables.specs.Tables.{accepted-book, book-of, Operators, Rules}
 use Rattle.strategy.proofs.Reading.{bind-refused}
 use Rattle.side.specs.Contracts.{AritiesIn, bitsAt}
-use Rattle.book.specs.Contracts.{OperatorsAt, Unlinked, RulesAt, ended, EndsAt, read-tail, TailAt, Linkable, BookAt}
+use Rattle.book.specs.Contracts.{OperatorsTaken, Unlinked, RulesTaken, ended, EndsAt, read-tail, TailAt, Linkable, BookAt}
 use Rattle.book.specs.declared.Part.{Part}
 use Rattle.book.specs.declared.Tail.{Tail}
 use Rattle.book.specs.declared.Book as D
@@ -87,10 +87,10 @@ module _ {bytes : List ℕ} {at n : ℕ} {operators rules : List ℕ} where
   tail-out h = record { is = λ ops t. bind-refused (field 8) _ (bitsAt bytes at) 1 h }
 
   module _ {m p : ℕ} (g : Got bytes at 8 m p) where
-    pub tail-refused : {k : ℕ} → RulesAt bytes p n operators m rules (Part.Refused k) → TailAt bytes at n operators rules (Tail.Refused k)
+    pub tail-refused : {k : ℕ} → RulesTaken bytes p n operators m rules (Part.Refused k) → TailAt bytes at n operators rules (Tail.Refused k)
     tail-refused {k} q = record { is = λ ops t. tail-rules g ops ∙ bind-refused (repeat m (read-rule ops)) _ (bitsAt bytes p) k (q .are ops t) }
 
-    module _ {end : ℕ} (q : RulesAt bytes p n operators m rules (Part.Read end)) {b : Bool} (e : EndsAt bytes end b) where
+    module _ {end : ℕ} (q : RulesTaken bytes p n operators m rules (Part.Read end)) {b : Bool} (e : EndsAt bytes end b) where
       tail-end : (ops : List Operator) (t : AritiesIn ops n operators) → read-tail ops (bitsAt bytes at) ≡
           if b (return (with-rules ops (q .are ops t .0)) (bitsAt bytes end)) (refuse 9 (bitsAt bytes end))
       tail-end ops t =
@@ -139,11 +139,11 @@ module _ {bytes : List ℕ} {n p : ℕ} (g : Got bytes 0 8 n p) where
     book-operators : read-parts (bitsAt bytes 0) ≡ (repeat n read-operator >>= read-tail) (bitsAt bytes p)
     book-operators = bind-return read-count _ (bitsAt bytes 0) (bitsAt bytes p) n (count-is ∙ rw (eqb-false n 0 some))
 
-    pub operators-refused : {operators rules : List ℕ} {k : ℕ} → OperatorsAt bytes p n operators (Part.Refused k) →
+    pub operators-refused : {operators rules : List ℕ} {k : ℕ} → OperatorsTaken bytes p n operators (Part.Refused k) →
         BookAt bytes operators rules (D.Book.Refused k)
     operators-refused {k = k} q = refused-by (book-operators ∙ bind-refused (repeat n read-operator) read-tail (bitsAt bytes p) k (q .are))
 
-    module _ {operators : List ℕ} {next : ℕ} (q : OperatorsAt bytes p n operators (Part.Read next)) where
+    module _ {operators : List ℕ} {next : ℕ} (q : OperatorsTaken bytes p n operators (Part.Read next)) where
       abbrev ops : List Operator
       ops = q .are .0
 

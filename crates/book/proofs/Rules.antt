@@ -15,10 +15,10 @@ use Rattle.bits.proofs.Reading.{bits-left}
 use Rattle.tables.specs.Layout.{arity-in, with-sides}
 use Rattle.tables.specs.Tables.{Stand, RuleIn}
 use Rattle.side.specs.Contracts as S
-use Rattle.side.specs.Contracts.{AritiesIn, bitsAt}
+use Rattle.side.specs.Contracts.{bitsAt}
 use Rattle.side.specs.declared.Rule as Ru
 use Rattle.side.specs.declared.RuleEnd.{RuleEnd}
-use Rattle.book.specs.Contracts.{RuleAt, RulesAt}
+use Rattle.book.specs.Contracts.{RuleTaken, RulesTaken}
 use Rattle.book.specs.declared.Part.{Part}
 use Rattle.book.proofs.Readers.{repeat-next, repeat-stops}
 use Rattle.book.proofs.Grow.{rules-grow}
@@ -78,7 +78,7 @@ module _ {bytes : List ℕ} {at n : ℕ} {operators : List ℕ} {e : RuleEnd} (q
       (omega arith, omega arith)
 
   pub rule-read : {i : ℕ} {rules rules′ : List ℕ} → i < 255 → rules′ ≡ with-sides rules i at (e .right) →
-      RuleAt bytes at n operators i rules rules′ (Part.Read (e .next))
+      RuleTaken bytes at n operators i rules rules′ (Part.Read (e .next))
   rule-read {i} {rules} l f = record {
     is = λ ops t. let s = q .is ops t in (s .rule, s .is, rw f (rules-grow bytes (s .rule) i at (e .right) rules l (rule-stands ops bytes at e s)));
   }
@@ -86,7 +86,7 @@ module _ {bytes : List ℕ} {at n : ℕ} {operators : List ℕ} {e : RuleEnd} (q
 -- One by one
 
 module _ {bytes : List ℕ} {at n : ℕ} {operators rules : List ℕ} where
-  pub rules-none : rules ≡ replicate 1024 0 → RulesAt bytes at n operators 0 rules (Part.Read at)
+  pub rules-none : rules ≡ replicate 1024 0 → RulesTaken bytes at n operators 0 rules (Part.Read at)
   unfolding repeat
   rules-none e = rw e (record {
     are = λ ops t. (
@@ -102,11 +102,11 @@ module _ {bytes : List ℕ} {at n : ℕ} {operators rules : List ℕ} where
     );
   })
 
-  pub rules-all : {i m p : ℕ} → i ≤ m → m ≤ i → RulesAt bytes at n operators i rules (Part.Read p) → RulesAt bytes at n operators m rules (Part.Read p)
-  rules-all {p = p} h k = subst (λ (j : ℕ). RulesAt bytes at n operators j rules (Part.Read p)) (le-antisymm h k)
+  pub rules-all : {i m p : ℕ} → i ≤ m → m ≤ i → RulesTaken bytes at n operators i rules (Part.Read p) → RulesTaken bytes at n operators m rules (Part.Read p)
+  rules-all {p = p} h k = subst (λ (j : ℕ). RulesTaken bytes at n operators j rules (Part.Read p)) (le-antisymm h k)
 
-  module _ {i p : ℕ} {rules′ : List ℕ} (h : RulesAt bytes at n operators i rules (Part.Read p)) where
-    pub rules-next : {next : ℕ} → RuleAt bytes p n operators i rules rules′ (Part.Read next) → RulesAt bytes at n operators (i + 1) rules′ (Part.Read next)
+  module _ {i p : ℕ} {rules′ : List ℕ} (h : RulesTaken bytes at n operators i rules (Part.Read p)) where
+    pub rules-next : {next : ℕ} → RuleTaken bytes p n operators i rules rules′ (Part.Read next) → RulesTaken bytes at n operators (i + 1) rules′ (Part.Read next)
     rules-next {next} q = record {
       are = λ ops t.
           let (rs, are, (count, u)) = h .are ops t in
@@ -117,7 +117,7 @@ module _ {bytes : List ℕ} {at n : ℕ} {operators rules : List ℕ} where
           );
     }
 
-    pub rules-stop : {m k : ℕ} → i < m → RuleAt bytes p n operators i rules rules′ (Part.Refused k) → RulesAt bytes at n operators m rules′ (Part.Refused k)
+    pub rules-stop : {m k : ℕ} → i < m → RuleTaken bytes p n operators i rules rules′ (Part.Refused k) → RulesTaken bytes at n operators m rules′ (Part.Refused k)
     rules-stop {m} {k} l q = record {
       are = λ ops t. let (rs, are, u) = h .are ops t in repeat-stops (read-rule ops) i (bitsAt bytes at) (bitsAt bytes p) rs are m k l (q .is ops t);
     }

@@ -26,12 +26,12 @@ PartIs bytes x P (Part.Refused k) = x ≡ refused k
 -- OPERATORS
 
 -- operator o, which the table takes behind those that it holds
-pub record OperatorAt (bytes : List ℕ) (at o : ℕ) (operators operators′ : List ℕ) (r : Part) : Type 0 where
+pub record OperatorTaken (bytes : List ℕ) (at o : ℕ) (operators operators′ : List ℕ) (r : Part) : Type 0 where
   pub is : PartIs bytes (read-operator (bitsAt bytes at))
       (λ op. (ops : List Operator) → length ops ≡ o → Operators ops operators → Operators (ops ++ (op ∷ [])) operators′) r
 
 -- n operators
-pub record OperatorsAt (bytes : List ℕ) (at n : ℕ) (operators : List ℕ) (r : Part) : Type 0 where
+pub record OperatorsTaken (bytes : List ℕ) (at n : ℕ) (operators : List ℕ) (r : Part) : Type 0 where
   pub are : PartIs bytes (repeat n read-operator (bitsAt bytes at)) (λ ops. (length ops ≡ n) × Operators ops operators) r
 
 -- RULES
@@ -42,12 +42,12 @@ pub record Unlinked (bytes : List ℕ) (rs : List Rule) (rules : List ℕ) : Typ
   pub none : (o : ℕ) → o < 256 → first-in rules o ≡ 0
 
 -- rule i, which the table takes behind those that it holds
-pub record RuleAt (bytes : List ℕ) (at n : ℕ) (operators : List ℕ) (i : ℕ) (rules rules′ : List ℕ) (r : Part) : Type 0 where
+pub record RuleTaken (bytes : List ℕ) (at n : ℕ) (operators : List ℕ) (i : ℕ) (rules rules′ : List ℕ) (r : Part) : Type 0 where
   pub is : (ops : List Operator) → AritiesIn ops n operators → PartIs bytes (read-rule ops (bitsAt bytes at))
       (λ rule. (rs : List Rule) → length rs ≡ i → Unlinked bytes rs rules → Unlinked bytes (rs ++ (rule ∷ [])) rules′) r
 
 -- m rules
-pub record RulesAt (bytes : List ℕ) (at n : ℕ) (operators : List ℕ) (m : ℕ) (rules : List ℕ) (r : Part) : Type 0 where
+pub record RulesTaken (bytes : List ℕ) (at n : ℕ) (operators : List ℕ) (m : ℕ) (rules : List ℕ) (r : Part) : Type 0 where
   pub are : (ops : List Operator) → AritiesIn ops n operators →
       PartIs bytes (repeat m (read-rule ops) (bitsAt bytes at)) (λ rs. (length rs ≡ m) × Unlinked bytes rs rules) r
 

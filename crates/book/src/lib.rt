@@ -8,7 +8,7 @@ ghost use mathlib.Core.Path.{_≡_};
 ghost use Prim.Native.Nat.{_<_, _≤_};
 ghost use lib.ListN.{length};
 ghost use Rattle.tables.specs.Tables.{book-of, Rules};
-ghost use Rattle.book.specs.Contracts.{OperatorAt, OperatorsAt, RuleAt, RulesAt, EndsAt, TailAt, Linkable, BookAt};
+ghost use Rattle.book.specs.Contracts.{OperatorTaken, OperatorsTaken, RuleTaken, RulesTaken, EndsAt, TailAt, Linkable, BookAt};
 
 // How many operators there are, or a refusal.
 pub enum Book {
@@ -31,7 +31,7 @@ enum Tail {
 // Operator o, at position at: its arity and its steps.
 fn read_operator(book: &[u8], at: usize, o: usize, operators: &mut [u8; 4352]) -> Part
     requires { ⌜ (length (now book) ≤ 65536) × (o < 255) × (length (now operators) ≡ 4352) ⌝ }
-    ensures { λ r. ⌜ OperatorAt (now (book .entry)) at o (now (operators .entry)) (now (operators .exit)) r ⌝ }
+    ensures { λ r. ⌜ OperatorTaken (now (book .entry)) at o (now (operators .entry)) (now (operators .exit)) r ⌝ }
 {
     let Bits::Value(a, p) = reader::field(book, at, 3) else {
         return Part::Refused(1);
@@ -51,7 +51,7 @@ fn read_operator(book: &[u8], at: usize, o: usize, operators: &mut [u8; 4352]) -
 // The n operators from position at on.
 fn read_operators(book: &[u8], at: usize, n: usize, operators: &mut [u8; 4352]) -> Part
     requires { ⌜ (length (now book) ≤ 65536) × (n ≤ 255) × (length (now operators) ≡ 4352) ⌝ }
-    ensures { λ r. ⌜ OperatorsAt (now (book .entry)) at n (now (operators .exit)) r ⌝ }
+    ensures { λ r. ⌜ OperatorsTaken (now (book .entry)) at n (now (operators .exit)) r ⌝ }
 {
     let mut p = at;
     let mut o = 0;
@@ -79,7 +79,7 @@ fn read_rule(
     rules: &mut [u32; 1024],
 ) -> Part
     requires { ⌜ (length (now book) ≤ 65536) × (i < 255) ⌝ }
-    ensures { λ r. ⌜ RuleAt (now (book .entry)) at n (now (operators .entry)) i (now (rules .entry)) (now (rules .exit)) r ⌝ }
+    ensures { λ r. ⌜ RuleTaken (now (book .entry)) at n (now (operators .entry)) i (now (rules .entry)) (now (rules .exit)) r ⌝ }
 {
     match side::read_rule(book, at, n, operators) {
         Rule::Refused(e) => Part::Refused(e),
@@ -100,7 +100,7 @@ fn read_rules(
     rules: &mut [u32; 1024],
 ) -> Part
     requires { ⌜ (length (now book) ≤ 65536) × (m ≤ 255) ⌝ }
-    ensures { λ r. ⌜ RulesAt (now (book .entry)) at n (now (operators .entry)) m (now (rules .exit)) r ⌝ }
+    ensures { λ r. ⌜ RulesTaken (now (book .entry)) at n (now (operators .entry)) m (now (rules .exit)) r ⌝ }
 {
     *rules = [0; 1024];
     let mut p = at;

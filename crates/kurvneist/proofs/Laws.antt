@@ -6,7 +6,7 @@ use native.Mathlib.Omega.{arith}
 use lib.ListN.{length, set}
 use Rattle.engine.specs.Spec as R
 use Rattle.engine.specs.declared.Answer as A
-use Rattle.writer.specs.Writing.{Answers}
+use Rattle.writer.specs.Spec.{Answers}
 use Rattle.writer.specs.declared.Written as W
 use Rattle.kurvneist.specs.Exported as X
 

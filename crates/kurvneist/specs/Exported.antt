@@ -7,7 +7,7 @@ use Rattle.paper.specs.Result.{Result, refused, accepted}
 use Rattle.paper.specs.Page.{ending-number}
 use Rattle.engine.specs.Spec as R
 use Rattle.engine.specs.declared.Answer as A
-use Rattle.writer.specs.Writing.{Answers}
+use Rattle.writer.specs.Spec.{Answers}
 use Rattle.writer.specs.declared.Written as W
 
 -- the refusal's number, 0 if there is none

@@ -18,9 +18,9 @@ use Rattle.paper.proofs.Bits.{all-drop}
 use Rattle.paper.proofs.Bytes.{bits-below}
 use Rattle.paper.proofs.Rules.{then-is}
 use Rattle.paper.proofs.Trees.{preorders-trees}
-use Rattle.side.specs.Contracts.{bitsAt, SymbolAt, check, StepAt, RestAt, LeftAt, RightAt, RuleAt}
+use Rattle.side.specs.Contracts.{bitsAt, SymbolAt, check, StepAt, RestAt, LeftSideAt, RightSideAt, RuleAt}
 use Rattle.side.specs.declared.Symbol as Sy
-use Rattle.side.specs.declared.Step as St
+use Rattle.side.specs.declared.Taking as Ta
 use Rattle.side.specs.declared.Taken.{Taken}
 use Rattle.side.specs.declared.SideEnd.{SideEnd}
 use Rattle.side.specs.declared.Side as Si
@@ -78,14 +78,14 @@ module _ (bytes : List ℕ) (at n : ℕ) (operators : List ℕ) (mask : ℕ) (le
   rest-full (suc due) room d z = record { is = λ ops t vs h. rw z }
 
   -- a symbol is refused
-  pub rest-refused : (due room k : ℕ) → (due ≡ 0 → ⊥) → 0 < room → StepAt bytes at n operators mask left (St.Step.Refused k) →
+  pub rest-refused : (due room k : ℕ) → (due ≡ 0 → ⊥) → 0 < room → StepAt bytes at n operators mask left (Ta.Taking.Refused k) →
       RestAt bytes at n operators mask left due room (Si.Side.Refused k)
   unfolding read-symbols
   rest-refused zero room k d l s = absurd (d refl)
   rest-refused (suc due) zero k d l s = absurd (omega arith)
   rest-refused (suc due) (suc room) k d l s = record { is = λ ops t vs h. refused-on (read-symbol ops (bitsAt bytes at)) _ _ k (s .is ops t vs h) }
 
-  turn-taken : (due room due′ : ℕ) (y : Taken) (r : Si.Side) → StepAt bytes at n operators mask left (St.Step.Took y) → due′ ≡ due + y .arity →
+  turn-taken : (due room due′ : ℕ) (y : Taken) (r : Si.Side) → StepAt bytes at n operators mask left (Ta.Taking.Took y) → due′ ≡ due + y .arity →
       RestAt bytes (y .next) n operators (y .met) left due′ room r → RestAt bytes at n operators mask left (suc due) (suc room) r
   unfolding return then
   turn-taken due room due′ y (Si.Side.Refused k) s e q = record {
@@ -105,7 +105,7 @@ module _ (bytes : List ℕ) (at n : ℕ) (operators : List ℕ) (mask : ℕ) (le
 
   -- a symbol is taken: what answers for those behind it answers for all
   pub rest-took : (due room due′ room′ : ℕ) (y : Taken) (r : Si.Side) → (due ≡ 0 → ⊥) → 0 < room →
-      StepAt bytes at n operators mask left (St.Step.Took y) → due′ ≡ due - 1 + y .arity → room′ ≡ room - 1 →
+      StepAt bytes at n operators mask left (Ta.Taking.Took y) → due′ ≡ due - 1 + y .arity → room′ ≡ room - 1 →
       RestAt bytes (y .next) n operators (y .met) left due′ room′ r → RestAt bytes at n operators mask left due room r
   rest-took zero room due′ room′ y r d l s e f q = absurd (d refl)
   rest-took (suc due) zero due′ room′ y r d l s e f q = absurd (omega arith)
@@ -116,16 +116,16 @@ module _ (bytes : List ℕ) (at n : ℕ) (operators : List ℕ) (mask : ℕ) (le
 -- Left sides
 
 module _ (bytes : List ℕ) (at n : ℕ) (operators : List ℕ) where
-  pub left-refused : (k : ℕ) → SymbolAt bytes at n (Sy.Symbol.Refused k) → LeftAt bytes at n operators (Si.Side.Refused k)
+  pub left-refused : (k : ℕ) → SymbolAt bytes at n (Sy.Symbol.Refused k) → LeftSideAt bytes at n operators (Si.Side.Refused k)
   unfolding read-side
   left-refused k s = record { is = λ ops t. then-refused _ _ k (sym (s .is ops (t .count))) }
 
-  pub left-variable : (v next : ℕ) → SymbolAt bytes at n (Sy.Symbol.Variable v next) → LeftAt bytes at n operators (Si.Side.Refused 5)
+  pub left-variable : (v next : ℕ) → SymbolAt bytes at n (Sy.Symbol.Variable v next) → LeftSideAt bytes at n operators (Si.Side.Refused 5)
   unfolding read-side left-root
   left-variable v next s = record { is = λ ops t. then-is _ _ _ _ (sym (s .is ops (t .count))) refl }
 
   module _ (o p a : ℕ) (s : SymbolAt bytes at n (Sy.Symbol.Operator o p)) (e : a ≡ arity-in operators o) where
-    pub left-rest : (r : Si.Side) → RestAt bytes p n operators 0 true a 63 r → LeftAt bytes at n operators r
+    pub left-rest : (r : Si.Side) → RestAt bytes p n operators 0 true a 63 r → LeftSideAt bytes at n operators r
     unfolding read-side left-root return preorder variables
     left-rest (Si.Side.Refused k) q = record {
       is = λ ops t.
@@ -165,7 +165,7 @@ side-symbols ops meet vs xs =
     (then-map (read-symbols ops meet 63 (symbolArity ops (s .value)) (ws .value) (ws .left)) _ _ _ λ (ss : Read (List B.Symbol)). refl)
 
 module _ (bytes : List ℕ) (at n : ℕ) (operators : List ℕ) (mask : ℕ) where
-  pub right-is : (r : Si.Side) → RestAt bytes at n operators mask false 1 64 r → RightAt bytes at n operators mask r
+  pub right-is : (r : Si.Side) → RestAt bytes at n operators mask false 1 64 r → RightSideAt bytes at n operators mask r
   unfolding return
   right-is (Si.Side.Refused k) q = record { is = λ ops t vs h. side-symbols ops right-symbol vs (bitsAt bytes at) ∙ then-refused _ _ k (q .is ops t vs h) }
   right-is (Si.Side.Read z) q = record {
@@ -177,12 +177,12 @@ module _ (bytes : List ℕ) (at n : ℕ) (operators : List ℕ) (mask : ℕ) whe
 -- Rules
 
 module _ (bytes : List ℕ) (at n : ℕ) (operators : List ℕ) where
-  pub rule-left-refused : (k : ℕ) → LeftAt bytes at n operators (Si.Side.Refused k) → RuleAt bytes at n operators (Ru.Rule.Refused k)
+  pub rule-left-refused : (k : ℕ) → LeftSideAt bytes at n operators (Si.Side.Refused k) → RuleAt bytes at n operators (Ru.Rule.Refused k)
   unfolding read-rule
   rule-left-refused k l = record { is = λ ops t. then-refused _ _ k (l .is ops t) }
 
-  module _ (y : SideEnd) (l : LeftAt bytes at n operators (Si.Side.Read y)) where
-    pub rule-right-refused : (k : ℕ) → RightAt bytes (y .next) n operators (y .met) (Si.Side.Refused k) → RuleAt bytes at n operators (Ru.Rule.Refused k)
+  module _ (y : SideEnd) (l : LeftSideAt bytes at n operators (Si.Side.Read y)) where
+    pub rule-right-refused : (k : ℕ) → RightSideAt bytes (y .next) n operators (y .met) (Si.Side.Refused k) → RuleAt bytes at n operators (Ru.Rule.Refused k)
     unfolding read-rule
     rule-right-refused k r = record {
       is = λ ops t.
@@ -190,7 +190,7 @@ module _ (bytes : List ℕ) (at n : ℕ) (operators : List ℕ) where
           then-is _ _ _ _ i (then-refused _ _ k (r .is ops t _ m));
     }
 
-    pub rule-read : (z : SideEnd) → RightAt bytes (y .next) n operators (y .met) (Si.Side.Read z) →
+    pub rule-read : (z : SideEnd) → RightSideAt bytes (y .next) n operators (y .met) (Si.Side.Read z) →
         RuleAt bytes at n operators (Ru.Rule.Read (record { right = y .next; next = z .next }))
     unfolding read-rule return
     rule-read z r = record {

@@ -20,9 +20,9 @@ use Rattle.bits.proofs.Bytes.{two}
 use Rattle.bits.proofs.Reading.{answers-out, ran-out}
 use Rattle.tables.specs.Layout.{arity-in}
 use Rattle.side.specs.Mask.{bit, Masks}
-use Rattle.side.specs.Contracts.{bitsAt, symbol, SymbolAt, Meets, MetAt, StepAt}
+use Rattle.side.specs.Contracts.{bitsAt, SymbolAt, Meets, MetAt, StepAt}
 use Rattle.side.specs.declared.Symbol as Sy
-use Rattle.side.specs.declared.Step as St
+use Rattle.side.specs.declared.Taking as Ta
 use Rattle.side.proofs.Mask.{bit-clear, masks-with, has-known}
 
 pub then-refused : {A C : Type 0} (x : Result A) (k : A → Result C) (n : ℕ) → x ≡ refused n → then x k ≡ refused n
@@ -103,21 +103,21 @@ module _ (bytes : List ℕ) (at n w : ℕ) (N : Nine bytes at w) where
 -- Checking one
 
 module _ (mask v next : ℕ) where
-  pub met-twice : eqb (bit v mask) 1 ≡ true → MetAt mask v true next (St.Step.Refused 6)
+  pub met-twice : eqb (bit v mask) 1 ≡ true → MetAt mask v true next (Ta.Taking.Refused 6)
   unfolding left-symbol refuse
   met-twice e vs h xs = rw (h v ∙ e)
 
-  pub met-known : eqb (bit v mask) 1 ≡ true → MetAt mask v false next (St.Step.Took (record { arity = 0; met = mask; next = next }))
+  pub met-known : eqb (bit v mask) 1 ≡ true → MetAt mask v false next (Ta.Taking.Took (record { arity = 0; met = mask; next = next }))
   unfolding right-symbol variable-of
   met-known e =
       (refl, refl, λ vs h. record { on = vs; is = λ xs. rw (h v ∙ e); same = has-known v vs (h v ∙ e); masks = h })
 
-  pub met-new : (m : ℕ) → eqb (bit v mask) 1 ≡ false → m ≡ mask + 2 ^ v → MetAt mask v true next (St.Step.Took (record { arity = 0; met = m; next = next }))
+  pub met-new : (m : ℕ) → eqb (bit v mask) 1 ≡ false → m ≡ mask + 2 ^ v → MetAt mask v true next (Ta.Taking.Took (record { arity = 0; met = m; next = next }))
   unfolding left-symbol variable-of
   met-new m e f =
       (refl, refl, λ vs h. record { on = v ∷ vs; is = λ xs. rw (h v ∙ e); same = λ u. refl; masks = rw f (masks-with mask v vs (bit-clear v mask e) h) })
 
-  pub met-unknown : eqb (bit v mask) 1 ≡ false → MetAt mask v false next (St.Step.Refused 7)
+  pub met-unknown : eqb (bit v mask) 1 ≡ false → MetAt mask v false next (Ta.Taking.Refused 7)
   unfolding right-symbol refuse
   met-unknown e vs h xs = rw (h v ∙ e)
 
@@ -129,12 +129,12 @@ operator-meets true vs o m h = record { on = vs; is = λ xs. refl; same = λ v. 
 operator-meets false vs o m h = record { on = vs; is = λ xs. refl; same = λ v. refl; masks = h }
 
 module _ (bytes : List ℕ) (at n : ℕ) (operators : List ℕ) (mask : ℕ) (left : Bool) where
-  pub step-refused : (k : ℕ) → SymbolAt bytes at n (Sy.Symbol.Refused k) → StepAt bytes at n operators mask left (St.Step.Refused k)
+  pub step-refused : (k : ℕ) → SymbolAt bytes at n (Sy.Symbol.Refused k) → StepAt bytes at n operators mask left (Ta.Taking.Refused k)
   unfolding _>>=_
   step-refused k s = record { is = λ ops t vs h. then-refused _ _ k (sym (s .is ops (t .count))); small = tt }
 
   pub step-operator : (o next a : ℕ) → SymbolAt bytes at n (Sy.Symbol.Operator o next) → a ≡ arity-in operators o → a < 256 →
-      StepAt bytes at n operators mask left (St.Step.Took (record { arity = a; met = mask; next = next }))
+      StepAt bytes at n operators mask left (Ta.Taking.Took (record { arity = a; met = mask; next = next }))
   unfolding return
   step-operator o next a s e l =
       record {
@@ -142,12 +142,12 @@ module _ (bytes : List ℕ) (at n : ℕ) (operators : List ℕ) (mask : ℕ) (le
         small = l;
       }
 
-  pub step-variable : (v next : ℕ) (r : St.Step) → SymbolAt bytes at n (Sy.Symbol.Variable v next) → MetAt mask v left next r →
+  pub step-variable : (v next : ℕ) (r : Ta.Taking) → SymbolAt bytes at n (Sy.Symbol.Variable v next) → MetAt mask v left next r →
       StepAt bytes at n operators mask left r
   unfolding _>>=_ return then
-  step-variable v next (St.Step.Took t) s (z, e, f) =
+  step-variable v next (Ta.Taking.Took t) s (z, e, f) =
       record {
         is = λ ops a vs h. (B.Symbol.variable v, rw e (sym (s .is ops (a .count))), z, f vs h);
         small = omega arith;
       }
-  step-variable v next (St.Step.Refused k) s f = record { is = λ ops t vs h. rw (sym (s .is ops (t .count))) (f vs h (bitsAt bytes next)); small = tt }
+  step-variable v next (Ta.Taking.Refused k) s f = record { is = λ ops t vs h. rw (sym (s .is ops (t .count))) (f vs h (bitsAt bytes next)); small = tt }

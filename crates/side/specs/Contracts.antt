@@ -16,7 +16,7 @@ use Rattle.tables.specs.Layout.{arity-in}
 use Rattle.side.specs.Mask.{Masks}
 use Rattle.side.specs.declared.Symbol as Sy
 use Rattle.side.specs.declared.Standing as Sd
-use Rattle.side.specs.declared.Step as St
+use Rattle.side.specs.declared.Taking as Ta
 use Rattle.side.specs.declared.Side as Si
 use Rattle.side.specs.declared.Rule as Ru
 use Rattle.side.specs.declared.RuleEnd.{RuleEnd}
@@ -81,22 +81,22 @@ pub record Meets (left : Bool) (vs : List ℕ) (s : B.Symbol) (m : ℕ) : Type 0
   pub masks : Masks m on
 
 -- r answers for the variable v, behind which the position next is, where those of mask were met
-abbrev pub MetAt : ℕ → ℕ → Bool → ℕ → St.Step → Type 0
-MetAt mask v left next (St.Step.Took t) =
+abbrev pub MetAt : ℕ → ℕ → Bool → ℕ → Ta.Taking → Type 0
+MetAt mask v left next (Ta.Taking.Took t) =
     (t .arity ≡ 0) × (t .next ≡ next) × ((vs : List ℕ) → Masks mask vs → Meets left vs (B.Symbol.variable v) (t .met))
-MetAt mask v left next (St.Step.Refused k) = (vs : List ℕ) → Masks mask vs → (xs : List ℕ) → check left vs (B.Symbol.variable v) xs ≡ refused k
+MetAt mask v left next (Ta.Taking.Refused k) = (vs : List ℕ) → Masks mask vs → (xs : List ℕ) → check left vs (B.Symbol.variable v) xs ≡ refused k
 
 -- r answers for the symbol at a position, by the variables vs
-abbrev pub StepIs : List Operator → Bool → List ℕ → List ℕ → ℕ → St.Step → Type 0
-StepIs ops left vs bytes at (St.Step.Took t) =
+abbrev pub StepIs : List Operator → Bool → List ℕ → List ℕ → ℕ → Ta.Taking → Type 0
+StepIs ops left vs bytes at (Ta.Taking.Took t) =
     (s : B.Symbol) × (read-symbol ops (bitsAt bytes at) ≡ return s (bitsAt bytes (t .next))) × (t .arity ≡ symbolArity ops s) × Meets left vs s (t .met)
-StepIs ops left vs bytes at (St.Step.Refused k) = (read-symbol ops >>= check left vs) (bitsAt bytes at) ≡ refused k
+StepIs ops left vs bytes at (Ta.Taking.Refused k) = (read-symbol ops >>= check left vs) (bitsAt bytes at) ≡ refused k
 
-abbrev pub ArityFits : St.Step → Type 0
-ArityFits (St.Step.Took t) = t .arity < 256
-ArityFits (St.Step.Refused k) = Unit
+abbrev pub ArityFits : Ta.Taking → Type 0
+ArityFits (Ta.Taking.Took t) = t .arity < 256
+ArityFits (Ta.Taking.Refused k) = Unit
 
-pub record StepAt (bytes : List ℕ) (at n : ℕ) (operators : List ℕ) (mask : ℕ) (left : Bool) (r : St.Step) : Type 0 where
+pub record StepAt (bytes : List ℕ) (at n : ℕ) (operators : List ℕ) (mask : ℕ) (left : Bool) (r : Ta.Taking) : Type 0 where
   pub is : (ops : List Operator) → AritiesIn ops n operators → (vs : List ℕ) → Masks mask vs → StepIs ops left vs bytes at r
   pub small : ArityFits r
 
@@ -118,7 +118,7 @@ LeftIs ops bytes at (Si.Side.Read s) =
     (side : B.Side) × (read-side ops left-root left-symbol (bitsAt bytes at) ≡ return side (bitsAt bytes (s .next))) × Masks (s .met) (variables (preorder side))
 LeftIs ops bytes at (Si.Side.Refused k) = read-side ops left-root left-symbol (bitsAt bytes at) ≡ refused k
 
-pub record LeftAt (bytes : List ℕ) (at n : ℕ) (operators : List ℕ) (r : Si.Side) : Type 0 where
+pub record LeftSideAt (bytes : List ℕ) (at n : ℕ) (operators : List ℕ) (r : Si.Side) : Type 0 where
   pub is : (ops : List Operator) → AritiesIn ops n operators → LeftIs ops bytes at r
 
 -- a right side whose variables are among vs
@@ -127,7 +127,7 @@ RightIs ops vs bytes at (Si.Side.Read s) =
     (side : B.Side) × (read-side ops (right-symbol vs) right-symbol (bitsAt bytes at) ≡ return side (bitsAt bytes (s .next)))
 RightIs ops vs bytes at (Si.Side.Refused k) = read-side ops (right-symbol vs) right-symbol (bitsAt bytes at) ≡ refused k
 
-pub record RightAt (bytes : List ℕ) (at n : ℕ) (operators : List ℕ) (mask : ℕ) (r : Si.Side) : Type 0 where
+pub record RightSideAt (bytes : List ℕ) (at n : ℕ) (operators : List ℕ) (mask : ℕ) (r : Si.Side) : Type 0 where
   pub is : (ops : List Operator) → AritiesIn ops n operators → (vs : List ℕ) → Masks mask vs → RightIs ops vs bytes at r
 
 -- RULES

@@ -5,7 +5,7 @@ ghost use Prim.Native.Nat.{_+_, _<_, _≤_, _^_};
 ghost use lib.ListN.{length};
 ghost use lib.Dec.{eqb};
 ghost use Rattle.side.specs.Mask.{bit};
-ghost use Rattle.side.specs.Contracts.{SymbolAt, StandingAt, MetAt, StepAt, RestAt, LeftAt, RightAt, RuleAt};
+ghost use Rattle.side.specs.Contracts.{SymbolAt, StandingAt, MetAt, StepAt, RestAt, LeftSideAt, RightSideAt, RuleAt};
 
 // An operator or a variable, by number, and the position behind it; or the number of a refusal, here and below.
 pub enum Symbol {
@@ -27,7 +27,7 @@ pub struct Taken {
     pub next: usize,
 }
 
-pub enum Step {
+pub enum Taking {
     Took(Taken),
     Refused(u8),
 }
@@ -106,38 +106,38 @@ fn with(mask: u16, v: u8) -> u16
 }
 
 // The variable v, met where those of mask were met: new in a left side, known in a right one.
-fn meet(mask: u16, v: u8, left: bool, next: usize) -> Step
+fn meet(mask: u16, v: u8, left: bool, next: usize) -> Taking
     requires { ⌜ v < 16 ⌝ }
     ensures { λ r. ⌜ MetAt mask v left next r ⌝ }
 {
     if has(mask, v) {
         if left {
-            return Step::Refused(6);
+            return Taking::Refused(6);
         }
-        return Step::Took(Taken {
+        return Taking::Took(Taken {
             arity: 0,
             met: mask,
             next,
         });
     }
     if left {
-        return Step::Took(Taken {
+        return Taking::Took(Taken {
             arity: 0,
             met: with(mask, v),
             next,
         });
     }
-    Step::Refused(7)
+    Taking::Refused(7)
 }
 
 // The symbol at position at, taken by a left or a right side where the variables of mask were met.
-fn take(book: &[u8], at: usize, n: usize, operators: &[u8; 4352], mask: u16, left: bool) -> Step
+fn take(book: &[u8], at: usize, n: usize, operators: &[u8; 4352], mask: u16, left: bool) -> Taking
     requires { ⌜ length (now book) ≤ 2 ^ 60 ⌝ }
     ensures { λ r. ⌜ StepAt (now (book .entry)) at n (now (operators .entry)) mask left r ⌝ }
 {
     match read_symbol(book, at, n) {
-        Symbol::Refused(k) => Step::Refused(k),
-        Symbol::Operator(o, next) => Step::Took(Taken {
+        Symbol::Refused(k) => Taking::Refused(k),
+        Symbol::Operator(o, next) => Taking::Took(Taken {
             arity: tables::arity(operators, o),
             met: mask,
             next,
@@ -169,10 +169,10 @@ fn read_rest(
             return Side::Read(SideEnd { met, next });
         }
         match take(book, next, n, operators, met, left) {
-            Step::Refused(k) => {
+            Taking::Refused(k) => {
                 return Side::Refused(k);
             }
-            Step::Took(t) => {
+            Taking::Took(t) => {
                 owed = owed - 1 + t.arity;
                 met = t.met;
                 next = t.next;
@@ -190,7 +190,7 @@ fn read_rest(
 // A left side: an operator and up to 63 symbols more.
 fn read_left(book: &[u8], at: usize, n: usize, operators: &[u8; 4352]) -> Side
     requires { ⌜ length (now book) ≤ 2 ^ 60 ⌝ }
-    ensures { λ r. ⌜ LeftAt (now (book .entry)) at n (now (operators .entry)) r ⌝ }
+    ensures { λ r. ⌜ LeftSideAt (now (book .entry)) at n (now (operators .entry)) r ⌝ }
 {
     match read_symbol(book, at, n) {
         Symbol::Refused(k) => Side::Refused(k),
@@ -213,7 +213,7 @@ fn read_left(book: &[u8], at: usize, n: usize, operators: &[u8; 4352]) -> Side
 // A right side: up to 64 symbols, with the variables of mask.
 fn read_right(book: &[u8], at: usize, n: usize, operators: &[u8; 4352], mask: u16) -> Side
     requires { ⌜ length (now book) ≤ 2 ^ 60 ⌝ }
-    ensures { λ r. ⌜ RightAt (now (book .entry)) at n (now (operators .entry)) mask r ⌝ }
+    ensures { λ r. ⌜ RightSideAt (now (book .entry)) at n (now (operators .entry)) mask r ⌝ }
 {
     read_rest(book, at, n, operators, mask, false, 1, 64)
 }

@@ -24,7 +24,7 @@ use Rattle.strategy.specs.declared.Turn.{Turn}
 use Rattle.strategy.specs.declared.Numbers.{Numbers}
 use Rattle.strategy.specs.declared.Strategy.{Strategy}
 use Rattle.strategy.specs.declared.Listed.{Listed}
-use Rattle.strategy.specs.Contracts.{turn, spelt, SettledList, NumbersRead, GivenRead, StrategyRead}
+use Rattle.strategy.specs.Contracts.{turn, spelt, SettledList, NumbersAt, GivenAt, StrategyAt}
 use Rattle.strategy.specs.Settling.{settling, AtFront}
 use Rattle.strategy.proofs.OnePass.{settles}
 
@@ -144,17 +144,17 @@ good-settled a g xs is zs vs l k bytes x e n =
 
 module _ (bytes : List ℕ) (at a : ℕ) (l : a < 8) where
   -- the ways through the reading of a given list
-  pub read-given-out : (kept : List ℕ) → length kept ≡ 32 → field 5 (drop at (bitsOf bytes)) ≡ refused 1 → GivenRead bytes at a kept (Strategy.Refused 1)
+  pub read-given-out : (kept : List ℕ) → length kept ≡ 32 → field 5 (drop at (bitsOf bytes)) ≡ refused 1 → GivenAt bytes at a kept (Strategy.Refused 1)
   read-given-out kept h e = record { is = sym (ap spelt (given-out a (drop at (bitsOf bytes)) e)); settled = tt; long = h }
 
   pub read-given-refused : (n next f : ℕ) → field 5 (drop at (bitsOf bytes)) ≡ return n (drop next (bitsOf bytes)) →
-      (raw : List ℕ) (q : Numbers) → NumbersRead bytes next a n raw q → q ≡ Numbers.Refused f → GivenRead bytes at a raw (Strategy.Refused f)
+      (raw : List ℕ) (q : Numbers) → NumbersAt bytes next a n raw q → q ≡ Numbers.Refused f → GivenAt bytes at a raw (Strategy.Refused f)
   read-given-refused n next f e raw q k z =
       let r : refused f ≡ read-numbers a false n (drop next (bitsOf bytes)) = rw z at (k .is) in
       record { is = sym (ap spelt (given-refused a (drop at (bitsOf bytes)) n (drop next (bitsOf bytes)) f e (sym r))); settled = tt; long = k .long }
 
   given-answer : (kept : List ℕ) (len end : ℕ) (is : List Item) → read-strategy a 1 (drop at (bitsOf bytes)) ≡ return is (drop end (bitsOf bytes)) →
-      take len kept ≡ numbers is → len ≤ 31 → length kept ≡ 32 → GivenRead bytes at a kept (Strategy.Read (record { len = len; next = end }))
+      take len kept ≡ numbers is → len ≤ 31 → length kept ≡ 32 → GivenAt bytes at a kept (Strategy.Read (record { len = len; next = end }))
   unfolding return
   given-answer kept len end is g q h k =
       record {
@@ -164,8 +164,8 @@ module _ (bytes : List ℕ) (at a : ℕ) (l : a < 8) where
       }
 
   pub read-given-read : (kept : List ℕ) (n next len end : ℕ) → field 5 (drop at (bitsOf bytes)) ≡ return n (drop next (bitsOf bytes)) →
-      (raw : List ℕ) (q : Numbers) → NumbersRead bytes next a n raw q → q ≡ Numbers.Read end → len ≤ 31 →
-      AtFront (settling [] 0 (take n raw)) len kept → GivenRead bytes at a kept (Strategy.Read (record { len = len; next = end }))
+      (raw : List ℕ) (q : Numbers) → NumbersAt bytes next a n raw q → q ≡ Numbers.Read end → len ≤ 31 →
+      AtFront (settling [] 0 (take n raw)) len kept → GivenAt bytes at a kept (Strategy.Read (record { len = len; next = end }))
   unfolding return
   read-given-read kept n next len end e raw q nr z h k =
       let r : read-numbers a false n (drop next (bitsOf bytes)) ≡ return (take n raw) (drop end (bitsOf bytes)) = sym (rw z at (nr .is)) in
@@ -175,7 +175,7 @@ module _ (bytes : List ℕ) (at a : ℕ) (l : a < 8) where
       (k .is ∙ settles a (take n raw) is l p w) h (k .long)
 
   -- and through the reading of a strategy
-  pub read-out : (kept : List ℕ) → length kept ≡ 32 → field 1 (drop at (bitsOf bytes)) ≡ refused 1 → StrategyRead bytes at a kept (Strategy.Refused 1)
+  pub read-out : (kept : List ℕ) → length kept ≡ 32 → field 1 (drop at (bitsOf bytes)) ≡ refused 1 → StrategyAt bytes at a kept (Strategy.Refused 1)
   read-out kept h e =
       record { is = sym (ap spelt (bind-refused (field 1) (read-strategy a) (drop at (bitsOf bytes)) 1 e)); settled = tt; long = h }
 
@@ -183,7 +183,7 @@ module _ (bytes : List ℕ) (at a : ℕ) (l : a < 8) where
     first : (field 1 >>= read-strategy a) (drop at (bitsOf bytes)) ≡ read-strategy a g (drop next (bitsOf bytes))
     first = bind-return (field 1) (read-strategy a) (drop at (bitsOf bytes)) (drop next (bitsOf bytes)) g e
 
-    pub read-default : (kept : List ℕ) (len : ℕ) → g ≡ 0 → len ≤ 31 → AtFront (numbers (default a)) len kept → StrategyRead bytes at a kept (Strategy.Read (record { len = len; next = next }))
+    pub read-default : (kept : List ℕ) (len : ℕ) → g ≡ 0 → len ≤ 31 → AtFront (numbers (default a)) len kept → StrategyAt bytes at a kept (Strategy.Read (record { len = len; next = next }))
     unfolding return
     read-default kept len z h k =
         let d = ap (λ (i : ℕ). read-strategy a i (drop next (bitsOf bytes))) z ∙ not-given a (drop next (bitsOf bytes)) in
@@ -193,7 +193,7 @@ module _ (bytes : List ℕ) (at a : ℕ) (l : a < 8) where
           long = k .long;
         }
 
-    pub read-list : (kept : List ℕ) (r : Strategy) → (g ≡ 0 → ⊥) → GivenRead bytes next a kept r → StrategyRead bytes at a kept r
+    pub read-list : (kept : List ℕ) (r : Strategy) → (g ≡ 0 → ⊥) → GivenAt bytes next a kept r → StrategyAt bytes at a kept r
     read-list kept r z k =
         record { is = k .is ∙ sym (ap spelt (first ∙ given-any a g (drop next (bitsOf bytes)) z)); settled = k .settled; long = k .long }
 
@@ -226,7 +226,7 @@ reader-good a xs is ys l b e =
     let (g, p, q) = bind-accepted (field 1) (read-strategy a) xs _ e in
     read-strategy-good a (g .value) (g .left) _ l (field-bounded 1 xs g b p .1) q .0
 
-module _ (bytes : List ℕ) (at a : ℕ) (its : List ℕ) (r : Strategy) (s : StrategyRead bytes at a its r) where
+module _ (bytes : List ℕ) (at a : ℕ) (its : List ℕ) (r : Strategy) (s : StrategyAt bytes at a its r) where
   pub strategy-refused : (e : ℕ) → r ≡ Strategy.Refused e → (field 1 >>= read-strategy a) (drop at (bitsOf bytes)) ≡ refused e
   strategy-refused e z = spelt-refused ((field 1 >>= read-strategy a) (drop at (bitsOf bytes))) e (rw z at (s .is))
 

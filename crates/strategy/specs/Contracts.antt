@@ -47,18 +47,18 @@ SettledIn a items (Strategy.Read s) = (s .len ≤ 31) × SettledList a (take (s 
 SettledIn a items (Strategy.Refused e) = Unit
 
 -- r answers for the n numbers at position at of an operator of arity a: it is what the paper's reader answers there
-pub record NumbersRead (bytes : List ℕ) (at a n : ℕ) (raw : List ℕ) (r : Numbers) : Type 0 where
+pub record NumbersAt (bytes : List ℕ) (at a n : ℕ) (raw : List ℕ) (r : Numbers) : Type 0 where
   pub is : numbers-answer bytes n raw r ≡ read-numbers a false n (drop at (bitsOf bytes))
   pub long : length raw ≡ 32
 
 -- r answers for the list that is given at position at
-pub record GivenRead (bytes : List ℕ) (at a : ℕ) (items : List ℕ) (r : Strategy) : Type 0 where
+pub record GivenAt (bytes : List ℕ) (at a : ℕ) (items : List ℕ) (r : Strategy) : Type 0 where
   pub is : strategy-answer bytes items r ≡ spelt (read-strategy a 1 (drop at (bitsOf bytes)))
   pub settled : SettledIn a items r
   pub long : length items ≡ 32
 
 -- r answers for the strategy at position at, behind the arity a: it is what the paper's reader answers there
-pub record StrategyRead (bytes : List ℕ) (at a : ℕ) (items : List ℕ) (r : Strategy) : Type 0 where
+pub record StrategyAt (bytes : List ℕ) (at a : ℕ) (items : List ℕ) (r : Strategy) : Type 0 where
   pub is : strategy-answer bytes items r ≡ spelt ((field 1 >>= read-strategy a) (drop at (bitsOf bytes)))
   pub settled : SettledIn a items r
   pub long : length items ≡ 32

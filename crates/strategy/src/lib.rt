@@ -11,7 +11,7 @@ ghost use Rattle.paper.specs.Strategy.{default, has};
 ghost use Rattle.paper.specs.Writer.{numbers};
 ghost use Rattle.strategy.specs.Settling.{ends-in-zero, closed, keeping, opening, settling, AtFront};
 ghost use Rattle.strategy.specs.Codes.{placing, unless-0, codes};
-ghost use Rattle.strategy.specs.Contracts.{turn, NumbersRead, GivenRead, StrategyRead, Layable, LaidOut};
+ghost use Rattle.strategy.specs.Contracts.{turn, NumbersAt, GivenAt, StrategyAt, Layable, LaidOut};
 
 // How long the settled list is, and the position behind the strategy.
 pub struct Listed {
@@ -84,7 +84,7 @@ fn item(v: u8, arity: u8, grouped: bool, left: usize) -> Turn
 // Reads count items from position at on.
 fn read_numbers(book: &[u8], at: usize, arity: u8, count: usize, items: &mut [u8; 32]) -> Numbers
     requires { ⌜ (length (now book) ≤ 2 ^ 60) × (count ≤ 31) × (length (now items) ≡ 32) ⌝ }
-    ensures { λ r. ⌜ NumbersRead (now (book .entry)) at arity count (now (items .exit)) r ⌝ }
+    ensures { λ r. ⌜ NumbersAt (now (book .entry)) at arity count (now (items .exit)) r ⌝ }
 {
     let mut pos = at;
     let mut grouped = false;
@@ -226,7 +226,7 @@ fn settle(items: &mut [u8; 32], count: usize) -> usize
 // A strategy that is given: its length and its items.
 fn read_given(book: &[u8], at: usize, arity: u8, items: &mut [u8; 32]) -> Strategy
     requires { ⌜ (length (now book) ≤ 2 ^ 60) × (arity < 8) × (length (now items) ≡ 32) ⌝ }
-    ensures { λ r. ⌜ GivenRead (now (book .entry)) at arity (now (items .exit)) r ⌝ }
+    ensures { λ r. ⌜ GivenAt (now (book .entry)) at arity (now (items .exit)) r ⌝ }
 {
     let Bits::Value(count, next) = reader::field(book, at, 5) else {
         return Strategy::Refused(1);
@@ -245,7 +245,7 @@ fn read_given(book: &[u8], at: usize, arity: u8, items: &mut [u8; 32]) -> Strate
 // The strategy of an operator, at the position behind its arity.
 pub fn read_strategy(book: &[u8], at: usize, arity: u8, items: &mut [u8; 32]) -> Strategy
     requires { ⌜ (length (now book) ≤ 2 ^ 60) × (arity < 8) × (length (now items) ≡ 32) ⌝ }
-    ensures { λ r. ⌜ StrategyRead (now (book .entry)) at arity (now (items .exit)) r ⌝ }
+    ensures { λ r. ⌜ StrategyAt (now (book .entry)) at arity (now (items .exit)) r ⌝ }
 {
     let Bits::Value(given, next) = reader::field(book, at, 1) else {
         return Strategy::Refused(1);

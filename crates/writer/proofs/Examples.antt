@@ -5,7 +5,7 @@ use mathlib.Core.Path.{_≡_, refl}
 use Prim.Native.Nat.{ℕ}
 use Rattle.paper.specs.Page.{writtenOf}
 use Rattle.writer.specs.declared.Written as D
-use Rattle.writer.specs.Writing.{Outcome, writing}
+use Rattle.writer.specs.Spec.{Outcome, writing}
 
 -- what the writer gives for a book's bytes and an output
 unfoldable pub writes : List ℕ → List ℕ → Outcome

@@ -3,14 +3,14 @@
 use Prim.Native.Nat.{_-_, _≤_}
 use native.Mathlib.Omega.{arith}
 use borrow.Author.Needs.{needs}
-use Rattle.book.specs.Contracts.{OperatorsAt}
+use Rattle.book.specs.Contracts.{OperatorsTaken}
 use Rattle.book.specs.declared.Part.{Part}
 use Rattle.book.proofs.Operators.{operators-none, operators-all, operators-next, operators-stop}
 use Rattle.book.proofs.read_operators.Statement.{statement}
 use Rattle.book.proofs.read_operators.Tie as tie
 
 abbrev Inv-loop : tie.InvT-loop
-Inv-loop book at n operators₀ p₀ o₀ operators p o = (o ≤ n) × OperatorsAt book at o operators (Part.Read p)
+Inv-loop book at n operators₀ p₀ o₀ operators p o = (o ≤ n) × OperatorsTaken book at o operators (Part.Read p)
 
 abbrev μ-loop : tie.MeasureT-loop
 μ-loop book at n operators₀ p₀ o₀ operators p o = n - o

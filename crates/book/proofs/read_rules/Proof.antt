@@ -4,14 +4,14 @@ use mathlib.Core.Path.{refl}
 use Prim.Native.Nat.{_-_, _≤_}
 use native.Mathlib.Omega.{arith}
 use borrow.Author.Needs.{needs}
-use Rattle.book.specs.Contracts.{RulesAt}
+use Rattle.book.specs.Contracts.{RulesTaken}
 use Rattle.book.specs.declared.Part.{Part}
 use Rattle.book.proofs.Rules.{rules-none, rules-all, rules-next, rules-stop}
 use Rattle.book.proofs.read_rules.Statement.{statement}
 use Rattle.book.proofs.read_rules.Tie as tie
 
 abbrev Inv-loop : tie.InvT-loop
-Inv-loop book at n operators m rules₀ p₀ i₀ rules p i = (i ≤ m) × RulesAt book at n operators i rules (Part.Read p)
+Inv-loop book at n operators m rules₀ p₀ i₀ rules p i = (i ≤ m) × RulesTaken book at n operators i rules (Part.Read p)
 
 abbrev μ-loop : tie.MeasureT-loop
 μ-loop book at n operators m rules₀ p₀ i₀ rules p i = m - i
