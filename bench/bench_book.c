@@ -6,10 +6,28 @@
 
 enum { OPERATORS = 255, RULES = 255, SIDE = 64, TURNS = 301, INNER = 8 };
 
-uint8_t bench_book_read(const uint8_t *book, size_t len, uint8_t *arities, uint8_t *laid, uint32_t *lefts, uint32_t *rights, uint8_t *chain);
+uint8_t bench_book_read(const uint8_t *book, size_t len, uint8_t *operators, uint32_t *rules);
 
-static int rattle_read_book(const uint8_t *book, size_t len, tables *t) {
-    return bench_book_read(book, len, t->arities, t->laid, t->lefts, t->rights, t->chain);
+// The library's tables: arities and rows of steps; by root the first rule, one added, 0 for none, and by rule the next and the positions of its sides.
+typedef struct {
+    uint8_t operators[4352];
+    uint32_t rules[1024];
+} library_tables;
+
+static int rattle_read_book(const uint8_t *book, size_t len, void *t) {
+    library_tables *l = t;
+    return bench_book_read(book, len, l->operators, l->rules);
+}
+
+static int unverified_read_book(const uint8_t *book, size_t len, void *t) { return c_read_book(book, len, t); }
+
+// Do they say the same?
+static int same(const library_tables *l, const tables *t) {
+    if (memcmp(l->operators, t->arities, 256) || memcmp(l->operators + 256, t->laid, 4096)) return 0;
+    for (unsigned i = 0; i < 256; i++)
+        if (l->rules[i] != t->chain[i] || l->rules[256 + i] != t->chain[256 + i] || l->rules[512 + i] != t->lefts[i] || l->rules[768 + i] != t->rights[i])
+            return 0;
+    return 1;
 }
 
 static packer book;
@@ -81,10 +99,10 @@ static void make_book(void) {
     }
 }
 
-typedef int reader_of_books(const uint8_t *, size_t, tables *);
+typedef int reader_of_books(const uint8_t *, size_t, void *);
 
 // Nanoseconds for one reading.
-static double timed(reader_of_books *read, size_t len, tables *t) {
+static double timed(reader_of_books *read, size_t len, void *t) {
     double start = now();
     for (int i = 0; i < INNER; i++)
         if (read(book.bytes, len, t)) abort();
@@ -92,18 +110,19 @@ static double timed(reader_of_books *read, size_t len, tables *t) {
 }
 
 int main(void) {
-    static tables ours, theirs;
+    static library_tables ours;
+    static tables theirs;
     static double rattle[TURNS], c[TURNS];
     make_book();
     size_t len = packed_length(&book);
     int a = rattle_read_book(book.bytes, len, &ours), b = c_read_book(book.bytes, len, &theirs);
-    if (a || b || memcmp(&ours, &theirs, sizeof ours)) {
+    if (a || b || !same(&ours, &theirs)) {
         printf("the readers differ: %d and %d\n", a, b);
         return 1;
     }
     for (int i = 0; i < TURNS; i++) {
         rattle[i] = timed(rattle_read_book, len, &ours);
-        c[i] = timed(c_read_book, len, &theirs);
+        c[i] = timed(unverified_read_book, len, &theirs);
     }
     printf("reading a book of %zu bytes, %d rules; the same tables\n", len, RULES);
     compare(rattle, c, TURNS);

@@ -4,10 +4,10 @@ use mathlib.Core.Path.{_≡_, refl, sym, ap, ap₂, _∙_}
 use Prim.Native.Nat.{ℕ, zero, suc, _+_, _-_, _*_, _/_, _%_, _^_, _≤_, _<_}
 use native.Mathlib.Nat.{suc-add, mod-lt, mod-eq-of-lt}
 use native.Mathlib.Omega.{arith}
-use lib.ListN.{length, getD, take, drop, replicate, drop-of-length-le, length-append}
+use lib.ListN.{length, getD, take, drop, replicate, drop-of-length-le, length-append, take-append-drop}
 use lib.Pow.{pow-pos, shr-le, shr-mod}
 use lib.Pow as pow
-use lib.Seq.{take-at, drop-at, drop-drop, take-take, drop-append-le, drop-append-add}
+use lib.Seq.{take-at, drop-at, drop-drop, take-take, take-append-le, drop-append-le, drop-append-add}
 use Rattle.paper.specs.Bits.{toBits, value, bitsOf}
 use Rattle.paper.proofs.Bits.{length-toBits, value-toBits}
 use Rattle.bits.specs.Field.{Nine}
@@ -71,24 +71,35 @@ nine-read bytes at b c p r e f l q s =
 
 -- What stands there
 
--- a field of n bits, up to nine, that stands at the position
-module _ {bytes : List ℕ} {at r : ℕ} (N : Nine bytes at r) (n m v : ℕ) (rest : List ℕ) (e : n + m ≡ 9) (h : v < 2 ^ n)
-    (there : drop at (bitsOf bytes) ≡ toBits n v ++ rest) where
-  -- it is what the nine bits begin with
-  pub begins : r / 2 ^ m ≡ v
-  begins =
-      let s : toBits n (r / 2 ^ m) ≡ toBits n v =
+module _ {bytes : List ℕ} {at r : ℕ} (N : Nine bytes at r) (n m : ℕ) (e : n + m ≡ 9) where
+  first : toBits n (r / 2 ^ m) ≡ take n (drop at (bitsOf bytes) ++ replicate 9 0)
+  first =
       sym (take-at (toBits n (r / 2 ^ m)) (toBits m r) n (length-toBits n _))
       ∙ ap (take n) (sym (split n m r) ∙ ap (λ (k : ℕ). toBits k r) e ∙ N .is)
       ∙ take-take n 9 (drop at (bitsOf bytes) ++ replicate 9 0) (omega arith)
-      ∙ ap (take n) (ap (λ (l : List ℕ). l ++ replicate 9 0) there ∙ append-assoc (toBits n v) rest (replicate 9 0))
-      ∙ take-at (toBits n v) (rest ++ replicate 9 0) n (length-toBits n v) in
-      let b : r < 2 ^ (n + m) = rw e (N .small) in
-      sym (shr-mod n m b) ∙ sym (value-toBits n (r / 2 ^ m)) ∙ ap value s ∙ value-toBits n v ∙ mod-eq-of-lt h
 
-  -- and the others stand behind it
-  pub begins-rest : drop (at + n) (bitsOf bytes) ≡ rest
-  begins-rest = sym (drop-drop n at (bitsOf bytes)) ∙ ap (drop n) there ∙ drop-at (toBits n v) rest n (length-toBits n v)
+  -- the first n of the nine bits stand there, if so many are left
+  pub stand-first : n ≤ 8 * length bytes - at → drop at (bitsOf bytes) ≡ toBits n (r / 2 ^ m) ++ drop (at + n) (bitsOf bytes)
+  stand-first l =
+      let xs = drop at (bitsOf bytes) in
+      let h : n ≤ length xs = omega (arith, bits-left bytes at) in
+      sym (take-append-drop n xs) ∙ ap₂ (λ (ys zs : List ℕ). ys ++ zs) (sym (first ∙ take-append-le n xs (replicate 9 0) h)) (drop-drop n at (bitsOf bytes))
 
-  pub begins-inside : 0 < n → at + n ≤ 8 * length bytes
-  begins-inside p = omega (arith, bits-left bytes at, ap length there, length-append (toBits n v) rest, length-toBits n v)
+  -- a field of n bits that stands there
+  module _ (v : ℕ) (rest : List ℕ) (h : v < 2 ^ n) (there : drop at (bitsOf bytes) ≡ toBits n v ++ rest) where
+    -- it is what the nine bits begin with
+    pub begins : r / 2 ^ m ≡ v
+    begins =
+        let s : toBits n (r / 2 ^ m) ≡ toBits n v =
+        first
+        ∙ ap (take n) (ap (λ (l : List ℕ). l ++ replicate 9 0) there ∙ append-assoc (toBits n v) rest (replicate 9 0))
+        ∙ take-at (toBits n v) (rest ++ replicate 9 0) n (length-toBits n v) in
+        let b : r < 2 ^ (n + m) = rw e (N .small) in
+        sym (shr-mod n m b) ∙ sym (value-toBits n (r / 2 ^ m)) ∙ ap value s ∙ value-toBits n v ∙ mod-eq-of-lt h
+
+    -- and the others stand behind it
+    pub begins-rest : drop (at + n) (bitsOf bytes) ≡ rest
+    begins-rest = sym (drop-drop n at (bitsOf bytes)) ∙ ap (drop n) there ∙ drop-at (toBits n v) rest n (length-toBits n v)
+
+    pub begins-inside : 0 < n → at + n ≤ 8 * length bytes
+    begins-inside p = omega (arith, bits-left bytes at, ap length there, length-append (toBits n v) rest, length-toBits n v)

@@ -1,6 +1,6 @@
 -- Reading a field: what the window gives is what the paper's reader answers, and what a caller knows of an answer. Assumes nothing.
 use mathlib.Core.List.{List}
-use mathlib.Core.Path.{_≡_, refl, sym, ap, ap₂, _∙_}
+use mathlib.Core.Path.{_≡_, refl, sym, ap, ap₂, _∙_, subst}
 use Prim.Native.Nat.{ℕ, zero, suc, _+_, _-_, _*_, _/_, _%_, _^_, _≤_, _<_}
 use native.Mathlib.Nat.{add-zero, mod-one, min-le-right}
 use native.Mathlib.Omega.{arith}
@@ -52,3 +52,7 @@ module _ {bytes : List ℕ} {at n : ℕ} {r : D.Bits} (a : Answers bytes at n r)
 
   pub ran-out : r ≡ Out → field n (drop at (bitsOf bytes)) ≡ refused 1
   ran-out e = sym (rw e at (a .is))
+
+-- a field's value in another width
+pub got-as : {bytes : List ℕ} {at n x v next : ℕ} → Got bytes at n x next → v ≡ x → Got bytes at n v next
+got-as {bytes} {at} {n} {next = next} g e = subst (λ (z : ℕ). Got bytes at n z next) (sym e) g

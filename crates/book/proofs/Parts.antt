@@ -17,24 +17,22 @@ use Rattle.paper.specs.Reader.{read-operator, read-rule, read-count, all-zero, 
 use Rattle.paper.specs.Sound.{All}
 use Rattle.paper.proofs.Bits.{all-drop, field-read}
 use Rattle.paper.proofs.Bytes.{bits-below}
-use Rattle.paper.proofs.Books.{read-book-good}
+use Rattle.paper.proofs.Books.{GoodBook, read-book-good}
 use Rattle.paper.proofs.Tests.{eqb-true, eqb-false, ltb-true, ltb-false}
 use Rattle.paper.proofs.Readers.{refused-accepted, bind-return}
 use Rattle.bits.proofs.Reading.{Got, bits-left}
-use Rattle.side.specs.Side.{Table, bitsAt}
-use Rattle.book.specs.Tables.{Operators}
-use Rattle.book.specs.Answer.{OperatorsAt, Tabled, RulesAt, ended, EndsAt, read-tail, TailIs, TailAt, BookIs, BookAt}
+use Rattle.tables.specs.Tables.{accepted-book, book-of, Operators, Rules}
+use Rattle.strategy.proofs.Reading.{bind-refused}
+use Rattle.side.specs.Contracts.{AritiesIn, bitsAt}
+use Rattle.book.specs.Contracts.{OperatorsTaken, Unlinked, RulesTaken, ended, EndsAt, read-tail, TailAt, Linkable, BookAt}
 use Rattle.book.specs.declared.Part.{Part}
+use Rattle.book.specs.declared.Tail.{Tail}
 use Rattle.book.specs.declared.Book as D
-use Rattle.book.proofs.Readers.{bind-refused}
 
--- The arities that the tables hold
+-- The arities that the table holds
 
-table-of : {ops : List Operator} {n : ℕ} {arities laid : List ℕ} → Operators ops n arities laid → Table ops n arities
-table-of t = record { count = t .count; says = λ o l. t .each o l .arity-is }
-
-pub tabled : {bytes : List ℕ} {at n : ℕ} {arities laid : List ℕ} {next : ℕ} → OperatorsAt bytes at n arities laid (Part.Read next) → Tabled n arities
-tabled q = record { operators = q .are .operators; table = table-of (q .are .tables) }
+arities-of : {ops : List Operator} {n : ℕ} {operators : List ℕ} → length ops ≡ n → Operators ops operators → AritiesIn ops n operators
+arities-of count t = record { count = count; says = λ o l. t .each o (omega arith) .arity-is }
 
 -- The end
 
@@ -75,104 +73,122 @@ read-end-is B xs = go (ltb (length xs) 8) (all-zero xs)
 
 -- The rules and the end
 
-abbrev book-of : List Operator → List Rule → P.Book
-book-of ops rules = record { operators = ops; rules = rules }
+abbrev with-rules : List Operator → List Rule → P.Book
+with-rules ops rs = record { operators = ops; rules = rs }
 
-module _ (bytes : List ℕ) (at n : ℕ) (arities lefts rights chain : List ℕ) where
-  pub tail-out : field 8 (bitsAt bytes at) ≡ refused 1 → TailAt bytes at n arities lefts rights chain (D.Book.Refused 1)
+tail-rules : {bytes : List ℕ} {at m p : ℕ} → Got bytes at 8 m p → (ops : List Operator) →
+    read-tail ops (bitsAt bytes at) ≡ (repeat m (read-rule ops) >>= (λ rs. read-end (with-rules ops rs))) (bitsAt bytes p)
+unfolding read-tail
+tail-rules {bytes} {at} {m} {p} g ops = bind-return (field 8) _ (bitsAt bytes at) (bitsAt bytes p) m (g .is)
+
+module _ {bytes : List ℕ} {at n : ℕ} {operators rules : List ℕ} where
+  pub tail-out : field 8 (bitsAt bytes at) ≡ refused 1 → TailAt bytes at n operators rules (Tail.Refused 1)
   unfolding read-tail
   tail-out h = record { is = λ ops t. bind-refused (field 8) _ (bitsAt bytes at) 1 h }
 
-  module _ (m p : ℕ) (g : Got bytes at 8 m p) where
-    tail-rules : (ops : List Operator) → read-tail ops (bitsAt bytes at) ≡ (repeat m (read-rule ops) >>= (λ rules. read-end (book-of ops rules))) (bitsAt bytes p)
-    unfolding read-tail
-    tail-rules ops = bind-return (field 8) _ (bitsAt bytes at) (bitsAt bytes p) m (g .is)
+  module _ {m p : ℕ} (g : Got bytes at 8 m p) where
+    pub tail-refused : {k : ℕ} → RulesTaken bytes p n operators m rules (Part.Refused k) → TailAt bytes at n operators rules (Tail.Refused k)
+    tail-refused {k} q = record { is = λ ops t. tail-rules g ops ∙ bind-refused (repeat m (read-rule ops)) _ (bitsAt bytes p) k (q .are ops t) }
 
-    pub tail-refused : (k : ℕ) → RulesAt bytes p n arities m lefts rights chain (Part.Refused k) →
-        TailAt bytes at n arities lefts rights chain (D.Book.Refused k)
-    tail-refused k q = record { is = λ ops t. tail-rules ops ∙ bind-refused (repeat m (read-rule ops)) _ (bitsAt bytes p) k (q .are ops t) }
-
-    module _ (end : ℕ) (q : RulesAt bytes p n arities m lefts rights chain (Part.Read end)) where
-      tail-end : (ops : List Operator) (t : Table ops n arities) → read-tail ops (bitsAt bytes at) ≡
-          if (ended (bitsAt bytes end)) (return (book-of ops (q .are ops t .rules)) (bitsAt bytes end)) (refuse 9 (bitsAt bytes end))
+    module _ {end : ℕ} (q : RulesTaken bytes p n operators m rules (Part.Read end)) {b : Bool} (e : EndsAt bytes end b) where
+      tail-end : (ops : List Operator) (t : AritiesIn ops n operators) → read-tail ops (bitsAt bytes at) ≡
+          if b (return (with-rules ops (q .are ops t .0)) (bitsAt bytes end)) (refuse 9 (bitsAt bytes end))
       tail-end ops t =
-          tail-rules ops
-          ∙ bind-return (repeat m (read-rule ops)) _ (bitsAt bytes p) (bitsAt bytes end) (q .are ops t .rules) (q .are ops t .are)
-          ∙ read-end-is _ (bitsAt bytes end)
+          tail-rules g ops
+          ∙ bind-return (repeat m (read-rule ops)) _ (bitsAt bytes p) (bitsAt bytes end) (q .are ops t .0) (q .are ops t .1)
+          ∙ read-end-is _ (bitsAt bytes end) ∙ rw (e .is)
 
-      pub tail-ends : (b : Bool) → EndsAt bytes end b → b ≡ true → TailAt bytes at n arities lefts rights chain (D.Book.Read n m)
-      tail-ends b e f = record {
-        is = λ ops t. (
-          refl,
-          record {
-            rules = q .are ops t .rules;
-            left = bitsAt bytes end;
-            is = rw (sym (e .is) ∙ f) at (tail-end ops t);
-            tables = q .are ops t .tables .rules-in;
-          },
-        );
-      }
+      pub tail-ends : b ≡ true → TailAt bytes at n operators rules (Tail.Rules m)
+      tail-ends f = record { is = λ ops t. let (rs, are, (count, u)) = q .are ops t in (rs, bitsAt bytes end, rw f at (tail-end ops t), count, u) }
 
-      pub tail-goes-on : (b : Bool) → EndsAt bytes end b → b ≡ false → TailAt bytes at n arities lefts rights chain (D.Book.Refused 9)
+      pub tail-goes-on : b ≡ false → TailAt bytes at n operators rules (Tail.Refused 9)
       unfolding refuse
-      tail-goes-on b e f = record { is = λ ops t. rw (sym (e .is) ∙ f) at (tail-end ops t) }
+      tail-goes-on f = record { is = λ ops t. rw f at (tail-end ops t) }
 
 -- The whole book
 
 abbrev read-parts : Reader P.Book
 read-parts = read-count >>= (λ n. repeat n read-operator >>= read-tail)
 
-module _ (bytes arities laid lefts rights chain : List ℕ) where
-  book-parts : readBook bytes ≡ then (read-parts (bitsAt bytes 0)) (λ r. accepted (r .value))
-  unfolding readBook read-tail
-  book-parts = refl
+-- the book's answer by its parts'
+abbrev answer-of : Result (Read P.Book) → Result P.Book
+answer-of x = then x (λ r. accepted (r .value))
 
-  refused-by : (k : ℕ) → read-parts (bitsAt bytes 0) ≡ refused k → readBook bytes ≡ refused k
-  unfolding then
-  refused-by k h = book-parts ∙ ap (λ (z : Result (Read P.Book)). then z (λ r. accepted (r .value))) h
+book-parts : (bytes : List ℕ) → readBook bytes ≡ answer-of (read-parts (bitsAt bytes 0))
+unfolding readBook read-tail
+book-parts bytes = refl
 
-  pub count-out : field 8 (bitsAt bytes 0) ≡ refused 1 → BookAt bytes arities laid lefts rights chain (D.Book.Refused 1)
+refused-by : {bytes operators rules : List ℕ} {k : ℕ} → read-parts (bitsAt bytes 0) ≡ refused k → BookAt bytes operators rules (D.Book.Refused k)
+unfolding then
+refused-by {bytes} h = record { is = book-parts bytes ∙ ap answer-of h }
+
+pub count-out : {bytes operators rules : List ℕ} → field 8 (bitsAt bytes 0) ≡ refused 1 → BookAt bytes operators rules (D.Book.Refused 1)
+unfolding read-count
+count-out {bytes} h = refused-by (bind-refused read-count _ (bitsAt bytes 0) 1 (bind-refused (field 8) _ (bitsAt bytes 0) 1 h))
+
+module _ {bytes : List ℕ} {n p : ℕ} (g : Got bytes 0 8 n p) where
+  count-is : read-count (bitsAt bytes 0) ≡ if (eqb n 0) (refuse 2) (return n) (bitsAt bytes p)
   unfolding read-count
-  count-out h = record { is = refused-by 1 (bind-refused read-count _ (bitsAt bytes 0) 1 (bind-refused (field 8) _ (bitsAt bytes 0) 1 h)) }
+  count-is = bind-return (field 8) _ (bitsAt bytes 0) (bitsAt bytes p) n (g .is)
 
-  module _ (n p : ℕ) (g : Got bytes 0 8 n p) where
-    count-is : read-count (bitsAt bytes 0) ≡ if (eqb n 0) (refuse 2) (return n) (bitsAt bytes p)
-    unfolding read-count
-    count-is = bind-return (field 8) _ (bitsAt bytes 0) (bitsAt bytes p) n (g .is)
+  pub count-zero : {operators rules : List ℕ} → n ≡ 0 → BookAt bytes operators rules (D.Book.Refused 2)
+  unfolding refuse
+  count-zero e = refused-by (bind-refused read-count _ (bitsAt bytes 0) 2 (count-is ∙ rw (eqb-true n 0 e)))
 
-    pub count-zero : n ≡ 0 → BookAt bytes arities laid lefts rights chain (D.Book.Refused 2)
-    unfolding refuse
-    count-zero e = record { is = refused-by 2 (bind-refused read-count _ (bitsAt bytes 0) 2 (count-is ∙ rw (eqb-true n 0 e))) }
+  module _ (some : n ≡ 0 → ⊥) where
+    book-operators : read-parts (bitsAt bytes 0) ≡ (repeat n read-operator >>= read-tail) (bitsAt bytes p)
+    book-operators = bind-return read-count _ (bitsAt bytes 0) (bitsAt bytes p) n (count-is ∙ rw (eqb-false n 0 some))
 
-    module _ (some : n ≡ 0 → ⊥) where
-      book-operators : read-parts (bitsAt bytes 0) ≡ (repeat n read-operator >>= read-tail) (bitsAt bytes p)
-      book-operators = bind-return read-count _ (bitsAt bytes 0) (bitsAt bytes p) n (count-is ∙ rw (eqb-false n 0 some))
+    pub operators-refused : {operators rules : List ℕ} {k : ℕ} → OperatorsTaken bytes p n operators (Part.Refused k) →
+        BookAt bytes operators rules (D.Book.Refused k)
+    operators-refused {k = k} q = refused-by (book-operators ∙ bind-refused (repeat n read-operator) read-tail (bitsAt bytes p) k (q .are))
 
-      pub operators-refused : (k : ℕ) → OperatorsAt bytes p n arities laid (Part.Refused k) → BookAt bytes arities laid lefts rights chain (D.Book.Refused k)
-      operators-refused k q = record { is = refused-by k (book-operators ∙ bind-refused (repeat n read-operator) read-tail (bitsAt bytes p) k (q .are)) }
+    module _ {operators : List ℕ} {next : ℕ} (q : OperatorsTaken bytes p n operators (Part.Read next)) where
+      abbrev ops : List Operator
+      ops = q .are .0
 
-      pub book-is : (next : ℕ) (r : D.Book) → OperatorsAt bytes p n arities laid (Part.Read next) → TailAt bytes next n arities lefts rights chain r →
-          BookAt bytes arities laid lefts rights chain r
-      unfolding then return
-      book-is next r q t = record { is = go r (t .is (q .are .operators) (table-of (q .are .tables))) }
-        where
-          ops : List Operator
-          ops = q .are .operators
+      book-tail : read-parts (bitsAt bytes 0) ≡ read-tail ops (bitsAt bytes next)
+      book-tail = book-operators ∙ bind-return (repeat n read-operator) read-tail (bitsAt bytes p) (bitsAt bytes next) ops (q .are .1)
 
-          tail : read-parts (bitsAt bytes 0) ≡ read-tail ops (bitsAt bytes next)
-          tail = book-operators ∙ bind-return (repeat n read-operator) read-tail (bitsAt bytes p) (bitsAt bytes next) ops (q .are .are)
+      arities : AritiesIn ops n operators
+      arities = arities-of (q .are .2 .0) (q .are .2 .1)
 
-          go : (r : D.Book) → TailIs ops bytes next n lefts rights chain r → BookIs bytes arities laid lefts rights chain r
-          go (D.Book.Refused k) e = refused-by k (tail ∙ e)
-          go (D.Book.Read n′ m) (e, x) =
-              let B : P.Book = book-of ops (x .rules) in
-              let a : readBook bytes ≡ accepted B = book-parts ∙ ap (λ (z : Result (Read P.Book)). then z (λ r. accepted (r .value))) (tail ∙ x .is) in
-              record {
-                book = B;
-                is = a;
-                tables = record {
-                  operators = subst (λ (i : ℕ). Operators ops i arities laid) (sym e) (q .are .tables);
-                  rules = x .tables;
-                  good = read-book-good bytes B a;
-                };
-              }
+      pub tail-refuses : {k : ℕ} {rules : List ℕ} → TailAt bytes next n operators rules (Tail.Refused k) → BookAt bytes operators rules (D.Book.Refused k)
+      tail-refuses t = refused-by (book-tail ∙ t .is ops arities)
+
+      -- the book is accepted: it is the one that the bytes are
+      module _ {m : ℕ} {rules : List ℕ} (t : TailAt bytes next n operators rules (Tail.Rules m)) where
+        abbrev B : P.Book
+        B = with-rules ops (t .is ops arities .0)
+
+        accepts : readBook bytes ≡ accepted B
+        unfolding then return
+        accepts = book-parts bytes ∙ ap answer-of (book-tail ∙ t .is ops arities .2)
+
+        same : B ≡ book-of bytes
+        same = sym (ap accepted-book accepts)
+
+        good : GoodBook (book-of bytes)
+        good = subst GoodBook same (read-book-good bytes B accepts)
+
+        pub linkable : Linkable bytes m rules
+        linkable = record {
+          count = subst (λ (C : P.Book). length (C .rules) ≡ m) same (t .is ops arities .3);
+          unlinked = subst (λ (C : P.Book). Unlinked bytes (C .rules) rules) same (t .is ops arities .4);
+          good = good;
+        }
+
+        pub book-is : {rules′ : List ℕ} → Rules bytes (book-of bytes .rules) rules′ → BookAt bytes operators rules′ (D.Book.Read n)
+        book-is h = record {
+          is = (
+            record {
+              read = accepts ∙ ap accepted same;
+              tables = record {
+                operators-in = subst (λ (C : P.Book). Operators (C .operators) operators) same (q .are .2 .1);
+                rules-in = h;
+                good = good;
+              };
+            },
+            subst (λ (C : P.Book). n ≡ length (C .operators)) same (sym (q .are .2 .0)),
+          );
+        }

@@ -1,17 +1,12 @@
--- Laws of readers: sequences, repeated reading from its end (what n readings answered, and one more), and fields kept in another width.
--- Assumes nothing.
+-- Laws of readers: sequences, and repeated reading from its end (what n readings answered, and one more). Assumes nothing.
 use mathlib.Core.List.{List, [], _∷_, _++_}
-use mathlib.Core.Path.{_≡_, refl, sym, ap, _∙_, subst}
+use mathlib.Core.Path.{_≡_, refl, sym, ap, _∙_}
 use Prim.Native.Nat.{ℕ, zero, suc, _+_, _-_, _<_}
 use native.Mathlib.Nat.{zero-add, suc-add}
 use native.Mathlib.Omega.{arith}
 use Rattle.paper.specs.Result.{Result, refused, accepted, Read, Reader, return, then, _>>=_, repeat}
-use Rattle.bits.proofs.Reading.{Got}
+use Rattle.strategy.proofs.Reading.{bind-refused, prepend, prepend-none}
 use Rattle.paper.proofs.Readers.{return-accepted, bind-accepted, bind-return}
-
-pub bind-refused : {A B : Type 0} (p : Reader A) (k : A → Reader B) (xs : List ℕ) (e : ℕ) → p xs ≡ refused e → (p >>= k) xs ≡ refused e
-unfolding _>>=_
-bind-refused p k xs e h = ap (λ (x : Result (Read _)). then x (λ r. k (r .value) (r .left))) h
 
 pub bind-assoc : {A B C : Type 0} (p : Reader A) (f : A → Reader B) (g : B → Reader C) (xs : List ℕ) → ((p >>= f) >>= g) xs ≡ (p >>= (λ a. f a >>= g)) xs
 unfolding _>>=_ then
@@ -22,55 +17,41 @@ bind-assoc p f g xs = go (p xs)
     go (refused k) = refl
     go (accepted r) = refl
 
--- a field's value in another width
-pub got-as : {bytes : List ℕ} {at n x v next : ℕ} → Got bytes at n x next → v ≡ x → Got bytes at n v next
-got-as {bytes} {at} {n} {next = next} g e = subst (λ (z : ℕ). Got bytes at n z next) (sym e) g
-
 module _ {A : Type 0} where
-  -- an answer with some values before its own
-  unfoldable pub before : List A → Result (Read (List A)) → Result (Read (List A))
-  before as′ (refused e) = refused e
-  before as′ (accepted r) = accepted (record { value = as′ ++ r .value; left = r .left })
-
-  before-none : (x : Result (Read (List A))) → before [] x ≡ x
-  unfolding before
-  before-none (refused e) = refl
-  before-none (accepted r) = refl
-
-  before-one : (a : A) (as′ : List A) (x : Result (Read (List A))) →
-      then (before as′ x) (λ r. return (a ∷ r .value) (r .left)) ≡ before (a ∷ as′) x
-  unfolding before then return
-  before-one a as′ (refused e) = refl
-  before-one a as′ (accepted r) = refl
+  prepend-one : (a : A) (as′ : List A) (x : Result (Read (List A))) →
+      then (prepend as′ x) (λ r. return (a ∷ r .value) (r .left)) ≡ prepend (a ∷ as′) x
+  unfolding then return
+  prepend-one a as′ (refused e) = refl
+  prepend-one a as′ (accepted r) = refl
 
   module _ (p : Reader A) where
     -- k readings behind n
-    pub repeat-more : (n k : ℕ) (xs : List ℕ) (r : Read (List A)) → repeat n p xs ≡ accepted r → repeat (n + k) p xs ≡ before (r .value) (repeat k p (r .left))
+    pub repeat-more : (n k : ℕ) (xs : List ℕ) (r : Read (List A)) → repeat n p xs ≡ accepted r → repeat (n + k) p xs ≡ prepend (r .value) (repeat k p (r .left))
     unfolding repeat
     repeat-more zero k xs r e =
         ap (λ (i : ℕ). repeat i p xs) (zero-add k)
-        ∙ return-accepted [] xs r (λ z. repeat k p xs ≡ before (z .value) (repeat k p (z .left))) e (sym (before-none (repeat k p xs)))
+        ∙ return-accepted [] xs r (λ z. repeat k p xs ≡ prepend (z .value) (repeat k p (z .left))) e (sym (prepend-none (repeat k p xs)))
     repeat-more (suc n) k xs r e =
         let (a, q, e₁) = bind-accepted p (λ a. repeat n p >>= (λ as′. return (a ∷ as′))) xs r e in
         let (b, s, e₂) = bind-accepted (repeat n p) (λ as′. return (a .value ∷ as′)) (a .left) r e₁ in
-        return-accepted (a .value ∷ b .value) (b .left) r (λ z. repeat (suc n + k) p xs ≡ before (z .value) (repeat k p (z .left))) e₂
+        return-accepted (a .value ∷ b .value) (b .left) r (λ z. repeat (suc n + k) p xs ≡ prepend (z .value) (repeat k p (z .left))) e₂
         (ap (λ (i : ℕ). repeat i p xs) (suc-add n k)
         ∙ bind-return p (λ a. repeat (n + k) p >>= (λ as′. return (a ∷ as′))) xs (a .left) (a .value) q
         ∙ ap (λ (x : Result (Read (List A))). then x (λ z. return (a .value ∷ z .value) (z .left))) (repeat-more n k (a .left) b s)
-        ∙ before-one (a .value) (b .value) (repeat k p (b .left)))
+        ∙ prepend-one (a .value) (b .value) (repeat k p (b .left)))
 
     module _ (n : ℕ) (xs ys : List ℕ) (as′ : List A) (e : repeat n p xs ≡ return as′ ys) where
       -- one more that is read, and one that is refused
       pub repeat-next : (a : A) (zs : List ℕ) → p ys ≡ return a zs → repeat (n + 1) p xs ≡ return (as′ ++ (a ∷ [])) zs
-      unfolding before return repeat
+      unfolding return repeat
       repeat-next a zs h =
           repeat-more n 1 xs (record { value = as′; left = ys }) e
-          ∙ ap (before as′) (bind-return p (λ a. repeat 0 p >>= (λ as′. return (a ∷ as′))) ys zs a h)
+          ∙ ap (prepend as′) (bind-return p (λ a. repeat 0 p >>= (λ as′. return (a ∷ as′))) ys zs a h)
 
       pub repeat-stops : (m k : ℕ) → n < m → p ys ≡ refused k → repeat m p xs ≡ refused k
-      unfolding before return repeat
+      unfolding return repeat
       repeat-stops m k l h =
           let f : m ≡ n + suc (m - n - 1) = omega arith in
           ap (λ (i : ℕ). repeat i p xs) f
           ∙ repeat-more n (suc (m - n - 1)) xs (record { value = as′; left = ys }) e
-          ∙ ap (before as′) (bind-refused p (λ a. repeat (m - n - 1) p >>= (λ as′. return (a ∷ as′))) ys k h)
+          ∙ ap (prepend as′) (bind-refused p (λ a. repeat (m - n - 1) p >>= (λ as′. return (a ∷ as′))) ys k h)

@@ -9,29 +9,31 @@ ghost use mathlib.Core.Path.{_≡_};
 ghost use Prim.Native.Nat.{_<_, _≤_};
 ghost use lib.ListN.{length};
 
+// How many rules the table holds: each has its left side behind the first bit.
+fn count_rules(rules: &[u32; 1024]) -> usize {
+    let mut m = 0;
+    while m < 256 {
+        if tables::left_side(rules, m) == 0 {
+            return m;
+        }
+        m += 1;
+    }
+    m
+}
+
 // What the reader answers.
 fn try_reader(bytes: &[u8])
     requires { ⌜ length (now bytes) ≤ 65536 ⌝ }
 {
-    let mut arities = [0u8; 256];
-    let mut laid = [0u8; 4096];
-    let mut lefts = [0u32; 256];
-    let mut rights = [0u32; 256];
-    let mut chain = [0u8; 768];
-    match book::read_book(
-        bytes,
-        &mut arities,
-        &mut laid,
-        &mut lefts,
-        &mut rights,
-        &mut chain,
-    ) {
+    let mut operators = [0u8; 4352];
+    let mut rules = [0u32; 1024];
+    match book::read_book(bytes, &mut operators, &mut rules) {
         Book::Refused(k) => say_refused(k),
-        Book::Read(n, m) => {
+        Book::Read(n) => {
             say(b"read ");
             say_number(n);
             say(b" ");
-            say_number(m);
+            say_number(count_rules(&rules));
         }
     }
 }

@@ -1,4 +1,4 @@
--- Laws of the paper's reader: from bits below 2, a field, a symbol, a side and a rule are read off exactly their written form. Assumes nothing.
+-- Laws of the paper's reader: from bits below 2, a field, a symbol and a side are read off exactly their written form. Assumes nothing.
 use mathlib.Core.List.{List, _++_, append-assoc}
 use mathlib.Core.Logic.{inl, inr}
 use mathlib.Core.Path.{_≡_, refl, sym, ap, _∙_, subst}
@@ -7,23 +7,19 @@ use native.Mathlib.Omega.{arith}
 use lib.ListN.{length, take, drop, take-append-drop}
 use Rattle.paper.specs.Result.{accepted, Read, Reader}
 use Rattle.paper.specs.Bits.{toBits, value, field}
-use Rattle.paper.specs.Tree.{preorder, preorders, trees}
-use Rattle.paper.specs.Book.{Operator, Symbol, Side, Rule, symbolArity}
-use Rattle.paper.specs.Reader.{read-symbol, read-symbols, read-side, left-root, left-symbol, right-symbol, variables, read-rule}
-use Rattle.paper.specs.Writer.{concat, write-symbol, write-side, write-rule}
-use Rattle.paper.specs.Sound.{All}
+use Rattle.paper.specs.Tree.{preorders, trees}
+use Rattle.paper.specs.Book.{Operator, Symbol, Side, symbolArity}
+use Rattle.paper.specs.Reader.{read-symbol, read-symbols, read-side, left-root, left-symbol, right-symbol}
+use Rattle.paper.specs.Writer.{concat, write-symbol, write-side}
 use Rattle.paper.specs.Strategy.{has}
 use Rattle.paper.proofs.Bits.{field-read, field-bounded, all-take}
 use Rattle.paper.proofs.Bytes.{toBits-value}
 use Rattle.paper.proofs.Tests.{eqb-cases, ltb-cases, either}
 use Rattle.paper.proofs.Trees.{preorders-trees}
-use Rattle.paper.proofs.Rules.{Ensures, refusal, answer, ensured, ensures-at, then-ensures}
-
-abbrev Bits : List ℕ → Type 0
-Bits xs = All (λ x. x < 2) xs
+use Rattle.paper.proofs.Rules.{Bits, Ensures, refusal, answer, ensured, ensures-at, then-ensures}
 
 -- the answer is read off its written form
-abbrev pub Off : {A : Type 0} → (A → List ℕ) → List ℕ → Read A → Type 0
+abbrev Off : {A : Type 0} → (A → List ℕ) → List ℕ → Read A → Type 0
 Off write xs r = (xs ≡ write (r .value) ++ r .left) × Bits (r .left)
 
 field-off : (n : ℕ) (xs : List ℕ) → Bits xs → Ensures (λ r. (r .value < 2 ^ n) × Off (toBits n) xs r) (field n xs)
@@ -53,10 +49,10 @@ symbol-off ops xs h = then-ensures _ (field-off 1 xs h) λ (k : Read ℕ) b. eli
 ]
 
 -- a check reads nothing
-abbrev pub Still : (Symbol → Reader (List ℕ)) → Type 0
-Still check = (s : Symbol) (xs : List ℕ) → Ensures (λ r. r .left ≡ xs) (check s xs)
+abbrev ReadsNothing : (Symbol → Reader (List ℕ)) → Type 0
+ReadsNothing check = (s : Symbol) (xs : List ℕ) → Ensures (λ r. r .left ≡ xs) (check s xs)
 
-module _ (ops : List Operator) (meet : List ℕ → Symbol → Reader (List ℕ)) (met : (vs : List ℕ) → Still (meet vs)) where
+module _ (ops : List Operator) (meet : List ℕ → Symbol → Reader (List ℕ)) (met : (vs : List ℕ) → ReadsNothing (meet vs)) where
   symbols-off : (n due : ℕ) (vs xs : List ℕ) → Bits xs → Ensures (Off (concat write-symbol) xs) (read-symbols ops meet n due vs xs)
   unfolding read-symbols concat
   symbols-off zero zero vs xs h = answer (refl, h)
@@ -69,7 +65,7 @@ module _ (ops : List Operator) (meet : List ℕ → Symbol → Reader (List ℕ)
       λ (ss : Read (List Symbol)) g.
       answer (joined xs (write-symbol (s .value)) (s .left) (concat write-symbol (ss .value)) (ss .left) (f .0) (sym c ∙ g .0), g .1)
 
-  side-off : (start : Symbol → Reader (List ℕ)) → Still start → (xs : List ℕ) → Bits xs → Ensures (Off write-side xs) (read-side ops start meet xs)
+  side-off : (start : Symbol → Reader (List ℕ)) → ReadsNothing start → (xs : List ℕ) → Bits xs → Ensures (Off write-side xs) (read-side ops start meet xs)
   unfolding read-side write-side
   side-off start started xs h =
       then-ensures _ (symbol-off ops xs h) λ (s : Read Symbol) f.
@@ -83,17 +79,17 @@ module _ (ops : List Operator) (meet : List ℕ → Symbol → Reader (List ℕ)
         g .1,
       )
 
-root-still : Still left-root
+root-still : ReadsNothing left-root
 unfolding left-root
 root-still (Symbol.operator o) xs = answer refl
 root-still (Symbol.variable v) xs = refusal
 
-left-still : (vs : List ℕ) → Still (left-symbol vs)
+left-still : (vs : List ℕ) → ReadsNothing (left-symbol vs)
 unfolding left-symbol
 left-still vs (Symbol.operator o) xs = answer refl
 left-still vs (Symbol.variable v) xs = elim (either (has v vs)) [ inl e ↦ rw e refusal | inr e ↦ rw e (answer refl) ]
 
-right-still : (vs : List ℕ) → Still (right-symbol vs)
+right-still : (vs : List ℕ) → ReadsNothing (right-symbol vs)
 unfolding right-symbol
 right-still vs (Symbol.operator o) xs = answer refl
 right-still vs (Symbol.variable v) xs = elim (either (has v vs)) [ inl e ↦ rw e (answer refl) | inr e ↦ rw e refusal ]
@@ -105,20 +101,8 @@ module _ (ops : List Operator) (xs : List ℕ) (h : Bits xs) where
   right-off : (vs : List ℕ) → Ensures (Off write-side xs) (read-side ops (right-symbol vs) right-symbol xs)
   right-off vs = side-off ops right-symbol right-still (right-symbol vs) (right-still vs) xs h
 
-  pub symbol-consumed : (r : Read Symbol) → read-symbol ops xs ≡ accepted r → Off write-symbol xs r
-  symbol-consumed r e = ensures-at (symbol-off ops xs h) e
-
   pub left-consumed : (r : Read Side) → read-side ops left-root left-symbol xs ≡ accepted r → Off write-side xs r
   left-consumed r e = ensures-at left-off e
 
   pub right-consumed : (vs : List ℕ) (r : Read Side) → read-side ops (right-symbol vs) right-symbol xs ≡ accepted r → Off write-side xs r
   right-consumed vs r e = ensures-at (right-off vs) e
-
-pub rule-consumed : (ops : List Operator) (xs : List ℕ) → Bits xs → (r : Read Rule) → read-rule ops xs ≡ accepted r → Off write-rule xs r
-unfolding read-rule write-rule
-rule-consumed ops xs h r e =
-    ensures-at {P = Off write-rule xs}
-    (then-ensures _ (left-off ops xs h) λ (l : Read Side) f.
-    then-ensures _ (right-off ops (l .left) (f .1) (variables (preorder (l .value)))) λ (t : Read Side) g.
-    answer (joined xs (write-side (l .value)) (l .left) (write-side (t .value)) (t .left) (f .0) (g .0), g .1))
-    e

@@ -5,10 +5,10 @@ use mathlib.Core.Path.{_≡_, refl, sym, ap, _∙_}
 use Prim.Native.Nat.{ℕ, zero, suc, _+_, _-_, _<_}
 use native.Mathlib.Nat.{add-zero}
 use native.Mathlib.Omega.{arith}
-use lib.ListN.{getD}
+use Rattle.tables.specs.Layout.{arity-in}
 use Rattle.paper.specs.Result.{Result, refused, accepted, Read, Reader, if, return, then}
 use Rattle.paper.specs.Bits.{bitsOf}
-use Rattle.paper.specs.Tree.{node, nil, label, preorder, trees}
+use Rattle.paper.specs.Tree.{node, nil, preorder, trees}
 use Rattle.paper.specs.Strategy.{has}
 use Rattle.paper.specs.Book as B
 use Rattle.paper.specs.Book.{Operator, Side, symbolArity}
@@ -18,11 +18,12 @@ use Rattle.paper.proofs.Bits.{all-drop}
 use Rattle.paper.proofs.Bytes.{bits-below}
 use Rattle.paper.proofs.Rules.{then-is}
 use Rattle.paper.proofs.Trees.{preorders-trees}
-use Rattle.side.specs.Side.{bitsAt, SymbolAt, check, StepAt, RestAt, LeftAt, RightAt, RuleAt}
+use Rattle.side.specs.Contracts.{bitsAt, SymbolAt, check, StepAt, RestAt, LeftSideAt, RightSideAt, RuleAt}
 use Rattle.side.specs.declared.Symbol as Sy
-use Rattle.side.specs.declared.Step as St
-use Rattle.side.specs.declared.Rest as Re
-use Rattle.side.specs.declared.Left as Le
+use Rattle.side.specs.declared.Taking as Ta
+use Rattle.side.specs.declared.Taken.{Taken}
+use Rattle.side.specs.declared.SideEnd.{SideEnd}
+use Rattle.side.specs.declared.Side as Si
 use Rattle.side.specs.declared.Rule as Ru
 use Rattle.side.proofs.Consumed.{left-consumed, right-consumed}
 use Rattle.side.proofs.Mask.{masks-none, has-append}
@@ -60,9 +61,9 @@ has-behind v s ss vs on e =
     ∙ or-swap (has v (variable-of s)) (has v (variables ss)) (has v vs)
     ∙ sym (has-append v (variables ss) on ∙ ap (λ (x : Bool). if (has v (variables ss)) true x) (e ∙ has-append v (variable-of s) vs))
 
-module _ (bytes : List ℕ) (at n : ℕ) (arities : List ℕ) (mask : ℕ) (left : Bool) where
+module _ (bytes : List ℕ) (at n : ℕ) (operators : List ℕ) (mask : ℕ) (left : Bool) where
   -- no term is due
-  pub rest-done : (due room : ℕ) → due ≡ 0 → RestAt bytes at n arities mask left due room (Re.Rest.Read mask at)
+  pub rest-done : (due room : ℕ) → due ≡ 0 → RestAt bytes at n operators mask left due room (Si.Side.Read (record { met = mask; next = at }))
   unfolding read-symbols variables return
   rest-done due room z = record { is = λ ops t vs h. ([], rw z (go ops room vs), h) }
     where
@@ -71,77 +72,72 @@ module _ (bytes : List ℕ) (at n : ℕ) (arities : List ℕ) (mask : ℕ) (left
       go ops (suc room) vs = refl
 
   -- terms are due, and no symbol may follow
-  pub rest-full : (due room : ℕ) → (due ≡ 0 → ⊥) → room ≡ 0 → RestAt bytes at n arities mask left due room (Re.Rest.Refused 8)
+  pub rest-full : (due room : ℕ) → (due ≡ 0 → ⊥) → room ≡ 0 → RestAt bytes at n operators mask left due room (Si.Side.Refused 8)
   unfolding read-symbols
   rest-full zero room d z = absurd (d refl)
   rest-full (suc due) room d z = record { is = λ ops t vs h. rw z }
 
   -- a symbol is refused
-  pub rest-refused : (due room k : ℕ) → (due ≡ 0 → ⊥) → 0 < room → StepAt bytes at n arities mask left (St.Step.Refused k) →
-      RestAt bytes at n arities mask left due room (Re.Rest.Refused k)
+  pub rest-refused : (due room k : ℕ) → (due ≡ 0 → ⊥) → 0 < room → StepAt bytes at n operators mask left (Ta.Taking.Refused k) →
+      RestAt bytes at n operators mask left due room (Si.Side.Refused k)
   unfolding read-symbols
   rest-refused zero room k d l s = absurd (d refl)
   rest-refused (suc due) zero k d l s = absurd (omega arith)
   rest-refused (suc due) (suc room) k d l s = record { is = λ ops t vs h. refused-on (read-symbol ops (bitsAt bytes at)) _ _ k (s .is ops t vs h) }
 
-  turn-taken : (due room a m next due′ : ℕ) (r : Re.Rest) → StepAt bytes at n arities mask left (St.Step.Took a m next) → due′ ≡ due + a →
-      RestAt bytes next n arities m left due′ room r → RestAt bytes at n arities mask left (suc due) (suc room) r
+  turn-taken : (due room due′ : ℕ) (y : Taken) (r : Si.Side) → StepAt bytes at n operators mask left (Ta.Taking.Took y) → due′ ≡ due + y .arity →
+      RestAt bytes (y .next) n operators (y .met) left due′ room r → RestAt bytes at n operators mask left (suc due) (suc room) r
   unfolding return then
-  turn-taken due room a m next due′ (Re.Rest.Refused k) s e q = record {
+  turn-taken due room due′ y (Si.Side.Refused k) s e q = record {
     is = λ ops t vs h.
-        let (y, p, g, w) = s .is ops t vs h in
-        turn ops (check left) vs _ _ y (w .on) room due due′ p (w .is _) (omega arith) ∙ then-refused _ _ k (q .is ops t (w .on) (w .masks));
+        let (x, p, g, w) = s .is ops t vs h in
+        turn ops (check left) vs _ _ x (w .on) room due due′ p (w .is _) (omega arith) ∙ then-refused _ _ k (q .is ops t (w .on) (w .masks));
   }
-  turn-taken due room a m next due′ (Re.Rest.Read m′ next′) s e q = record {
+  turn-taken due room due′ y (Si.Side.Read z) s e q = record {
     is = λ ops t vs h.
-        let (y, p, g, w) = s .is ops t vs h in
+        let (x, p, g, w) = s .is ops t vs h in
         let (ss, i, k) = q .is ops t (w .on) (w .masks) in (
-          y ∷ ss,
-          turn ops (check left) vs _ _ y (w .on) room due due′ p (w .is _) (omega arith) ∙ then-is _ _ _ _ i refl,
-          λ v. has-behind v y ss vs (w .on) (w .same v) ∙ k v,
+          x ∷ ss,
+          turn ops (check left) vs _ _ x (w .on) room due due′ p (w .is _) (omega arith) ∙ then-is _ _ _ _ i refl,
+          λ v. has-behind v x ss vs (w .on) (w .same v) ∙ k v,
         );
   }
 
   -- a symbol is taken: what answers for those behind it answers for all
-  pub rest-took : (due room a m next due′ room′ : ℕ) (r : Re.Rest) → (due ≡ 0 → ⊥) → 0 < room →
-      StepAt bytes at n arities mask left (St.Step.Took a m next) → due′ ≡ due - 1 + a → room′ ≡ room - 1 →
-      RestAt bytes next n arities m left due′ room′ r → RestAt bytes at n arities mask left due room r
-  rest-took zero room a m next due′ room′ r d l s e f q = absurd (d refl)
-  rest-took (suc due) zero a m next due′ room′ r d l s e f q = absurd (omega arith)
-  rest-took (suc due) (suc room) a m next due′ room′ r d l s e f q =
+  pub rest-took : (due room due′ room′ : ℕ) (y : Taken) (r : Si.Side) → (due ≡ 0 → ⊥) → 0 < room →
+      StepAt bytes at n operators mask left (Ta.Taking.Took y) → due′ ≡ due - 1 + y .arity → room′ ≡ room - 1 →
+      RestAt bytes (y .next) n operators (y .met) left due′ room′ r → RestAt bytes at n operators mask left due room r
+  rest-took zero room due′ room′ y r d l s e f q = absurd (d refl)
+  rest-took (suc due) zero due′ room′ y r d l s e f q = absurd (omega arith)
+  rest-took (suc due) (suc room) due′ room′ y r d l s e f q =
       let g : room′ ≡ room = omega arith in
-      turn-taken due room a m next due′ r s (omega arith) (rw g at q)
+      turn-taken due room due′ y r s (omega arith) (rw g at q)
 
 -- Left sides
 
-module _ (bytes : List ℕ) (at n : ℕ) (arities : List ℕ) where
-  pub left-refused : (k : ℕ) → SymbolAt bytes at n (Sy.Symbol.Refused k) → LeftAt bytes at n arities (Le.Left.Refused k)
+module _ (bytes : List ℕ) (at n : ℕ) (operators : List ℕ) where
+  pub left-refused : (k : ℕ) → SymbolAt bytes at n (Sy.Symbol.Refused k) → LeftSideAt bytes at n operators (Si.Side.Refused k)
   unfolding read-side
   left-refused k s = record { is = λ ops t. then-refused _ _ k (sym (s .is ops (t .count))) }
 
-  pub left-variable : (v next : ℕ) → SymbolAt bytes at n (Sy.Symbol.Variable v next) → LeftAt bytes at n arities (Le.Left.Refused 5)
+  pub left-variable : (v next : ℕ) → SymbolAt bytes at n (Sy.Symbol.Variable v next) → LeftSideAt bytes at n operators (Si.Side.Refused 5)
   unfolding read-side left-root
   left-variable v next s = record { is = λ ops t. then-is _ _ _ _ (sym (s .is ops (t .count))) refl }
 
-  module _ (o p a : ℕ) (s : SymbolAt bytes at n (Sy.Symbol.Operator o p)) (e : a ≡ getD arities o 0) where
-    pub left-rest-refused : (k : ℕ) → RestAt bytes p n arities 0 true a 63 (Re.Rest.Refused k) → LeftAt bytes at n arities (Le.Left.Refused k)
-    unfolding read-side left-root
-    left-rest-refused k q = record {
+  module _ (o p a : ℕ) (s : SymbolAt bytes at n (Sy.Symbol.Operator o p)) (e : a ≡ arity-in operators o) where
+    pub left-rest : (r : Si.Side) → RestAt bytes p n operators 0 true a 63 r → LeftSideAt bytes at n operators r
+    unfolding read-side left-root return preorder variables
+    left-rest (Si.Side.Refused k) q = record {
       is = λ ops t.
           then-is _ _ _ _ (sym (s .is ops (t .count))) (then-refused _ _ k (rw (e ∙ t .says o (s .small)) at (q .is ops t [] masks-none)));
     }
-
-    pub left-rest-read : (m next : ℕ) → RestAt bytes p n arities 0 true a 63 (Re.Rest.Read m next) → LeftAt bytes at n arities (Le.Left.Read o m next)
-    unfolding read-side left-root return label preorder variables
-    left-rest-read m next q = record {
+    left-rest (Si.Side.Read z) q = record {
       is = λ ops t.
-          let (ss, i, k) = q .is ops t [] masks-none in
-          record {
-            side = node (B.Symbol.operator o) (trees (symbolArity ops) ss);
-            is = then-is _ _ _ _ (sym (s .is ops (t .count))) (then-is _ _ _ _ (rw (e ∙ t .says o (s .small)) at i) refl);
-            root-is = refl;
-            masks = rw (preorders-trees (symbolArity ops) ss) (rw append-nil at k);
-          };
+          let (ss, i, k) = q .is ops t [] masks-none in (
+            node (B.Symbol.operator o) (trees (symbolArity ops) ss),
+            then-is _ _ _ _ (sym (s .is ops (t .count))) (then-is _ _ _ _ (rw (e ∙ t .says o (s .small)) at i) refl),
+            rw (preorders-trees (symbolArity ops) ss) (rw append-nil at k),
+          );
     }
 
 -- Right sides
@@ -168,11 +164,11 @@ side-symbols ops meet vs xs =
     rw (add-zero (symbolArity ops (s .value)))
     (then-map (read-symbols ops meet 63 (symbolArity ops (s .value)) (ws .value) (ws .left)) _ _ _ λ (ss : Read (List B.Symbol)). refl)
 
-module _ (bytes : List ℕ) (at n : ℕ) (arities : List ℕ) (mask : ℕ) where
-  pub right-is : (r : Re.Rest) → RestAt bytes at n arities mask false 1 64 r → RightAt bytes at n arities mask r
+module _ (bytes : List ℕ) (at n : ℕ) (operators : List ℕ) (mask : ℕ) where
+  pub right-is : (r : Si.Side) → RestAt bytes at n operators mask false 1 64 r → RightSideAt bytes at n operators mask r
   unfolding return
-  right-is (Re.Rest.Refused k) q = record { is = λ ops t vs h. side-symbols ops right-symbol vs (bitsAt bytes at) ∙ then-refused _ _ k (q .is ops t vs h) }
-  right-is (Re.Rest.Read m next) q = record {
+  right-is (Si.Side.Refused k) q = record { is = λ ops t vs h. side-symbols ops right-symbol vs (bitsAt bytes at) ∙ then-refused _ _ k (q .is ops t vs h) }
+  right-is (Si.Side.Read z) q = record {
     is = λ ops t vs h.
         let (ss, i, k) = q .is ops t vs h in
         (side-of ops ss, side-symbols ops right-symbol vs (bitsAt bytes at) ∙ then-is _ _ _ _ i refl);
@@ -180,32 +176,32 @@ module _ (bytes : List ℕ) (at n : ℕ) (arities : List ℕ) (mask : ℕ) where
 
 -- Rules
 
-module _ (bytes : List ℕ) (at n : ℕ) (arities : List ℕ) where
-  pub rule-left-refused : (k : ℕ) → LeftAt bytes at n arities (Le.Left.Refused k) → RuleAt bytes at n arities (Ru.Rule.Refused k)
+module _ (bytes : List ℕ) (at n : ℕ) (operators : List ℕ) where
+  pub rule-left-refused : (k : ℕ) → LeftSideAt bytes at n operators (Si.Side.Refused k) → RuleAt bytes at n operators (Ru.Rule.Refused k)
   unfolding read-rule
   rule-left-refused k l = record { is = λ ops t. then-refused _ _ k (l .is ops t) }
 
-  module _ (root m right : ℕ) (l : LeftAt bytes at n arities (Le.Left.Read root m right)) where
-    pub rule-right-refused : (k : ℕ) → RightAt bytes right n arities m (Re.Rest.Refused k) → RuleAt bytes at n arities (Ru.Rule.Refused k)
+  module _ (y : SideEnd) (l : LeftSideAt bytes at n operators (Si.Side.Read y)) where
+    pub rule-right-refused : (k : ℕ) → RightSideAt bytes (y .next) n operators (y .met) (Si.Side.Refused k) → RuleAt bytes at n operators (Ru.Rule.Refused k)
     unfolding read-rule
     rule-right-refused k r = record {
       is = λ ops t.
-          let f = l .is ops t in
-          then-is _ _ _ _ (f .is) (then-refused _ _ k (r .is ops t _ (f .masks)));
+          let (left, i, m) = l .is ops t in
+          then-is _ _ _ _ i (then-refused _ _ k (r .is ops t _ m));
     }
 
-    pub rule-read : (m′ next : ℕ) → RightAt bytes right n arities m (Re.Rest.Read m′ next) → RuleAt bytes at n arities (Ru.Rule.Read root right next)
+    pub rule-read : (z : SideEnd) → RightSideAt bytes (y .next) n operators (y .met) (Si.Side.Read z) →
+        RuleAt bytes at n operators (Ru.Rule.Read (record { right = y .next; next = z .next }))
     unfolding read-rule return
-    rule-read m′ next r = record {
+    rule-read z r = record {
       is = λ ops t.
-          let f = l .is ops t in
-          let (side, i) = r .is ops t _ (f .masks) in
+          let (left, i, m) = l .is ops t in
+          let (right, j) = r .is ops t _ m in
           record {
-            rule = record { left = f .side; right = side };
-            is = then-is _ _ _ _ (f .is) (then-is _ _ _ _ i refl);
-            root-is = f .root-is;
-            left-written = left-consumed ops (bitsAt bytes at) (below at) _ (f .is) .0;
-            right-written = right-consumed ops (bitsAt bytes right) (below right) _ _ i .0;
+            rule = record { left = left; right = right };
+            is = then-is _ _ _ _ i (then-is _ _ _ _ j refl);
+            left-written = left-consumed ops (bitsAt bytes at) (below at) _ i .0;
+            right-written = right-consumed ops (bitsAt bytes (y .next)) (below (y .next)) _ _ j .0;
           };
     }
       where

@@ -1,6 +1,5 @@
 pub mod OnePass
 pub mod Reading
-pub mod Kept
+pub mod Front
 pub mod Codes
-pub mod Bound
 pub mod Rows

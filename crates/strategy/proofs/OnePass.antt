@@ -21,7 +21,7 @@ use Rattle.strategy.specs.Settling.{ends-in-zero, closed, settling}
 -- Neighbouring 0s, from the left
 
 -- the list without a 0 behind a 0, where an item that is 0 or not stands before it
-unfoldable pub merge-after : Bool → List Item → List Item
+unfoldable merge-after : Bool → List Item → List Item
 merge-after b [] = []
 merge-after true (Item.whole ∷ is) = merge-after true is
 merge-after false (Item.whole ∷ is) = Item.whole ∷ merge-after true is
@@ -39,7 +39,7 @@ merges (Item.group js ∷ is) =
     let (p, q) = merges is in
     (ap (λ (r : List Item). Item.group js ∷ r) p, ap (λ (r : List Item). Item.whole ∷ Item.group js ∷ r) p)
 
-pub settle-merges : (is : List Item) → settle is ≡ merge-after false (drop-groups (drop-repeats [] is))
+settle-merges : (is : List Item) → settle is ≡ merge-after false (drop-groups (drop-repeats [] is))
 unfolding settle
 settle-merges is = merges (drop-groups (drop-repeats [] is)) .0
 

@@ -22,23 +22,24 @@ use Rattle.paper.proofs.Operators.{rest, read-numbers-suc, rest-allowed, rest-r
 use Rattle.strategy.specs.declared.Turn.{Turn}
 use Rattle.strategy.specs.declared.Numbers.{Numbers}
 use Rattle.strategy.specs.declared.Strategy.{Strategy}
-use Rattle.strategy.specs.Answer.{turn, spelt, Settled, NumbersRead, GivenRead, StrategyRead}
-use Rattle.strategy.specs.Settling.{settling, Kept}
+use Rattle.strategy.specs.declared.Listed.{Listed}
+use Rattle.strategy.specs.Contracts.{turn, spelt, SettledList, NumbersAt, GivenAt, StrategyAt}
+use Rattle.strategy.specs.Settling.{settling, AtFront}
 use Rattle.strategy.proofs.OnePass.{settles}
 
 -- a refusal stays
-bind-refused : {A B : Type 0} (p : Reader A) (k : A → Reader B) (xs : List ℕ) (e : ℕ) → p xs ≡ refused e → (p >>= k) xs ≡ refused e
+pub bind-refused : {A B : Type 0} (p : Reader A) (k : A → Reader B) (xs : List ℕ) (e : ℕ) → p xs ≡ refused e → (p >>= k) xs ≡ refused e
 unfolding _>>=_
 bind-refused {A} p k xs e h = ap (λ (x : Result (Read A)). then x (λ r. k (r .value) (r .left))) h
 
 -- Items
 
--- the answer with some numbers in front
-abbrev pub prepend : List ℕ → Result (Read (List ℕ)) → Result (Read (List ℕ))
+-- the answer with some values in front
+abbrev pub prepend : {A : Type 0} → List A → Result (Read (List A)) → Result (Read (List A))
 prepend us (refused e) = refused e
 prepend us (accepted r) = accepted (record { value = us ++ r .value; left = r .left })
 
-prepend-none : (x : Result (Read (List ℕ))) → prepend [] x ≡ x
+pub prepend-none : {A : Type 0} (x : Result (Read (List A))) → prepend [] x ≡ x
 prepend-none (refused e) = refl
 prepend-none (accepted r) = refl
 
@@ -68,32 +69,30 @@ module _ (a : ℕ) (g : Bool) (us xs : List ℕ) where
   pub numbers-out : (m n : ℕ) → m ≡ suc n → field 4 xs ≡ refused 1 → prepend us (read-numbers a g m xs) ≡ refused 1
   numbers-out m n z e = rw z (ap (prepend us) (read-numbers-suc a g n xs ∙ bind-refused (field 4) (rest a g n) xs 1 e))
 
-  pub numbers-fault : (m n v : ℕ) (ys : List ℕ) → m ≡ suc n → field 4 xs ≡ return v ys → turn a g n v ≡ Turn.Fault →
-      prepend us (read-numbers a g m xs) ≡ refused 3
-  numbers-fault m n v ys z e f =
-      rw z (ap (prepend us)
-      (read-numbers-suc a g n xs ∙ bind-return (field 4) (rest a g n) xs ys v e
-      ∙ rest-refused a g n v ys (turn-none (allowed a g (eqb n 0) v) (grouped-after g v) f)))
+  module _ (m n v : ℕ) (ys : List ℕ) (z : m ≡ suc n) (e : field 4 xs ≡ return v ys) where
+    numbers-item : prepend us (read-numbers a g m xs) ≡ prepend us (rest a g n v ys)
+    numbers-item = rw z (ap (prepend us) (read-numbers-suc a g n xs ∙ bind-return (field 4) (rest a g n) xs ys v e))
 
-  one-more : (m n v : ℕ) (ys : List ℕ) (inside : Bool) → m ≡ suc n → field 4 xs ≡ return v ys → turn a g n v ≡ Turn.Go inside →
-      prepend us (read-numbers a g m xs) ≡ prepend (us ++ (v ∷ [])) (read-numbers a inside n ys)
-  one-more m n v ys inside z e f =
-      let (p, q) = turn-cases (allowed a g (eqb n 0) v) (grouped-after g v) inside f in
-      rw z (ap (prepend us)
-      (read-numbers-suc a g n xs ∙ bind-return (field 4) (rest a g n) xs ys v e ∙ rest-allowed a g n v ys p
-      ∙ prepend-bind (read-numbers a (grouped-after g v) n) v ys ∙ ap (λ (b : Bool). prepend (v ∷ []) (read-numbers a b n ys)) q)
-      ∙ prepend-both us (v ∷ []) (read-numbers a inside n ys))
+    pub numbers-fault : turn a g n v ≡ Turn.Fault → prepend us (read-numbers a g m xs) ≡ refused 3
+    numbers-fault f = numbers-item ∙ ap (prepend us) (rest-refused a g n v ys (turn-none (allowed a g (eqb n 0) v) (grouped-after g v) f))
+
+    pub numbers-go : (inside : Bool) → turn a g n v ≡ Turn.Go inside →
+        prepend us (read-numbers a g m xs) ≡ prepend (us ++ (v ∷ [])) (read-numbers a inside n ys)
+    numbers-go inside f =
+        let (p, r) = turn-cases (allowed a g (eqb n 0) v) (grouped-after g v) inside f in
+        numbers-item
+        ∙ ap (prepend us) (rest-allowed a g n v ys p
+        ∙ prepend-bind (read-numbers a (grouped-after g v) n) v ys ∙ ap (λ (b : Bool). prepend (v ∷ []) (read-numbers a b n ys)) r)
+        ∙ prepend-both us (v ∷ []) (read-numbers a inside n ys)
 
 pub numbers-start : (a : ℕ) (xs : List ℕ) (n m : ℕ) → m ≡ n → read-numbers a false n xs ≡ prepend [] (read-numbers a false m xs)
 numbers-start a xs n m e = sym (prepend-none (read-numbers a false m xs) ∙ ap (λ (k : ℕ). read-numbers a false k xs) e)
 
-pub numbers-more : (a : ℕ) (g : Bool) (raw : List ℕ) (k m n x v : ℕ) (xs ys : List ℕ) (inside : Bool) → m ≡ suc n → k < 32 → length raw ≡ 32 →
-    field 4 xs ≡ return v ys → turn a g n v ≡ Turn.Go inside → x ≡ v → (n′ : ℕ) → n ≡ n′ →
-    prepend (take k raw) (read-numbers a g m xs) ≡ prepend (take (k + 1) (set raw k x)) (read-numbers a inside n′ ys)
-numbers-more a g raw k m n x v xs ys inside z l h e f q n′ r =
-    one-more a g (take k raw) xs m n v ys inside z e f
-    ∙ ap₂ (λ (us : List ℕ) (i : ℕ). prepend us (read-numbers a inside i ys))
-    (ap (λ (y : ℕ). take k raw ++ (y ∷ [])) (sym q) ∙ sym (take-suc-set raw k x (omega arith)) ∙ ap (λ (j : ℕ). take j (set raw k x)) (sym (add-one k))) r
+pub numbers-more : (a : ℕ) (raw : List ℕ) (k n n′ v : ℕ) (ys : List ℕ) (g : Bool) → k < 32 → length raw ≡ 32 → n ≡ n′ →
+    prepend (take k raw ++ (v ∷ [])) (read-numbers a g n ys) ≡ prepend (take (k + 1) (set raw k v)) (read-numbers a g n′ ys)
+numbers-more a raw k n n′ v ys g l h r =
+    ap₂ (λ (us : List ℕ) (i : ℕ). prepend us (read-numbers a g i ys))
+    (sym (take-suc-set raw k v (omega arith)) ∙ ap (λ (j : ℕ). take j (set raw k v)) (sym (add-one k))) r
 
 pub numbers-end : (a : ℕ) (g : Bool) (raw xs : List ℕ) (k n m : ℕ) → m ≡ 0 → k ≡ n → prepend (take k raw) (read-numbers a g m xs) ≡ return (take n raw) xs
 unfolding read-numbers
@@ -136,7 +135,7 @@ module _ (a : ℕ) (xs : List ℕ) where
 
 -- a strategy that is read is good
 good-settled : (a g : ℕ) (xs : List ℕ) (is : List Item) (zs vs : List ℕ) → a < 8 → (k : ℕ) (bytes : List ℕ) → xs ≡ drop k (bitsOf bytes) →
-    read-strategy a g xs ≡ return is zs → vs ≡ numbers is → Settled a vs
+    read-strategy a g xs ≡ return is zs → vs ≡ numbers is → SettledList a vs
 unfolding return
 good-settled a g xs is zs vs l k bytes x e n =
     let b = rw (sym x) at (all-drop k (bitsOf bytes) (bits-below bytes)) in
@@ -144,17 +143,17 @@ good-settled a g xs is zs vs l k bytes x e n =
 
 module _ (bytes : List ℕ) (at a : ℕ) (l : a < 8) where
   -- the ways through the reading of a given list
-  pub read-given-out : (kept : List ℕ) → length kept ≡ 32 → field 5 (drop at (bitsOf bytes)) ≡ refused 1 → GivenRead bytes at a kept (Strategy.Refused 1)
+  pub read-given-out : (kept : List ℕ) → length kept ≡ 32 → field 5 (drop at (bitsOf bytes)) ≡ refused 1 → GivenAt bytes at a kept (Strategy.Refused 1)
   read-given-out kept h e = record { is = sym (ap spelt (given-out a (drop at (bitsOf bytes)) e)); settled = tt; long = h }
 
   pub read-given-refused : (n next f : ℕ) → field 5 (drop at (bitsOf bytes)) ≡ return n (drop next (bitsOf bytes)) →
-      (raw : List ℕ) (q : Numbers) → NumbersRead bytes next a n raw q → q ≡ Numbers.Refused f → GivenRead bytes at a raw (Strategy.Refused f)
+      (raw : List ℕ) (q : Numbers) → NumbersAt bytes next a n raw q → q ≡ Numbers.Refused f → GivenAt bytes at a raw (Strategy.Refused f)
   read-given-refused n next f e raw q k z =
       let r : refused f ≡ read-numbers a false n (drop next (bitsOf bytes)) = rw z at (k .is) in
       record { is = sym (ap spelt (given-refused a (drop at (bitsOf bytes)) n (drop next (bitsOf bytes)) f e (sym r))); settled = tt; long = k .long }
 
   given-answer : (kept : List ℕ) (len end : ℕ) (is : List Item) → read-strategy a 1 (drop at (bitsOf bytes)) ≡ return is (drop end (bitsOf bytes)) →
-      take len kept ≡ numbers is → len ≤ 31 → length kept ≡ 32 → GivenRead bytes at a kept (Strategy.Read len end)
+      take len kept ≡ numbers is → len ≤ 31 → length kept ≡ 32 → GivenAt bytes at a kept (Strategy.Read (record { len = len; next = end }))
   unfolding return
   given-answer kept len end is g q h k =
       record {
@@ -164,8 +163,8 @@ module _ (bytes : List ℕ) (at a : ℕ) (l : a < 8) where
       }
 
   pub read-given-read : (kept : List ℕ) (n next len end : ℕ) → field 5 (drop at (bitsOf bytes)) ≡ return n (drop next (bitsOf bytes)) →
-      (raw : List ℕ) (q : Numbers) → NumbersRead bytes next a n raw q → q ≡ Numbers.Read end → len ≤ 31 →
-      Kept (settling [] 0 (take n raw)) len kept → GivenRead bytes at a kept (Strategy.Read len end)
+      (raw : List ℕ) (q : Numbers) → NumbersAt bytes next a n raw q → q ≡ Numbers.Read end → len ≤ 31 →
+      AtFront (settling [] 0 (take n raw)) len kept → GivenAt bytes at a kept (Strategy.Read (record { len = len; next = end }))
   unfolding return
   read-given-read kept n next len end e raw q nr z h k =
       let r : read-numbers a false n (drop next (bitsOf bytes)) ≡ return (take n raw) (drop end (bitsOf bytes)) = sym (rw z at (nr .is)) in
@@ -175,7 +174,7 @@ module _ (bytes : List ℕ) (at a : ℕ) (l : a < 8) where
       (k .is ∙ settles a (take n raw) is l p w) h (k .long)
 
   -- and through the reading of a strategy
-  pub read-out : (kept : List ℕ) → length kept ≡ 32 → field 1 (drop at (bitsOf bytes)) ≡ refused 1 → StrategyRead bytes at a kept (Strategy.Refused 1)
+  pub read-out : (kept : List ℕ) → length kept ≡ 32 → field 1 (drop at (bitsOf bytes)) ≡ refused 1 → StrategyAt bytes at a kept (Strategy.Refused 1)
   read-out kept h e =
       record { is = sym (ap spelt (bind-refused (field 1) (read-strategy a) (drop at (bitsOf bytes)) 1 e)); settled = tt; long = h }
 
@@ -183,7 +182,7 @@ module _ (bytes : List ℕ) (at a : ℕ) (l : a < 8) where
     first : (field 1 >>= read-strategy a) (drop at (bitsOf bytes)) ≡ read-strategy a g (drop next (bitsOf bytes))
     first = bind-return (field 1) (read-strategy a) (drop at (bitsOf bytes)) (drop next (bitsOf bytes)) g e
 
-    pub read-default : (kept : List ℕ) (len : ℕ) → g ≡ 0 → len ≤ 31 → Kept (numbers (default a)) len kept → StrategyRead bytes at a kept (Strategy.Read len next)
+    pub read-default : (kept : List ℕ) (len : ℕ) → g ≡ 0 → len ≤ 31 → AtFront (numbers (default a)) len kept → StrategyAt bytes at a kept (Strategy.Read (record { len = len; next = next }))
     unfolding return
     read-default kept len z h k =
         let d = ap (λ (i : ℕ). read-strategy a i (drop next (bitsOf bytes))) z ∙ not-given a (drop next (bitsOf bytes)) in
@@ -193,7 +192,7 @@ module _ (bytes : List ℕ) (at a : ℕ) (l : a < 8) where
           long = k .long;
         }
 
-    pub read-list : (kept : List ℕ) (r : Strategy) → (g ≡ 0 → ⊥) → GivenRead bytes next a kept r → StrategyRead bytes at a kept r
+    pub read-list : (kept : List ℕ) (r : Strategy) → (g ≡ 0 → ⊥) → GivenAt bytes next a kept r → StrategyAt bytes at a kept r
     read-list kept r z k =
         record { is = k .is ∙ sym (ap spelt (first ∙ given-any a g (drop next (bitsOf bytes)) z)); settled = k .settled; long = k .long }
 
@@ -216,7 +215,7 @@ spelt-accepted (accepted r) vs ys p =
 good-items : (a : ℕ) (is : List Item) → GoodOperator (record { arity = a; strategy = is }) → items (numbers is) ≡ is
 good-items a is g = items-numbers is (within-more a 7 is (omega (arith, g .arity)) (g .within))
 
-pub settled-items : (a : ℕ) (vs : List ℕ) (s : Settled a vs) → items vs ≡ s .strategy
+pub settled-items : (a : ℕ) (vs : List ℕ) (s : SettledList a vs) → items vs ≡ s .strategy
 settled-items a vs s = ap items (s .are) ∙ good-items a (s .strategy) (s .good)
 
 reader-good : (a : ℕ) (xs : List ℕ) (is : List Item) (ys : List ℕ) → a < 8 → All (λ x. x < 2) xs → (field 1 >>= read-strategy a) xs ≡ return is ys →
@@ -226,17 +225,18 @@ reader-good a xs is ys l b e =
     let (g, p, q) = bind-accepted (field 1) (read-strategy a) xs _ e in
     read-strategy-good a (g .value) (g .left) _ l (field-bounded 1 xs g b p .1) q .0
 
-module _ (bytes : List ℕ) (at a : ℕ) (its : List ℕ) (r : Strategy) (s : StrategyRead bytes at a its r) where
+module _ (bytes : List ℕ) (at a : ℕ) (its : List ℕ) (r : Strategy) (s : StrategyAt bytes at a its r) where
   pub strategy-refused : (e : ℕ) → r ≡ Strategy.Refused e → (field 1 >>= read-strategy a) (drop at (bitsOf bytes)) ≡ refused e
   strategy-refused e z = spelt-refused ((field 1 >>= read-strategy a) (drop at (bitsOf bytes))) e (rw z at (s .is))
 
-  pub strategy-settled : (len next : ℕ) → r ≡ Strategy.Read len next → (len ≤ 31) × Settled a (take len its)
-  strategy-settled len next z = rw z at (s .settled)
+  module _ (l : Listed) (z : r ≡ Strategy.Read l) where
+    pub strategy-settled : (l .len ≤ 31) × SettledList a (take (l .len) its)
+    strategy-settled = rw z at (s .settled)
 
-  pub strategy-read : (len next : ℕ) → r ≡ Strategy.Read len next → (k : Settled a (take len its)) →
-      (field 1 >>= read-strategy a) (drop at (bitsOf bytes)) ≡ return (k .strategy) (drop next (bitsOf bytes))
-  strategy-read len next z k =
-      let xs : List ℕ = drop at (bitsOf bytes) in
-      let (is, p, q) = spelt-accepted ((field 1 >>= read-strategy a) xs) (take len its) (drop next (bitsOf bytes)) (rw z at (s .is)) in
-      let g = reader-good a xs is (drop next (bitsOf bytes)) (k .good .arity) (all-drop at (bitsOf bytes) (bits-below bytes)) p in
-      p ∙ ap (λ (js : List Item). return js (drop next (bitsOf bytes))) (sym (good-items a is g) ∙ ap items (sym q) ∙ settled-items a (take len its) k)
+    pub strategy-read : (k : SettledList a (take (l .len) its)) →
+        (field 1 >>= read-strategy a) (drop at (bitsOf bytes)) ≡ return (k .strategy) (drop (l .next) (bitsOf bytes))
+    strategy-read k =
+        let xs : List ℕ = drop at (bitsOf bytes) in
+        let (is, p, q) = spelt-accepted ((field 1 >>= read-strategy a) xs) (take (l .len) its) (drop (l .next) (bitsOf bytes)) (rw z at (s .is)) in
+        let g = reader-good a xs is (drop (l .next) (bitsOf bytes)) (k .good .arity) (all-drop at (bitsOf bytes) (bits-below bytes)) p in
+        p ∙ ap (λ (js : List Item). return js (drop (l .next) (bitsOf bytes))) (sym (good-items a is g) ∙ ap items (sym q) ∙ settled-items a (take (l .len) its) k)

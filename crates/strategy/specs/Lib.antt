@@ -1,3 +1,3 @@
-pub mod Answer
 pub mod Settling
-pub mod Rows
+pub mod Codes
+pub mod Contracts

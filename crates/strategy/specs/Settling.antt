@@ -35,6 +35,6 @@ settling kept g [] = kept
 settling kept g (v ∷ vs) = settling (keeping kept (opening (length kept) g v) v) (opening (length kept) g v) vs
 
 -- xs stand at the front of an array
-pub record Kept (xs : List ℕ) (len : ℕ) (kept : List ℕ) : Type 0 where
+pub record AtFront (xs : List ℕ) (len : ℕ) (kept : List ℕ) : Type 0 where
   pub is : take len kept ≡ xs
   pub long : length kept ≡ 32

@@ -3,18 +3,25 @@
 use bits::Bits;
 ghost use mathlib.Core.Path.{_≡_};
 ghost use mathlib.Core.List.{[], _∷_, _++_};
+ghost use mathlib.Core.Bool.{false};
 ghost use Prim.Native.Nat.{_+_, _-_, _^_, _<_, _≤_};
 ghost use lib.ListN.{length, getD, take, drop, replicate};
 ghost use lib.Seq.{sets};
 ghost use Rattle.paper.specs.Strategy.{default, has};
 ghost use Rattle.paper.specs.Writer.{numbers};
-ghost use Rattle.strategy.specs.Answer.{turn, NumbersRead, GivenRead, StrategyRead};
-ghost use Rattle.strategy.specs.Settling.{ends-in-zero, closed, keeping, opening, settling, Kept};
-ghost use Rattle.strategy.specs.Rows.{placing, unless-0, codes, Layable, LaidOut};
+ghost use Rattle.strategy.specs.Settling.{ends-in-zero, closed, keeping, opening, settling, AtFront};
+ghost use Rattle.strategy.specs.Codes.{placing, unless-0, codes};
+ghost use Rattle.strategy.specs.Contracts.{turn, NumbersAt, GivenAt, StrategyAt, Layable, LaidOut};
 
-// The length of the settled list and the position behind the strategy, or the number of the refusal.
+// How long the settled list is, and the position behind the strategy.
+pub struct Listed {
+    pub len: usize,
+    pub next: usize,
+}
+
+// The settled list, or the number of the refusal.
 pub enum Strategy {
-    Read(usize, usize),
+    Read(Listed),
     Refused(u8),
 }
 
@@ -30,29 +37,9 @@ pub enum Numbers {
     Refused(u8),
 }
 
-fn wide(x: u8) -> usize
-    ensures { λ r. ⌜ (r ≡ x) × (r < 256) ⌝ }
-{
-    x as usize
-}
-
-fn narrow(x: usize) -> u8
-    requires { ⌜ x < 256 ⌝ }
-    ensures { λ r. ⌜ r ≡ x ⌝ }
-{
-    x as u8
-}
-
-fn byte(x: u16) -> u8
-    requires { ⌜ x < 256 ⌝ }
-    ensures { λ r. ⌜ r ≡ x ⌝ }
-{
-    x as u8
-}
-
 // The item v, of 4 bits, with a group open or not, where left more follow: 0 is the whole term, 1 to 7 an argument, 8 opens a group,
 // 9 closes it, 10 to 15 are refused.
-fn item(v: u16, arity: u8, grouped: bool, left: usize) -> Turn
+fn item(v: u8, arity: u8, grouped: bool, left: usize) -> Turn
     ensures { λ r. ⌜ r ≡ turn arity grouped left v ⌝ }
 {
     match v {
@@ -66,7 +53,7 @@ fn item(v: u16, arity: u8, grouped: bool, left: usize) -> Turn
             if left == 0 {
                 return Turn::Fault;
             }
-            if (arity as u16) < v {
+            if arity < v {
                 return Turn::Fault;
             }
             Turn::Go(grouped)
@@ -97,19 +84,20 @@ fn item(v: u16, arity: u8, grouped: bool, left: usize) -> Turn
 // Reads count items from position at on.
 fn read_numbers(book: &[u8], at: usize, arity: u8, count: usize, items: &mut [u8; 32]) -> Numbers
     requires { ⌜ (length (now book) ≤ 2 ^ 60) × (count ≤ 31) × (length (now items) ≡ 32) ⌝ }
-    ensures { λ r. ⌜ NumbersRead (now (book .entry)) at arity count (now (items .exit)) r ⌝ }
+    ensures { λ r. ⌜ NumbersAt (now (book .entry)) at arity count (now (items .exit)) r ⌝ }
 {
     let mut pos = at;
     let mut grouped = false;
     let mut k = 0;
     while k < count {
-        let Bits::Value(v, next) = bits::field(book, pos, 4) else {
+        let Bits::Value(x, next) = reader::field(book, pos, 4) else {
             return Numbers::Refused(1);
         };
+        let v = casts::low_byte(x);
         let Turn::Go(inside) = item(v, arity, grouped, count - k - 1) else {
             return Numbers::Refused(3);
         };
-        items[k] = byte(v);
+        items[k] = v;
         grouped = inside;
         pos = next;
         k += 1;
@@ -120,12 +108,12 @@ fn read_numbers(book: &[u8], at: usize, arity: u8, count: usize, items: &mut [u8
 // The default list: 1 2 .. arity 0.
 fn put_default(arity: u8, items: &mut [u8; 32]) -> usize
     requires { ⌜ (arity < 8) × (length (now items) ≡ 32) ⌝ }
-    ensures { λ r. ⌜ Kept (numbers (default arity)) r (now (items .exit)) × (r ≡ arity + 1) ⌝ }
+    ensures { λ r. ⌜ AtFront (numbers (default arity)) r (now (items .exit)) × (r ≡ arity + 1) ⌝ }
 {
-    let n = wide(arity);
+    let n = casts::index(arity);
     let mut i = 0;
     while i < n {
-        items[i] = narrow(i + 1);
+        items[i] = casts::byte(i + 1);
         i += 1;
     }
     items[n] = 0;
@@ -135,7 +123,7 @@ fn put_default(arity: u8, items: &mut [u8; 32]) -> usize
 // Puts v behind the list.
 fn push(kept: &mut [u8; 32], len: usize, v: u8) -> usize
     requires { ⌜ (length (now kept) ≡ 32) × (len < 32) ⌝ }
-    ensures { λ r. ⌜ Kept (take len (now (kept .entry)) ++ (v ∷ [])) r (now (kept .exit)) × (r ≡ len + 1)
+    ensures { λ r. ⌜ AtFront (take len (now (kept .entry)) ++ (v ∷ [])) r (now (kept .exit)) × (r ≡ len + 1)
         × (drop (len + 1) (now (kept .exit)) ≡ drop (len + 1) (now (kept .entry))) ⌝ }
 {
     kept[len] = v;
@@ -170,7 +158,7 @@ fn found(kept: &[u8; 32], len: usize, v: u8) -> bool
 // Closes the group that opened at index group: a group of none is dropped, a group of one becomes its argument.
 fn close(kept: &mut [u8; 32], len: usize, group: usize) -> usize
     requires { ⌜ (length (now kept) ≡ 32) × (len < 32) × (group ≤ len) ⌝ }
-    ensures { λ r. ⌜ Kept (closed (take len (now (kept .entry))) group) r (now (kept .exit)) × (r ≤ len + 1) × (group ≤ r)
+    ensures { λ r. ⌜ AtFront (closed (take len (now (kept .entry))) group) r (now (kept .exit)) × (r ≤ len + 1) × (group ≤ r)
         × (drop (len + 1) (now (kept .exit)) ≡ drop (len + 1) (now (kept .entry))) ⌝ }
 {
     if len == group + 1 {
@@ -186,7 +174,7 @@ fn close(kept: &mut [u8; 32], len: usize, group: usize) -> usize
 // The number at i follows the len numbers that are kept: no 0 is kept behind a 0, no argument a second time.
 fn keep(kept: &mut [u8; 32], i: usize, len: usize, group: usize) -> usize
     requires { ⌜ (length (now kept) ≡ 32) × (i < 32) × (len ≤ i) × (group ≤ len) ⌝ }
-    ensures { λ r. ⌜ Kept (keeping (take len (now (kept .entry))) group (getD (now (kept .entry)) i 0)) r (now (kept .exit))
+    ensures { λ r. ⌜ AtFront (keeping (take len (now (kept .entry))) group (getD (now (kept .entry)) i 0)) r (now (kept .exit))
         × (r ≤ len + 1) × (group ≤ r) × (drop (len + 1) (now (kept .exit)) ≡ drop (len + 1) (now (kept .entry))) ⌝ }
 {
     let v = kept[i];
@@ -222,7 +210,7 @@ fn opened(v: u8, len: usize, group: usize) -> usize
 // Settles the first count numbers, in place.
 fn settle(items: &mut [u8; 32], count: usize) -> usize
     requires { ⌜ (length (now items) ≡ 32) × (count ≤ 31) ⌝ }
-    ensures { λ r. ⌜ Kept (settling [] 0 (take count (now (items .entry)))) r (now (items .exit)) × (r ≤ count) ⌝ }
+    ensures { λ r. ⌜ AtFront (settling [] 0 (take count (now (items .entry)))) r (now (items .exit)) × (r ≤ count) ⌝ }
 {
     let mut len = 0;
     let mut group = 0;
@@ -238,15 +226,18 @@ fn settle(items: &mut [u8; 32], count: usize) -> usize
 // A strategy that is given: its length and its items.
 fn read_given(book: &[u8], at: usize, arity: u8, items: &mut [u8; 32]) -> Strategy
     requires { ⌜ (length (now book) ≤ 2 ^ 60) × (arity < 8) × (length (now items) ≡ 32) ⌝ }
-    ensures { λ r. ⌜ GivenRead (now (book .entry)) at arity (now (items .exit)) r ⌝ }
+    ensures { λ r. ⌜ GivenAt (now (book .entry)) at arity (now (items .exit)) r ⌝ }
 {
-    let Bits::Value(count, next) = bits::field(book, at, 5) else {
+    let Bits::Value(count, next) = reader::field(book, at, 5) else {
         return Strategy::Refused(1);
     };
-    let n = count as usize;
+    let n = casts::offset(count);
     let numbers = read_numbers(book, next, arity, n, items);
     match numbers {
-        Numbers::Read(end) => Strategy::Read(settle(items, n), end),
+        Numbers::Read(end) => Strategy::Read(Listed {
+            len: settle(items, n),
+            next: end,
+        }),
         Numbers::Refused(e) => Strategy::Refused(e),
     }
 }
@@ -254,97 +245,116 @@ fn read_given(book: &[u8], at: usize, arity: u8, items: &mut [u8; 32]) -> Strate
 // The strategy of an operator, at the position behind its arity.
 pub fn read_strategy(book: &[u8], at: usize, arity: u8, items: &mut [u8; 32]) -> Strategy
     requires { ⌜ (length (now book) ≤ 2 ^ 60) × (arity < 8) × (length (now items) ≡ 32) ⌝ }
-    ensures { λ r. ⌜ StrategyRead (now (book .entry)) at arity (now (items .exit)) r ⌝ }
+    ensures { λ r. ⌜ StrategyAt (now (book .entry)) at arity (now (items .exit)) r ⌝ }
 {
-    let Bits::Value(given, next) = bits::field(book, at, 1) else {
+    let Bits::Value(given, next) = reader::field(book, at, 1) else {
         return Strategy::Refused(1);
     };
     if given == 0 {
-        return Strategy::Read(put_default(arity, items), next);
+        return Strategy::Read(Listed {
+            len: put_default(arity, items),
+            next,
+        });
     }
     read_given(book, next, arity, items)
 }
 
-// The code of a number's step, 0 for none, and the group behind it: 0 outside, in a group one more than its FORKs so far.
+// The code of a number's step, 0 for none; whether a group is open behind it, and how many FORKs the group has so far.
 pub struct Placed {
     pub code: u8,
-    pub group: u8,
+    pub grouped: bool,
+    pub forks: u8,
 }
 
-// The number v, where next follows, in a group or not.
-fn place(v: u8, next: u8, group: u8) -> Placed
-    requires { ⌜ group < 64 ⌝ }
-    ensures { λ r. ⌜ r ≡ placing v next group ⌝ }
+// The number v, where next follows: the last argument of a group is visited, the others are forked.
+fn place(v: u8, next: u8, grouped: bool, forks: u8) -> Placed
+    requires { ⌜ forks < 63 ⌝ }
+    ensures { λ r. ⌜ r ≡ placing v next grouped forks ⌝ }
 {
     match v {
-        0 => Placed { code: 1, group },
+        0 => Placed {
+            code: tables::WHOLE,
+            grouped,
+            forks,
+        },
         1..=7 => {
-            if group == 0 {
-                return Placed { code: 7 + v, group };
-            }
-            if next == 9 {
-                return Placed { code: 7 + v, group };
+            if grouped {
+                if next != 9 {
+                    return Placed {
+                        code: tables::fork_code(v - 1),
+                        grouped,
+                        forks: forks + 1,
+                    };
+                }
             }
             Placed {
-                code: 15 + v,
-                group: group + 1,
+                code: tables::visit_code(v - 1),
+                grouped,
+                forks,
             }
         }
-        8 => Placed { code: 0, group: 1 },
+        8 => Placed {
+            code: 0,
+            grouped: true,
+            forks: 0,
+        },
         _ => Placed {
-            code: 23 + group,
-            group: 0,
+            code: tables::join_code(forks),
+            grouped: false,
+            forks: 0,
         },
     }
 }
 
 // Writes a code, where there is one, and answers the place behind it.
-fn put_code(laid: &mut [u8; 4096], at: usize, code: u8) -> usize
-    requires { ⌜ at < 4096 ⌝ }
-    ensures { λ r. ⌜ (now (laid .exit) ≡ sets (now (laid .entry)) at (unless-0 code)) × (r ≡ at + length (unless-0 code)) ⌝ }
+fn put_code(operators: &mut [u8; 4352], at: usize, code: u8) -> usize
+    requires { ⌜ at < 4352 ⌝ }
+    ensures { λ r. ⌜ (now (operators .exit) ≡ sets (now (operators .entry)) at (unless-0 code)) × (r ≡ at + length (unless-0 code)) ⌝ }
 {
     if code == 0 {
         return at;
     }
-    laid[at] = code;
+    operators[at] = code;
     at + 1
 }
 
-// Writes the codes of the first len numbers from at on, and answers the place behind them.
-fn put_codes(items: &[u8; 32], len: usize, laid: &mut [u8; 4096], base: usize) -> usize
-    requires { ⌜ (length (now items) ≡ 32) × (len ≤ 31) × (base + 16 ≤ 4096) × (length (codes 0 len (now items)) ≤ 15) ⌝ }
-    ensures { λ r. ⌜ (now (laid .exit) ≡ sets (now (laid .entry)) base (codes 0 len (now (items .entry)))) × (r ≡ base + length (codes 0 len (now (items .entry)))) ⌝ }
+// Writes the codes of the first len numbers from base on, and answers the place behind them.
+fn put_codes(items: &[u8; 32], len: usize, operators: &mut [u8; 4352], base: usize) -> usize
+    requires { ⌜ (length (now items) ≡ 32) × (len ≤ 31) × (base + 16 ≤ 4352) × (length (codes false 0 len (now items)) ≤ 15) ⌝ }
+    ensures { λ r. ⌜ (now (operators .exit) ≡ sets (now (operators .entry)) base (codes false 0 len (now (items .entry))))
+        × (r ≡ base + length (codes false 0 len (now (items .entry)))) ⌝ }
 {
     let mut at = base;
-    let mut group = 0;
+    let mut grouped = false;
+    let mut forks = 0;
     let mut i = 0;
     while i < len {
-        let p = place(items[i], items[i + 1], group);
-        at = put_code(laid, at, p.code);
-        group = p.group;
+        let p = place(items[i], items[i + 1], grouped, forks);
+        at = put_code(operators, at, p.code);
+        grouped = p.grouped;
+        forks = p.forks;
         i += 1;
     }
     at
 }
 
 // Writes 0s up to the place end.
-fn clear(laid: &mut [u8; 4096], from: usize, end: usize)
-    requires { ⌜ (from ≤ end) × (end ≤ 4096) ⌝ }
-    ensures { λ _. ⌜ now (laid .exit) ≡ sets (now (laid .entry)) from (replicate (end - from) 0) ⌝ }
+fn clear(operators: &mut [u8; 4352], from: usize, end: usize)
+    requires { ⌜ (from ≤ end) × (end ≤ 4352) ⌝ }
+    ensures { λ _. ⌜ now (operators .exit) ≡ sets (now (operators .entry)) from (replicate (end - from) 0) ⌝ }
 {
     let mut i = from;
     while i < end {
-        laid[i] = 0;
+        operators[i] = 0;
         i += 1;
     }
 }
 
-// Lays out the settled list of operator o in its row, 16 bytes.
-pub fn lay_out(items: &[u8; 32], len: usize, laid: &mut [u8; 4096], o: usize)
-    requires { ⌜ Layable (now items) len (now laid) o ⌝ }
-    ensures { λ _. ⌜ LaidOut (now (items .entry)) len (now (laid .entry)) o (now (laid .exit)) ⌝ }
+// Lays out the settled list of operator o: its codes, and 0s up to where those of the next operator begin.
+pub fn lay_out(items: &[u8; 32], len: usize, operators: &mut [u8; 4352], o: usize)
+    requires { ⌜ Layable (now items) len (now operators) o ⌝ }
+    ensures { λ _. ⌜ LaidOut (now (items .entry)) len (now (operators .entry)) o (now (operators .exit)) ⌝ }
 {
-    let base = 16 * o;
-    let end = put_codes(items, len, laid, base);
-    clear(laid, end, base + 16);
+    let end = put_codes(items, len, operators, tables::row_start(o));
+    clear(operators, end, tables::row_start(o + 1));
 }

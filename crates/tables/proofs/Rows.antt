@@ -49,7 +49,7 @@ no-step : step-of 0 ≡ none
 unfolding step-of
 no-step = refl
 
-getD-any : (xs : List ℕ) (i a b : ℕ) → i < length xs → getD xs i a ≡ getD xs i b
+pub getD-any : (xs : List ℕ) (i a b : ℕ) → i < length xs → getD xs i a ≡ getD xs i b
 getD-any [] i a b h = absurd (omega arith)
 getD-any (x ∷ xs) zero a b h = refl
 getD-any (x ∷ xs) (suc i) a b h = getD-any xs i a b (omega arith)

@@ -18,9 +18,10 @@ use Rattle.paper.proofs.Lists.{all-append, all-split}
 use Rattle.paper.proofs.Readers.{accepted-injective, refused-accepted, then-accepted, return-accepted, bind-accepted}
 use Rattle.paper.proofs.Bits.{length-toBits, value-toBits, field-read, all-take}
 use Rattle.paper.proofs.Bytes.{bits-below, length-bitsOf, bitsOf-append, bits-bytes, bytes-below}
-use Rattle.side.specs.Side.{bitsAt}
-use Rattle.book.specs.Answer.{read-tail}
-use Rattle.writer.specs.Put.{Put, Bytes, OperatorsAt, RulesAt, BookAt}
+use Rattle.tables.specs.Tables.{book-of}
+use Rattle.side.specs.Contracts.{bitsAt}
+use Rattle.book.specs.Contracts.{read-tail}
+use Rattle.writer.specs.Contracts.{BitsPut, AllBytes, OperatorsWritten, RulesWritten, AcceptedBook, BookWritten}
 use Rattle.writer.proofs.Puts.{put-as, put-both}
 use Rattle.writer.proofs.Operators.{repeat-long}
 use Rattle.writer.proofs.Rules.{tail-split}
@@ -42,7 +43,7 @@ bytes-same (x ∷ xs) (y ∷ ys) h k e =
     (bytes-same xs ys (h .1) (k .1)
     (sym (drop-at (toBits 8 x) (bitsOf xs) 8 (length-toBits 8 x)) ∙ ap (drop 8) e ∙ drop-at (toBits 8 y) (bitsOf ys) 8 (length-toBits 8 y)))
 
-all-bytes : (xs : List ℕ) → Bytes xs → All (λ b. b < 256) xs
+all-bytes : (xs : List ℕ) → AllBytes xs → All (λ b. b < 256) xs
 all-bytes [] h = tt
 all-bytes (x ∷ xs) h = (h 0, all-bytes xs (λ i. h (suc i)))
 
@@ -69,7 +70,7 @@ bytesOf-long xs = bytesFrom-long ((length xs + 7) / 8) (xs ++ replicate 7 0)
 
 -- bits with zero bits up to a whole byte are the bytes that hold them
 module _ (xs out out′ : List ℕ) (z all size : ℕ) (z-is : z ≡ (8 - length xs % 8) % 8) (size-is : size ≡ all / 8)
-    (w : Put 0 (xs ++ toBits z 0) out out′ all) where
+    (w : BitsPut 0 (xs ++ toBits z 0) out out′ all) where
   total : all ≡ length xs + z
   total = w .ends ∙ omega (arith, length-append xs (toBits z 0), length-toBits z 0)
 
@@ -79,7 +80,7 @@ module _ (xs out out′ : List ℕ) (z all size : ℕ) (z-is : z ≡ (8 - length
   whole : 8 * size ≡ all
   whole = let t = total in omega arith
 
-  pub bytes-written : size ≤ length out → Bytes out → Bytes out′ → out′ ≡ bytesOf xs ++ drop size out
+  pub bytes-written : size ≤ length out → AllBytes out → AllBytes out′ → out′ ≡ bytesOf xs ++ drop size out
   bytes-written h b b′ =
       let e : 8 * size ≡ all = whole in
       let t = total in
@@ -139,23 +140,22 @@ book-split bytes B e =
     }
 
 -- the parts one after another are the book
-pub book-put : (bytes : List ℕ) (n : ℕ) (arities out out₁ out₂ out₃ out₄ : List ℕ) (v at from to end z all size : ℕ) → v ≡ n →
-    Put 0 (toBits 8 v) out out₁ at → OperatorsAt bytes 8 n at out₁ out₂ from to → RulesAt bytes from n arities to out₂ out₃ end →
-    Put end (toBits z 0) out₃ out₄ all → z ≡ (8 - end % 8) % 8 → size ≡ all / 8 → BookAt bytes n arities out out₄ size
+pub book-put : {bytes : List ℕ} {n : ℕ} {operators out out₁ out₂ out₃ out₄ : List ℕ} {v at from to end z all size : ℕ} → AcceptedBook bytes n operators →
+    v ≡ n → BitsPut 0 (toBits 8 v) out out₁ at → OperatorsWritten bytes 8 n at out₁ out₂ from to → RulesWritten bytes from n operators to out₂ out₃ end →
+    BitsPut end (toBits z 0) out₃ out₄ all → z ≡ (8 - end % 8) % 8 → size ≡ all / 8 → BookWritten bytes out out₄ size
 unfolding writeBook
-book-put bytes n arities out out₁ out₂ out₃ out₄ v at from to end z all size f p₀ p₁ p₂ p₃ g h = record {
-  is = λ B t e.
-      let s = book-split bytes B e in
-      let ops : List Operator = B .operators in
-      let c : n ≡ length ops = sym (t .count) in
-      let (x, w₁) = p₁ .are ops (s .mid) (ap (λ (i : ℕ). repeat i read-operator (bitsAt bytes 8)) c ∙ s .operators-are) in
-      let w₂ = p₂ .are ops t B (s .left) (ap (read-tail ops) x ∙ s .tail-is) in
-      let os : List ℕ = concat write-operator ops in
-      let rs : List ℕ = toBits 8 (length (B .rules)) ++ concat write-rule (B .rules) in
-      let xs : List ℕ = toBits 8 (length ops) ++ (os ++ rs) in
-      let i : toBits 8 v ++ os ++ rs ≡ xs = append-assoc (toBits 8 v) os rs ∙ ap (λ (j : ℕ). toBits 8 j ++ (os ++ rs)) (f ∙ c) in
-      let w : Put 0 xs out out₃ end = put-as i (put-both (put-both p₀ w₁) w₂) in
-      let k : z ≡ (8 - length xs % 8) % 8 = g ∙ ap (λ (j : ℕ). (8 - j % 8) % 8) (w .ends ∙ zero-add (length xs)) in
-      let u : Put 0 (xs ++ toBits z 0) out out₄ all = put-both w p₃ in
-      (size-of xs out out₄ z all size k h u, u .long, bytes-written xs out out₄ z all size k h u);
-}
+book-put {bytes} {out = out} {out₃ = out₃} {out₄} {v} {end = end} {z} {all} {size} a f p₀ p₁ p₂ p₃ g h =
+    let B : Book = book-of bytes in
+    let s = book-split bytes B (a .read) in
+    let ops : List Operator = B .operators in
+    let c = sym (a .arities .count) in
+    let (x, w₁) = p₁ .are ops (s .mid) (ap (λ (i : ℕ). repeat i read-operator (bitsAt bytes 8)) c ∙ s .operators-are) in
+    let w₂ = p₂ .are ops (a .arities) B (s .left) (ap (read-tail ops) x ∙ s .tail-is) in
+    let os : List ℕ = concat write-operator ops in
+    let rs : List ℕ = toBits 8 (length (B .rules)) ++ concat write-rule (B .rules) in
+    let xs : List ℕ = toBits 8 (length ops) ++ (os ++ rs) in
+    let i : toBits 8 v ++ os ++ rs ≡ xs = append-assoc (toBits 8 v) os rs ∙ ap (λ (j : ℕ). toBits 8 j ++ (os ++ rs)) (f ∙ c) in
+    let w : BitsPut 0 xs out out₃ end = put-as i (put-both (put-both p₀ w₁) w₂) in
+    let k : z ≡ (8 - length xs % 8) % 8 = g ∙ ap (λ (j : ℕ). (8 - j % 8) % 8) (w .ends ∙ zero-add (length xs)) in
+    let u : BitsPut 0 (xs ++ toBits z 0) out out₄ all = put-both w p₃ in
+    record { sized = size-of xs out out₄ z all size k h u; long = u .long; written = bytes-written xs out out₄ z all size k h u }

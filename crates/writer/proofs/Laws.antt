@@ -17,10 +17,12 @@ use Rattle.paper.specs.Page.{writtenOf}
 use Rattle.paper.proofs.Tests.{ltb-true, ltb-false}
 use Rattle.paper.proofs.Books.{read-book-good, round-trip}
 use Rattle.paper.proofs.Prefix.{read-prefix}
-use Rattle.book.specs.Answer.{BookAt}
+use Rattle.tables.proofs.Laws.{arity-at}
+use Rattle.book.specs.Contracts.{BookAt}
 use Rattle.book.specs.declared.Book as B
 use Rattle.writer.specs.declared.Written as D
-use Rattle.writer.specs.Writing.{Outcome, writing, Answers, Accepted}
+use Rattle.writer.specs.Spec.{Outcome, writing, Answers}
+use Rattle.writer.specs.Contracts.{AcceptedBook}
 
 -- what is written for a reading
 abbrev of : Result Book → Result (List ℕ)
@@ -54,14 +56,14 @@ unfolding writtenOf
 answers-prefix bytes output output′ r h a = record { is = writing-of bytes output (readBook (take 65536 bytes)) (read-prefix bytes h) ∙ a .is }
 
 -- what the book's reader gives
-pub accepted-of : {bytes arities laid lefts rights chain : List ℕ} {n m : ℕ} → BookAt bytes arities laid lefts rights chain (B.Book.Read n m) →
-    Accepted bytes n arities
+pub accepted-of : {bytes operators rules : List ℕ} {n : ℕ} → BookAt bytes operators rules (B.Book.Read n) → AcceptedBook bytes n operators
 accepted-of h =
-    let t = h .is .tables .operators in
-    record { book = h .is .book; is = h .is .is; table = record { count = t .count; says = λ o l. t .each o l .arity-is } }
+    let t = h .is .0 in
+    let c = h .is .1 in
+    record { read = t .read; arities = record { count = sym c; says = λ o l. arity-at (t .tables) o (omega arith) } }
 
-pub few : {bytes arities : List ℕ} {n : ℕ} → Accepted bytes n arities → n < 256
-few {bytes} a = let c = a .table .count in let g = read-book-good bytes (a .book) (a .is) .few-operators in omega arith
+pub few : {bytes operators : List ℕ} {n : ℕ} → AcceptedBook bytes n operators → n < 256
+few {bytes} a = let c = a .arities .count in let g = read-book-good bytes _ (a .read) .few-operators in omega arith
 
 -- The caller's laws
 

@@ -13,7 +13,7 @@ use Rattle.paper.specs.Result.{if}
 use Rattle.paper.specs.Bits.{toBits}
 use Rattle.paper.specs.Strategy.{upward, default}
 use Rattle.paper.specs.Writer.{concat, numbers, same}
-use Rattle.writer.specs.Put.{list-bits}
+use Rattle.writer.specs.Contracts.{list-bits}
 use Rattle.writer.proofs.Puts.{toBits-low}
 
 same-cons : (x y : ℕ) (xs ys : List ℕ) → same (x ∷ xs) (y ∷ ys) ≡ if (eqb x y) (same xs ys) false

@@ -5,18 +5,17 @@ use Prim.Native.Nat.{ℕ, zero, suc, _+_}
 use lib.ListN.{length, take}
 use Rattle.paper.specs.Result.{refused, Read, Reader, return, _>>=_, repeat}
 use Rattle.paper.specs.Bits.{toBits, field}
-use Rattle.paper.specs.Strategy.{Item}
-use Rattle.paper.specs.Book.{Operator}
 use Rattle.paper.specs.Reader.{read-strategy, read-operator}
 use Rattle.paper.specs.Writer.{concat, write-strategy, write-operator}
 use Rattle.paper.proofs.Readers.{accepted-injective, refused-accepted, bind-accepted, bind-return}
 use Rattle.bits.proofs.Reading.{Got}
 use Rattle.strategy.specs.declared.Strategy.{Strategy}
-use Rattle.strategy.specs.Answer.{Settled, StrategyRead}
-use Rattle.strategy.proofs.Reading.{strategy-refused, strategy-read}
-use Rattle.book.proofs.Readers.{bind-refused, bind-assoc}
-use Rattle.side.specs.Side.{bitsAt}
-use Rattle.writer.specs.Put.{Put, list-bits, OperatorAt, OperatorsAt}
+use Rattle.strategy.specs.declared.Listed.{Listed}
+use Rattle.strategy.specs.Contracts.{StrategyAt}
+use Rattle.strategy.proofs.Reading.{bind-refused, strategy-refused, strategy-read}
+use Rattle.book.proofs.Operators.{made, operator-strategy}
+use Rattle.side.specs.Contracts.{bitsAt}
+use Rattle.writer.specs.Contracts.{BitsPut, list-bits, OperatorWritten, OperatorsWritten}
 use Rattle.writer.proofs.Puts.{put-none, put-as, put-both}
 
 -- Readings
@@ -55,46 +54,36 @@ module _ {A : Type 0} where
 
 -- One operator
 
-made : ℕ → List Item → Reader Operator
-made a is = return (record { arity = a; strategy = is })
-
 module _ (bytes : List ℕ) (at to : ℕ) (out out′ : List ℕ) (at′ to′ : ℕ) where
-  pub operator-out : field 3 (bitsAt bytes at) ≡ refused 1 → OperatorAt bytes at to out out′ at′ to′
+  pub operator-out : field 3 (bitsAt bytes at) ≡ refused 1 → OperatorWritten bytes at to out out′ at′ to′
   unfolding read-operator return
   operator-out h = record { is = λ op left e. absurd (refused-accepted (sym (bind-refused (field 3) _ (bitsAt bytes at) 1 h) ∙ e)) }
 
   module _ (a p : ℕ) (g : Got bytes at 3 a p) (items : List ℕ) where
-    operator-strategy : read-operator (bitsAt bytes at) ≡ ((field 1 >>= read-strategy a) >>= made a) (bitsAt bytes p)
-    unfolding read-operator made
-    operator-strategy =
-        bind-return (field 3) _ (bitsAt bytes at) (bitsAt bytes p) a (g .is)
-        ∙ sym (bind-assoc (field 1) (read-strategy a) (made a) (bitsAt bytes p))
-
-    pub operator-refused : (k : ℕ) → StrategyRead bytes p a items (Strategy.Refused k) → OperatorAt bytes at to out out′ at′ to′
+    pub operator-refused : (k : ℕ) → StrategyAt bytes p a items (Strategy.Refused k) → OperatorWritten bytes at to out out′ at′ to′
     unfolding return
     operator-refused k s = record {
       is = λ op left e.
           let f = bind-refused (field 1 >>= read-strategy a) (made a) (bitsAt bytes p) k (strategy-refused bytes p a items (Strategy.Refused k) s k refl) in
-          absurd (refused-accepted (sym (operator-strategy ∙ f) ∙ e));
+          absurd (refused-accepted (sym (operator-strategy g ∙ f) ∙ e));
     }
 
-    pub operator-read : (len v : ℕ) → StrategyRead bytes p a items (Strategy.Read len at′) → a ≡ v →
-        Put to (toBits 3 v ++ list-bits a (take len items)) out out′ to′ → OperatorAt bytes at to out out′ at′ to′
+    pub operator-read : (l : Listed) (v : ℕ) → StrategyAt bytes p a items (Strategy.Read l) → l .next ≡ at′ → a ≡ v →
+        BitsPut to (toBits 3 v ++ list-bits a (take (l .len) items)) out out′ to′ → OperatorWritten bytes at to out out′ at′ to′
     unfolding made write-operator write-strategy list-bits
-    operator-read len v s h w = record {
+    operator-read l v s q h w = record {
       is = λ op left e.
-          let k : Settled a (take len items) = s .settled .1 in
-          let is : List Item = k .strategy in
-          let f = bind-return (field 1 >>= read-strategy a) (made a) (bitsAt bytes p) (bitsAt bytes at′) is
-          (strategy-read bytes p a items (Strategy.Read len at′) s len at′ refl k) in
-          let (x, y) = return-same (sym (operator-strategy ∙ f) ∙ e) in
-          (y, put-as (ap₂ (λ (j : ℕ) (vs : List ℕ). toBits 3 j ++ list-bits a vs) (sym h) (k .are) ∙ ap write-operator x) w);
+          let k = s .settled .1 in
+          let f = bind-return (field 1 >>= read-strategy a) (made a) (bitsAt bytes p) (bitsAt bytes (l .next)) (k .strategy)
+          (strategy-read bytes p a items (Strategy.Read l) s l refl k) in
+          let (x, y) = return-same (sym (operator-strategy g ∙ f) ∙ e) in
+          (ap (bitsAt bytes) (sym q) ∙ y, put-as (ap₂ (λ (j : ℕ) (vs : List ℕ). toBits 3 j ++ list-bits a vs) (sym h) (k .are) ∙ ap write-operator x) w);
     }
 
 -- n operators
 
 module _ (bytes : List ℕ) (at k to : ℕ) (out : List ℕ) where
-  pub operators-none : k ≡ 0 → OperatorsAt bytes at k to out out at to
+  pub operators-none : k ≡ 0 → OperatorsWritten bytes at k to out out at to
   unfolding concat
   operators-none h = record {
     are = λ ops left e.
@@ -102,8 +91,8 @@ module _ (bytes : List ℕ) (at k to : ℕ) (out : List ℕ) where
         (y, put-as (ap (concat write-operator) x) (put-none to out));
   }
 
-  pub operators-more : (k′ at₁ to₁ : ℕ) (out₁ : List ℕ) → k ≡ suc k′ → OperatorAt bytes at to out out₁ at₁ to₁ → {out′ : List ℕ} {at′ to′ : ℕ} →
-      OperatorsAt bytes at₁ k′ to₁ out₁ out′ at′ to′ → OperatorsAt bytes at k to out out′ at′ to′
+  pub operators-more : (k′ at₁ to₁ : ℕ) (out₁ : List ℕ) → k ≡ suc k′ → OperatorWritten bytes at to out out₁ at₁ to₁ → {out′ : List ℕ} {at′ to′ : ℕ} →
+      OperatorsWritten bytes at₁ k′ to₁ out₁ out′ at′ to′ → OperatorsWritten bytes at k to out out′ at′ to′
   unfolding concat
   operators-more k′ at₁ to₁ out₁ h p q = record {
     are = λ ops left e.

@@ -14,16 +14,16 @@ use Rattle.paper.proofs.Bytes.{toBits-below, bits-below, toBits-value}
 use Rattle.bits.specs.Field.{Written}
 use Rattle.bits.proofs.Reading.{Got, bits-left}
 use Rattle.bits.proofs.Writing.{written, read-behind}
-use Rattle.side.specs.Side.{bitsAt}
-use Rattle.writer.specs.Put.{Put}
+use Rattle.side.specs.Contracts.{bitsAt}
+use Rattle.writer.specs.Contracts.{BitsPut}
 
-pub put-none : (at : ℕ) (out : List ℕ) → Put at [] out out at
+pub put-none : (at : ℕ) (out : List ℕ) → BitsPut at [] out out at
 put-none at out = record { ends = sym (add-zero at); long = refl; front = λ _. sym (append-nil (take at (bitsOf out))); behind = λ _. refl }
 
-pub put-as : {at : ℕ} {xs ys out out′ : List ℕ} {next : ℕ} → xs ≡ ys → Put at xs out out′ next → Put at ys out out′ next
-put-as {at} {out = out} {out′ = out′} {next = next} e = subst (λ (zs : List ℕ). Put at zs out out′ next) e
+pub put-as : {at : ℕ} {xs ys out out′ : List ℕ} {next : ℕ} → xs ≡ ys → BitsPut at xs out out′ next → BitsPut at ys out out′ next
+put-as {at} {out = out} {out′ = out′} {next = next} e = subst (λ (zs : List ℕ). BitsPut at zs out out′ next) e
 
-pub put-no-bits : (at : ℕ) (out xs : List ℕ) (k : ℕ) → k ≡ 0 → Put at (take k xs) out out at
+pub put-no-bits : (at : ℕ) (out xs : List ℕ) (k : ℕ) → k ≡ 0 → BitsPut at (take k xs) out out at
 put-no-bits at out xs k e = put-as (ap (λ (i : ℕ). take i xs) (sym e)) (put-none at out)
 
 drop-more : (m n : ℕ) (xs ys : List ℕ) → m ≤ n → drop m xs ≡ drop m ys → drop n xs ≡ drop n ys
@@ -36,7 +36,7 @@ drop-more m n xs ys h e =
     ∙ ap (λ (k : ℕ). drop k ys) f
 
 -- one part after another
-pub put-both : {at : ℕ} {xs ys out out₁ out₂ : List ℕ} {n₁ n₂ : ℕ} → Put at xs out out₁ n₁ → Put n₁ ys out₁ out₂ n₂ → Put at (xs ++ ys) out out₂ n₂
+pub put-both : {at : ℕ} {xs ys out out₁ out₂ : List ℕ} {n₁ n₂ : ℕ} → BitsPut at xs out out₁ n₁ → BitsPut n₁ ys out₁ out₂ n₂ → BitsPut at (xs ++ ys) out out₂ n₂
 put-both {at} {xs} {ys} {out} {out₁} {out₂} {n₁} {n₂} p q =
     let e = p .ends in
     let f = q .ends in
@@ -52,7 +52,7 @@ put-both {at} {xs} {ys} {out} {out₁} {out₂} {n₁} {n₂} p q =
     }
 
 -- a field, where it fits and where it does not
-pub put-field : (at n v : ℕ) {out out′ : List ℕ} → Written out at n v out′ → at + n ≤ 8 * length out → Put at (toBits n v) out out′ (at + n)
+pub put-field : (at n v : ℕ) {out out′ : List ℕ} → Written out at n v out′ → at + n ≤ 8 * length out → BitsPut at (toBits n v) out out′ (at + n)
 put-field at n v w h = record {
   ends = ap (λ (k : ℕ). at + k) (sym (length-toBits n v));
   long = w .long;
@@ -60,7 +60,7 @@ put-field at n v w h = record {
   behind = λ _. read-behind w h (at + n) (le-refl (at + n));
 }
 
-pub put-out : (at n v : ℕ) (out : List ℕ) → 8 * length out < at + n → Put at (toBits n v) out out (at + n)
+pub put-out : (at n v : ℕ) (out : List ℕ) → 8 * length out < at + n → BitsPut at (toBits n v) out out (at + n)
 put-out at n v out h = record {
   ends = ap (λ (k : ℕ). at + k) (sym (length-toBits n v));
   long = refl;

@@ -14,15 +14,16 @@ use Rattle.paper.proofs.Readers.{refused-accepted, bind-accepted}
 use Rattle.paper.proofs.Books.{end-good}
 use Rattle.bits.proofs.Reading.{Got, bits-left}
 use Rattle.side.specs.declared.Rule as Ru
-use Rattle.side.specs.Side.{bitsAt, RuleAt}
-use Rattle.book.specs.Answer.{read-tail}
-use Rattle.book.proofs.Readers.{bind-refused}
-use Rattle.writer.specs.Put.{Put, RulesEnd, RulesAt}
+use Rattle.side.specs.declared.RuleEnd.{RuleEnd}
+use Rattle.side.specs.Contracts.{bitsAt, RuleAt}
+use Rattle.book.specs.Contracts.{read-tail}
+use Rattle.strategy.proofs.Reading.{bind-refused}
+use Rattle.writer.specs.Contracts.{BitsPut, RulesEnd, RulesWritten}
 use Rattle.writer.proofs.Puts.{put-as, got-bits}
 use Rattle.writer.proofs.Operators.{return-same, Split, split, repeat-none, repeat-long}
 
-module _ (bytes : List ℕ) (at n : ℕ) (arities : List ℕ) (k : ℕ) where
-  pub rules-none : k ≡ 0 → RulesEnd bytes at n arities k at
+module _ (bytes : List ℕ) (at n : ℕ) (operators : List ℕ) (k : ℕ) where
+  pub rules-none : k ≡ 0 → RulesEnd bytes at n operators k at
   unfolding concat
   rules-none h = record {
     are = λ ops t rules left e.
@@ -36,28 +37,28 @@ module _ (bytes : List ℕ) (at n : ℕ) (arities : List ℕ) (k : ℕ) where
     first ops rules left e =
         split (read-rule ops) k′ (bitsAt bytes at) rules left (ap (λ (i : ℕ). repeat i (read-rule ops) (bitsAt bytes at)) (sym h) ∙ e)
 
-    pub rules-refused : (r end : ℕ) → RuleAt bytes at n arities (Ru.Rule.Refused r) → RulesEnd bytes at n arities k end
+    pub rules-refused : (r end : ℕ) → RuleAt bytes at n operators (Ru.Rule.Refused r) → RulesEnd bytes at n operators k end
     unfolding return
     rules-refused r end q = record {
       are = λ ops t rules left e. let s = first ops rules left e in absurd (refused-accepted (sym (q .is ops t) ∙ s .first-is));
     }
 
-    pub rules-more : (root right next end : ℕ) → RuleAt bytes at n arities (Ru.Rule.Read root right next) → RulesEnd bytes next n arities k′ end →
-        RulesEnd bytes at n arities k end
+    pub rules-more : (x : RuleEnd) (end : ℕ) → RuleAt bytes at n operators (Ru.Rule.Read x) → RulesEnd bytes (x .next) n operators k′ end →
+        RulesEnd bytes at n operators k end
     unfolding concat write-rule
-    rules-more root right next end q w = record {
+    rules-more x end q w = record {
       are = λ ops t rules left e.
           let s = first ops rules left e in
           let r = q .is ops t in
-          let (x, y) = return-same (sym (r .is) ∙ s .first-is) in
+          let (i, y) = return-same (sym (r .is) ∙ s .first-is) in
           let z = w .are ops t (s .others) left (ap (repeat k′ (read-rule ops)) y ∙ s .others-are) in
           let one : Rule = r .rule in
           r .left-written
           ∙ ap (λ (xs : List ℕ). write-side (one .left) ++ xs) (r .right-written)
-          ∙ sym (append-assoc (write-side (one .left)) (write-side (one .right)) (bitsAt bytes next))
+          ∙ sym (append-assoc (write-side (one .left)) (write-side (one .right)) (bitsAt bytes (x .next)))
           ∙ ap (λ (xs : List ℕ). write-rule one ++ xs) z
           ∙ sym (append-assoc (write-rule one) (concat write-rule (s .others)) (bitsAt bytes end))
-          ∙ ap (λ (u : Rule). concat write-rule (u ∷ s .others) ++ bitsAt bytes end) x
+          ∙ ap (λ (u : Rule). concat write-rule (u ∷ s .others) ++ bitsAt bytes end) i
           ∙ ap (λ (rs : List Rule). concat write-rule rs ++ bitsAt bytes end) (s .all);
     }
 
@@ -84,13 +85,13 @@ tail-split ops xs B left e =
       operators-are = ap (λ (C : Book). C .operators) f;
     }
 
-module _ (bytes : List ℕ) (at n : ℕ) (arities : List ℕ) (to : ℕ) (out out′ : List ℕ) (to′ : ℕ) where
-  pub rules-out : field 8 (bitsAt bytes at) ≡ refused 1 → RulesAt bytes at n arities to out out′ to′
+module _ (bytes : List ℕ) (at n : ℕ) (operators : List ℕ) (to : ℕ) (out out′ : List ℕ) (to′ : ℕ) where
+  pub rules-out : field 8 (bitsAt bytes at) ≡ refused 1 → RulesWritten bytes at n operators to out out′ to′
   unfolding read-tail return
   rules-out h = record { are = λ ops t B left e. absurd (refused-accepted (sym (bind-refused (field 8) _ (bitsAt bytes at) 1 h) ∙ e)) }
 
-  pub rules-copied : (v m p end k : ℕ) → Got bytes at 8 v p → m ≡ v → RulesEnd bytes p n arities m end →
-      k ≡ (8 * length bytes - at) - (8 * length bytes - end) → Put to (take k (bitsAt bytes at)) out out′ to′ → RulesAt bytes at n arities to out out′ to′
+  pub rules-copied : (v m p end k : ℕ) → Got bytes at 8 v p → m ≡ v → RulesEnd bytes p n operators m end →
+      k ≡ (8 * length bytes - at) - (8 * length bytes - end) → BitsPut to (take k (bitsAt bytes at)) out out′ to′ → RulesWritten bytes at n operators to out out′ to′
   unfolding return
   rules-copied v m p end k g f w h u = record {
     are = λ ops t B left e.

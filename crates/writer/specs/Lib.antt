@@ -1,2 +1,2 @@
-pub mod Put
-pub mod Writing
+pub mod Spec
+pub mod Contracts

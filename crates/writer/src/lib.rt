@@ -9,9 +9,9 @@ ghost use lib.ListN.{length, take};
 ghost use Rattle.paper.specs.Bits.{toBits};
 ghost use Rattle.paper.specs.Writer.{concat, same, numbers};
 ghost use Rattle.paper.specs.Strategy.{default};
-ghost use Rattle.side.specs.Side.{bitsAt};
-ghost use Rattle.writer.specs.Put.{Put, list-bits, OperatorAt, OperatorsAt, RulesEnd, RulesAt, BookAt};
-ghost use Rattle.writer.specs.Writing.{Accepted, Answers};
+ghost use Rattle.side.specs.Contracts.{bitsAt};
+ghost use Rattle.writer.specs.Spec.{Answers};
+ghost use Rattle.writer.specs.Contracts.{BitsPut, list-bits, OperatorWritten, OperatorsWritten, RulesEnd, RulesWritten, AcceptedBook, BookWritten};
 
 // How many bytes are written, or a refusal.
 pub enum Written {
@@ -23,32 +23,6 @@ pub enum Written {
 struct Places {
     from: usize,
     to: usize,
-}
-
-fn wide(x: u8) -> usize
-    ensures { λ r. ⌜ (r ≡ x) × (r < 256) ⌝ }
-{
-    x as usize
-}
-
-fn count(x: u16) -> usize
-    ensures { λ r. ⌜ r ≡ x ⌝ }
-{
-    x as usize
-}
-
-fn narrow(x: u16) -> u8
-    requires { ⌜ x < 256 ⌝ }
-    ensures { λ r. ⌜ r ≡ x ⌝ }
-{
-    x as u8
-}
-
-fn short(x: usize) -> u16
-    requires { ⌜ x < 65536 ⌝ }
-    ensures { λ r. ⌜ r ≡ x ⌝ }
-{
-    x as u16
 }
 
 // The 4 low bits: all of an item's.
@@ -75,7 +49,7 @@ fn some_of(left: usize) -> usize
 // Writes a field where it fits, and answers the position behind it.
 fn emit(out: &mut [u8], at: usize, n: usize, v: u16) -> usize
     requires { ⌜ (n ≤ 16) × (v < 2 ^ n) × (at ≤ 2 ^ 40) ⌝ }
-    ensures { λ r. ⌜ Put at (toBits n v) (now (out .entry)) (now (out .exit)) r × (r ≡ at + n) ⌝ }
+    ensures { λ r. ⌜ BitsPut at (toBits n v) (now (out .entry)) (now (out .exit)) r × (r ≡ at + n) ⌝ }
 {
     let end = at + n;
     if (end + 7) / 8 <= out.len() {
@@ -90,13 +64,13 @@ fn is_default(arity: u8, items: &[u8; 32], len: usize) -> bool
     requires { ⌜ (arity < 8) × (length (now items) ≡ 32) × (len ≤ 31) ⌝ }
     ensures { λ r. ⌜ r ≡ same (take len (now (items .entry))) (numbers (default arity)) ⌝ }
 {
-    let n = wide(arity);
+    let n = casts::index(arity);
     if len != n + 1 {
         return false;
     }
     let mut i = 0;
     while i < n {
-        if wide(items[i]) != i + 1 {
+        if casts::index(items[i]) != i + 1 {
             return false;
         }
         i += 1;
@@ -107,7 +81,7 @@ fn is_default(arity: u8, items: &[u8; 32], len: usize) -> bool
 // Writes the first len numbers, 4 bits each.
 fn write_items(items: &[u8; 32], len: usize, out: &mut [u8], at: usize) -> usize
     requires { ⌜ (length (now items) ≡ 32) × (len ≤ 31) × (at ≤ 2 ^ 39) ⌝ }
-    ensures { λ r. ⌜ Put at (concat (toBits 4) (take len (now (items .entry)))) (now (out .entry)) (now (out .exit)) r × (r ≤ at + 124) ⌝ }
+    ensures { λ r. ⌜ BitsPut at (concat (toBits 4) (take len (now (items .entry)))) (now (out .entry)) (now (out .exit)) r × (r ≤ at + 124) ⌝ }
 {
     let mut to = at;
     let mut i = 0;
@@ -121,33 +95,33 @@ fn write_items(items: &[u8; 32], len: usize, out: &mut [u8], at: usize) -> usize
 // Writes a settled list: the bit 0 for the default, else the bit 1, its length and its numbers.
 fn write_strategy(arity: u8, items: &[u8; 32], len: usize, out: &mut [u8], at: usize) -> usize
     requires { ⌜ (arity < 8) × (length (now items) ≡ 32) × (len ≤ 31) × (at ≤ 2 ^ 38) ⌝ }
-    ensures { λ r. ⌜ Put at (list-bits arity (take len (now (items .entry)))) (now (out .entry)) (now (out .exit)) r × (r ≤ at + 130) ⌝ }
+    ensures { λ r. ⌜ BitsPut at (list-bits arity (take len (now (items .entry)))) (now (out .entry)) (now (out .exit)) r × (r ≤ at + 130) ⌝ }
 {
     if is_default(arity, items, len) {
         return emit(out, at, 1, 0);
     }
     let p = emit(out, at, 1, 1);
-    let q = emit(out, p, 5, short(len));
+    let q = emit(out, p, 5, casts::short(len));
     write_items(items, len, out, q)
 }
 
 // Writes the operator that is read at position at.
 fn write_operator(book: &[u8], at: usize, out: &mut [u8], to: usize) -> Places
     requires { ⌜ (length (now book) ≤ 65536) × (to ≤ 2 ^ 37) ⌝ }
-    ensures { λ r. ⌜ OperatorAt (now (book .entry)) at to (now (out .entry)) (now (out .exit)) (r .from) (r .to) × (r .to ≤ to + 133) ⌝ }
+    ensures { λ r. ⌜ OperatorWritten (now (book .entry)) at to (now (out .entry)) (now (out .exit)) (r .from) (r .to) × (r .to ≤ to + 133) ⌝ }
 {
-    let Bits::Value(a, p) = bits::field(book, at, 3) else {
+    let Bits::Value(a, p) = reader::field(book, at, 3) else {
         return Places { from: at, to };
     };
-    let arity = narrow(a);
+    let arity = casts::low_byte(a);
     let mut items = [0u8; 32];
     match strategy::read_strategy(book, p, arity, &mut items) {
         Strategy::Refused(_) => Places { from: at, to },
-        Strategy::Read(len, next) => {
+        Strategy::Read(list) => {
             let q = emit(out, to, 3, a);
-            let end = write_strategy(arity, &items, len, out, q);
+            let end = write_strategy(arity, &items, list.len, out, q);
             Places {
-                from: next,
+                from: list.next,
                 to: end,
             }
         }
@@ -157,7 +131,7 @@ fn write_operator(book: &[u8], at: usize, out: &mut [u8], to: usize) -> Places
 // Writes the n operators from position at on.
 fn write_operators(book: &[u8], at: usize, n: usize, out: &mut [u8], to: usize) -> Places
     requires { ⌜ (length (now book) ≤ 65536) × (n < 256) × (to ≤ 2 ^ 36) ⌝ }
-    ensures { λ r. ⌜ OperatorsAt (now (book .entry)) at n to (now (out .entry)) (now (out .exit)) (r .from) (r .to) × (r .to ≤ to + 133 * 255) ⌝ }
+    ensures { λ r. ⌜ OperatorsWritten (now (book .entry)) at n to (now (out .entry)) (now (out .exit)) (r .from) (r .to) × (r .to ≤ to + 133 * 255) ⌝ }
 {
     let mut p = at;
     let mut q = to;
@@ -172,17 +146,17 @@ fn write_operators(book: &[u8], at: usize, n: usize, out: &mut [u8], to: usize) 
 }
 
 // The position behind the m rules from position at on.
-fn rules_end(book: &[u8], at: usize, n: usize, arities: &[u8; 256], m: usize) -> usize
+fn rules_end(book: &[u8], at: usize, n: usize, operators: &[u8; 4352], m: usize) -> usize
     requires { ⌜ length (now book) ≤ 65536 ⌝ }
-    ensures { λ r. ⌜ RulesEnd (now (book .entry)) at n (now (arities .entry)) m r ⌝ }
+    ensures { λ r. ⌜ RulesEnd (now (book .entry)) at n (now (operators .entry)) m r ⌝ }
 {
     let mut p = at;
     let mut i = 0;
     while i < m {
-        let Rule::Read(_, _, next) = side::read_rule(book, p, n, arities) else {
+        let Rule::Read(rule) = side::read_rule(book, p, n, operators) else {
             return p;
         };
-        p = next;
+        p = rule.next;
         i += 1;
     }
     p
@@ -191,14 +165,14 @@ fn rules_end(book: &[u8], at: usize, n: usize, arities: &[u8; 256], m: usize) ->
 // Writes k bits of the book as they stand.
 fn copy(book: &[u8], from: usize, k: usize, out: &mut [u8], to: usize) -> usize
     requires { ⌜ (length (now book) ≤ 65536) × (k ≤ 8 * length (now book) - from) × (to ≤ 2 ^ 37) ⌝ }
-    ensures { λ r. ⌜ Put to (take k (bitsAt (now (book .entry)) from)) (now (out .entry)) (now (out .exit)) r × (r ≤ to + k) ⌝ }
+    ensures { λ r. ⌜ BitsPut to (take k (bitsAt (now (book .entry)) from)) (now (out .entry)) (now (out .exit)) r × (r ≤ to + k) ⌝ }
 {
     let mut p = from;
     let mut q = to;
     let mut left = k;
     while 0 < left {
         let n = some_of(left);
-        let Bits::Value(v, next) = bits::field(book, p, n) else {
+        let Bits::Value(v, next) = reader::field(book, p, n) else {
             return q;
         };
         q = emit(out, q, n, v);
@@ -213,31 +187,31 @@ fn write_rules(
     book: &[u8],
     at: usize,
     n: usize,
-    arities: &[u8; 256],
+    operators: &[u8; 4352],
     out: &mut [u8],
     to: usize,
 ) -> usize
     requires { ⌜ (length (now book) ≤ 65536) × (to ≤ 2 ^ 37) ⌝ }
-    ensures { λ r. ⌜ RulesAt (now (book .entry)) at n (now (arities .entry)) to (now (out .entry)) (now (out .exit)) r × (r ≤ to + 524288) ⌝ }
+    ensures { λ r. ⌜ RulesWritten (now (book .entry)) at n (now (operators .entry)) to (now (out .entry)) (now (out .exit)) r × (r ≤ to + 524288) ⌝ }
 {
-    let Bits::Value(m, p) = bits::field(book, at, 8) else {
+    let Bits::Value(m, p) = reader::field(book, at, 8) else {
         return to;
     };
-    let end = rules_end(book, p, n, arities, count(m));
+    let end = rules_end(book, p, n, operators, casts::offset(m));
     let k = less(bits::left(book, at), bits::left(book, end));
     copy(book, at, k, out, to)
 }
 
 // Writes an accepted book of n operators, and answers how many bytes it takes.
-fn write_accepted(book: &[u8], n: usize, arities: &[u8; 256], out: &mut [u8]) -> usize
-    requires { ⌜ (length (now book) ≤ 65536) × (n < 256) ⌝ }
-    ensures { λ r. ⌜ BookAt (now (book .entry)) n (now (arities .entry)) (now (out .entry)) (now (out .exit)) r ⌝ }
+fn write_accepted(book: &[u8], n: usize, operators: &[u8; 4352], out: &mut [u8]) -> usize
+    requires { ⌜ (length (now book) ≤ 65536) × AcceptedBook (now book) n (now operators) ⌝ }
+    ensures { λ r. ⌜ BookWritten (now (book .entry)) (now (out .entry)) (now (out .exit)) r ⌝ }
 {
-    let at = emit(out, 0, 8, short(n));
+    let at = emit(out, 0, 8, casts::short(n));
     let places = write_operators(book, 8, n, out, at);
     let from = places.from;
     let to = places.to;
-    let end = write_rules(book, from, n, arities, out, to);
+    let end = write_rules(book, from, n, operators, out, to);
     let all = emit(out, end, (8 - end % 8) % 8, 0);
     all / 8
 }
@@ -246,18 +220,18 @@ fn write_accepted(book: &[u8], n: usize, arities: &[u8; 256], out: &mut [u8]) ->
 fn write_fitting(
     book: &[u8],
     n: usize,
-    arities: &[u8; 256],
+    operators: &[u8; 4352],
     nowhere: &mut [u8],
     output: &mut [u8],
 ) -> Written
-    requires { ⌜ (length (now book) ≤ 65536) × Accepted (now book) n (now arities) ⌝ }
+    requires { ⌜ (length (now book) ≤ 65536) × AcceptedBook (now book) n (now operators) ⌝ }
     ensures { λ r. ⌜ Answers (now (book .entry)) (now (output .entry)) (now (output .exit)) r ⌝ }
 {
-    let size = write_accepted(book, n, arities, nowhere);
+    let size = write_accepted(book, n, operators, nowhere);
     if output.len() < size {
         return Written::Refused(16);
     }
-    let length = write_accepted(book, n, arities, output);
+    let length = write_accepted(book, n, operators, output);
     Written::Length(length)
 }
 
@@ -266,22 +240,12 @@ fn write_short(book: &[u8], output: &mut [u8]) -> Written
     requires { ⌜ length (now book) ≤ 65536 ⌝ }
     ensures { λ r. ⌜ Answers (now (book .entry)) (now (output .entry)) (now (output .exit)) r ⌝ }
 {
-    let mut arities = [0u8; 256];
-    let mut laid = [0u8; 4096];
-    let mut lefts = [0u32; 256];
-    let mut rights = [0u32; 256];
-    let mut chain = [0u8; 768];
+    let mut operators = [0u8; 4352];
+    let mut rules = [0u32; 1024];
     let mut nowhere = [0u8; 1];
-    match book::read_book(
-        book,
-        &mut arities,
-        &mut laid,
-        &mut lefts,
-        &mut rights,
-        &mut chain,
-    ) {
+    match book::read_book(book, &mut operators, &mut rules) {
         Book::Refused(k) => Written::Refused(k),
-        Book::Read(n, _) => write_fitting(book, n, &arities, &mut nowhere, output),
+        Book::Read(n) => write_fitting(book, n, &operators, &mut nowhere, output),
     }
 }
 

@@ -1,51 +1,76 @@
 -- `book::read_book` meets its contract, by the laws of Parts. Assumes nothing.
 use native.Mathlib.Omega.{arith}
-use Rattle.bits.proofs.Reading.{got, ran-out}
-use Rattle.book.proofs.Readers.{got-as}
-use Rattle.book.proofs.Parts.{tabled, count-out, count-zero, operators-refused, book-is}
 use borrow.Author.Needs.{needs}
+use Rattle.bits.proofs.Reading.{got, got-as, ran-out}
+use Rattle.book.proofs.Parts.{count-out, count-zero, operators-refused, tail-refuses, linkable, book-is}
 use Rattle.book.proofs.read_book.Statement.{statement}
 use Rattle.book.proofs.read_book.Tie as tie
 
 returns : tie.Need-returns
-returns c = count-out _ _ _ _ _ _ (ran-out (c .before .before .field .ensures) (c .enum-told .given .1))
+returns c = count-out (ran-out (c .before .before .field .ensures) (c .enum-told .given .1))
 
 returns-2 : tie.Need-returns-2
 returns-2 c =
-    let w = c .before in
-    count-zero _ _ _ _ _ _ _ _ (got-as (got (w .before .before .before .before .field .ensures) (w .before .before .count .given .1)) (w .wide .ensures))
-    (c .if1 .taken)
+    let n = c .before in
+    let k = n .before .before in
+    count-zero (got-as (got (k .before .before .field .ensures) (k .count .given .1)) (n .offset .ensures .0)) (c .if1 .taken)
 
 read-operators-requires : tie.Need-read-operators-requires
 read-operators-requires c κs =
-    let w = c .before .before .before in
-    let h = w .before .before .before .before .before .before .pre in
-    let s = got (w .before .before .before .before .field .ensures) (w .before .before .count .given .1) .small in
-    (omega arith, omega arith, h .1, h .2)
+    let k = c .before .before .before .before in
+    let f = k .before .before in
+    let s = got (f .field .ensures) (k .count .given .1) .small in
+    (omega arith, omega arith, f .before .before .pre .1)
 
-read-tail-requires : tie.Need-read-tail-requires
-read-tail-requires c κs =
-    let q = c .before .before .before .before .before .before .before in
-    let h = q .before .before .before .before .before .before .before .before .before .before .pre in
-    (h .0, tabled (rw (c .before .before .before .before .before .next .given .1) at (q .read-operators .ensures)), h .3)
+link-rules-requires : tie.Need-link-rules-requires
+link-rules-requires c κs =
+    let m = c .before .before in
+    let t = m .before .before in
+    let p = t .before .before .before .before in
+    let o = p .before .before in
+    let i = o .before .before in
+    let n = i .before in
+    let k = n .before .before in
+    let f = k .before .before in (
+      f .before .before .pre .0,
+      linkable (got-as (got (f .field .ensures) (k .count .given .1)) (n .offset .ensures .0)) (i .if1 .left)
+          (rw (p .next .given .1) at (o .read-operators .ensures)) (rw (m .m .given .1) at (t .read-tail .ensures)),
+    )
 
 returns-3 : tie.Need-returns-3
 returns-3 c =
-    let q = c .before .before .before in
-    let w = q .before .before .before .before in
-    operators-refused _ _ _ _ _ _ _ _ (got-as (got (w .before .before .before .before .field .ensures) (w .before .before .count .given .1)) (w .wide .ensures))
-    (q .before .before .before .if1 .left) _ (rw (c .before .e .given .1) at (q .read-operators .ensures))
+    let o = c .before .before .before in
+    let i = o .before .before in
+    let n = i .before in
+    let k = n .before .before in
+    operators-refused (got-as (got (k .before .before .field .ensures) (k .count .given .1)) (n .offset .ensures .0)) (i .if1 .left)
+    (rw (c .before .e .given .1) at (o .read-operators .ensures))
 
 returns-4 : tie.Need-returns-4
 returns-4 c =
-    let q = c .before .before .before .before .before .before .before .before in
-    let w = q .before .before .before .before in
-    book-is _ _ _ _ _ _ _ _ (got-as (got (w .before .before .before .before .field .ensures) (w .before .before .count .given .1)) (w .wide .ensures))
-    (q .before .before .before .if1 .left) _ _ (rw (c .before .before .before .before .before .before .next .given .1) at (q .read-operators .ensures))
-    (c .read-tail .ensures)
+    let t = c .before .before .before in
+    let p = t .before .before .before .before in
+    let o = p .before .before in
+    let i = o .before .before in
+    let n = i .before in
+    let k = n .before .before in
+    tail-refuses (got-as (got (k .before .before .field .ensures) (k .count .given .1)) (n .offset .ensures .0)) (i .if1 .left)
+    (rw (p .next .given .1) at (o .read-operators .ensures)) (rw (c .before .e2 .given .1) at (t .read-tail .ensures))
+
+returns-5 : tie.Need-returns-5
+returns-5 c =
+    let m = c .before .before .before in
+    let t = m .before .before in
+    let p = t .before .before .before .before in
+    let o = p .before .before in
+    let i = o .before .before in
+    let n = i .before in
+    let k = n .before .before in
+    book-is (got-as (got (k .before .before .field .ensures) (k .count .given .1)) (n .offset .ensures .0)) (i .if1 .left)
+    (rw (p .next .given .1) at (o .read-operators .ensures)) (rw (m .m .given .1) at (t .read-tail .ensures)) (c .link-rules .ensures)
 
 pub read-book-spec : {M : Type 1} → statement M
 read-book-spec =
     tie.close
     (tie.spec (λ c κs. search needs) (λ c. search needs) (λ c. search needs) returns (λ c κs. search needs) returns-2 read-operators-requires
-    (λ c. search needs) (λ c. search needs) read-tail-requires returns-3 returns-4)
+    (λ c. search needs) (λ c. search needs) (λ c κs. search needs) (λ c. search needs) (λ c. search needs) link-rules-requires returns-3 returns-4 returns-5)

@@ -1,6 +1,6 @@
 -- `side::read_left` meets its contract, by the laws of Sides. Assumes nothing.
-use Rattle.side.proofs.Sides.{left-refused, left-variable, left-rest-refused, left-rest-read}
 use borrow.Author.Needs.{needs}
+use Rattle.side.proofs.Sides.{left-refused, left-variable, left-rest}
 use Rattle.side.proofs.read_left.Statement.{statement}
 use Rattle.side.proofs.read_left.Tie as tie
 
@@ -12,20 +12,11 @@ returns-2 c = left-variable _ _ _ _ _ _ (rw (c .enum-told .given .1) at (c .befo
 
 returns-3 : tie.Need-returns-3
 returns-3 c =
-    let r = c .before .before .before in
-    let o = r .before .before .before in
-    left-rest-refused _ _ _ _ _ _ _ (rw (o .o .given .1) at (o .before .before .read-symbol .ensures)) (r .before .arity-of .ensures .0) _
-    (rw (c .before .k2 .given .1) at (r .read-rest .ensures))
-
-returns-4 : tie.Need-returns-4
-returns-4 c =
-    let r = c .before .before .before in
-    let o = r .before .before .before in
-    left-rest-read _ _ _ _ _ _ _ (rw (o .o .given .1) at (o .before .before .read-symbol .ensures)) (r .before .arity-of .ensures .0) _ _
-    (rw (c .before .mask .given .1) at (r .read-rest .ensures))
+    let o = c .before .before .before in
+    left-rest _ _ _ _ _ _ _ (rw (o .o .given .1) at (o .before .before .read-symbol .ensures)) (c .before .arity .ensures .0) _ (c .read-rest .ensures)
 
 pub read-left-spec : {M : Type 1} → statement M
 read-left-spec =
     tie.close
     (tie.spec (λ c κs. search needs) (λ c. search needs) (λ c. search needs) (λ c. search needs) (λ c κs. search needs) (λ c κs. search needs)
-    (λ c. search needs) (λ c. search needs) returns returns-2 returns-3 returns-4)
+    returns returns-2 returns-3)

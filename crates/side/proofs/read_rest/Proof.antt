@@ -1,7 +1,7 @@
 -- `side::read_rest` meets its contract. The loop's invariant: what answers for the rest answers for the whole; the terms due stay small.
 -- The measure is the symbols that may follow. Assumes nothing.
-use Rattle.side.specs.Side.{RestAt}
-use Rattle.side.specs.declared.Rest as Re
+use Rattle.side.specs.Contracts.{RestAt}
+use Rattle.side.specs.declared.Side as Si
 use Rattle.side.proofs.Sides.{rest-done, rest-full, rest-refused, rest-took}
 use mathlib.Core.Path.{refl}
 use Prim.Native.Nat.{_+_, _*_, _-_, _≤_}
@@ -11,11 +11,11 @@ use Rattle.side.proofs.read_rest.Statement.{statement}
 use Rattle.side.proofs.read_rest.Tie as tie
 
 abbrev Inv-loop : tie.InvT-loop
-Inv-loop book at n arities mask left due room p₀ met₀ owed₀ free₀ p met owed free =
-    (owed + 255 * free ≤ 65280) × ((r : Re.Rest) → RestAt book p n arities met left owed free r → RestAt book at n arities mask left due room r)
+Inv-loop book at n operators mask left due room next₀ met₀ owed₀ free₀ next met owed free =
+    (owed + 255 * free ≤ 65280) × ((r : Si.Side) → RestAt book next n operators met left owed free r → RestAt book at n operators mask left due room r)
 
 abbrev μ-loop : tie.MeasureT-loop
-μ-loop book at n arities mask left due room p₀ met₀ owed₀ free₀ p met owed free = free
+μ-loop book at n operators mask left due room next₀ met₀ owed₀ free₀ next met owed free = free
 
 loop-holds : tie.Need-loop-holds Inv-loop μ-loop
 loop-holds c = (omega arith, λ r q. q)
@@ -32,17 +32,19 @@ returns-2 c =
 
 add-owed : tie.Need-add-owed Inv-loop μ-loop
 add-owed c =
-    let s = rw (c .before .arity .given .1) at (c .before .before .before .take .ensures .narrow) in
+    let t = c .before .before in
+    let s = rw (t .t .given .1) at (t .before .before .take .ensures .small) in
     omega arith
 
 loop-again : tie.Need-loop-again Inv-loop μ-loop
 loop-again c =
-    let s = rw (c .before .arity .given .1) at (c .before .before .before .take .ensures) in
-    let t = c .before .before .before in
-    let l = t .before .before .before in
-    let b = s .narrow in (
+    let t = c .before .before in
+    let k = t .before .before in
+    let l = k .before .before .before in
+    let s = rw (t .t .given .1) at (k .take .ensures) in
+    let b = s .small in (
       omega arith,
-      λ r q. l .loop .inv .1 r (rest-took _ _ _ _ _ _ _ _ _ _ _ _ _ r (t .before .if1 .left) (t .before .before .loop-test .taken) s refl refl q),
+      λ r q. l .loop .inv .1 r (rest-took _ _ _ _ _ _ _ _ _ _ _ r (k .before .if1 .left) (k .before .before .loop-test .taken) s refl refl q),
     )
 
 returns-3 : tie.Need-returns-3 Inv-loop μ-loop

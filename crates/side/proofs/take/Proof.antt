@@ -13,7 +13,7 @@ returns c = step-refused _ _ _ _ _ _ _ (rw (c .before .k .given .1) at (c .befor
 returns-2 : tie.Need-returns-2
 returns-2 c =
     let o = c .before .before in
-    step-operator _ _ _ _ _ _ _ _ _ (rw (o .o .given .1) at (o .before .before .read-symbol .ensures)) (c .arity-of .ensures .0) (c .arity-of .ensures .1)
+    step-operator _ _ _ _ _ _ _ _ _ (rw (o .o .given .1) at (o .before .before .read-symbol .ensures)) (c .arity .ensures .0) (c .arity .ensures .1)
 
 returns-3 : tie.Need-returns-3
 returns-3 c =

@@ -1,10 +1,10 @@
--- `strategy::close` meets its contract: the ways to close a group are those of Kept. Assumes nothing.
+-- `strategy::close` meets its contract: the ways to close a group are those of Front. Assumes nothing.
 use mathlib.Core.Path.{refl}
 use Prim.Native.Nat.{_+_}
 use native.Mathlib.Omega.{arith}
 use lib.Seq.{drop-set-lt}
 use borrow.Author.Needs.{needs}
-use Rattle.strategy.proofs.Kept.{close-none, close-one, close-more}
+use Rattle.strategy.proofs.Front.{close-none, close-one, close-more}
 use Rattle.strategy.proofs.close.Statement.{statement}
 use Rattle.strategy.proofs.close.Tie as tie
 

@@ -1,6 +1,6 @@
 -- `strategy::ends_in_zero` meets its contract. Assumes nothing.
 use borrow.Author.Needs.{needs}
-use Rattle.strategy.proofs.Kept.{ends-none, ends-last}
+use Rattle.strategy.proofs.Front.{ends-none, ends-last}
 use Rattle.strategy.proofs.ends_in_zero.Statement.{statement}
 use Rattle.strategy.proofs.ends_in_zero.Tie as tie
 

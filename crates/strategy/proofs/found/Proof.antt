@@ -5,7 +5,7 @@ use native.Mathlib.Omega.{arith}
 use lib.ListN.{take, drop}
 use Rattle.paper.specs.Strategy.{has}
 use borrow.Author.Needs.{needs}
-use Rattle.strategy.proofs.Kept.{found-yes, found-more, found-end}
+use Rattle.strategy.proofs.Front.{found-yes, found-more, found-end}
 use Rattle.strategy.proofs.found.Statement.{statement}
 use Rattle.strategy.proofs.found.Tie as tie
 

@@ -5,7 +5,7 @@ use denote.Ref.{now}
 use native.Mathlib.Omega.{arith}
 use lib.ListN.{getD}
 use borrow.Author.Needs.{needs}
-use Rattle.strategy.proofs.Kept.{keeping-zero, keeping-argument, keeping-open, keeping-close, kept-as, kept-same}
+use Rattle.strategy.proofs.Front.{keeping-zero, keeping-argument, keeping-open, keeping-close, kept-as, kept-same}
 use Rattle.strategy.proofs.keep.Statement.{statement}
 use Rattle.strategy.proofs.keep.Tie as tie
 

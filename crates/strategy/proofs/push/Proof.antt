@@ -4,7 +4,7 @@ use Prim.Native.Nat.{_+_}
 use native.Mathlib.Omega.{arith}
 use lib.Seq.{drop-set-lt}
 use borrow.Author.Needs.{needs}
-use Rattle.strategy.proofs.Kept.{kept-push}
+use Rattle.strategy.proofs.Front.{kept-push}
 use Rattle.strategy.proofs.push.Statement.{statement}
 use Rattle.strategy.proofs.push.Tie as tie
 

@@ -9,8 +9,8 @@ use borrow.Author.Needs.{needs}
 use Rattle.paper.specs.Result.{return}
 use Rattle.paper.specs.Bits.{bitsOf}
 use Rattle.paper.specs.Reader.{read-numbers}
-use Rattle.bits.proofs.Reading.{got, ran-out}
-use Rattle.strategy.proofs.Reading.{prepend, numbers-start, numbers-out, numbers-fault, numbers-more, numbers-end}
+use Rattle.bits.proofs.Reading.{got, got-as, ran-out}
+use Rattle.strategy.proofs.Reading.{prepend, numbers-start, numbers-out, numbers-fault, numbers-go, numbers-more, numbers-end}
 use Rattle.strategy.proofs.read_numbers.Statement.{statement}
 use Rattle.strategy.proofs.read_numbers.Tie as tie
 
@@ -38,40 +38,38 @@ returns c =
       long = at .loop .inv .1;
     }
 
+low-byte-requires : tie.Need-low-byte-requires Inv-loop μ-loop
+low-byte-requires c κs = let x = c .before in omega (arith, got (x .before .before .field .ensures) (x .x .given .1) .small)
+
 returns-2 : tie.Need-returns-2 Inv-loop μ-loop
 returns-2 c =
     let t = c .before .before in
-    let v = t .before .before in
-    let f = v .before .before in
-    let at = f .before .before in
-    let n = at .before .before .args .count in
-    let e = got (f .field .ensures) (v .v .given .1) .is in
-    let d = sym (t .item .ensures) ∙ c .enum-told2 .given .1 in
-    record {
-      is = sym (at .loop .inv .2 ∙ numbers-fault _ _ _ _ (n - at .loop .k) (n - at .loop .k - 1) _ _ (omega arith) e d);
-      long = at .loop .inv .1;
-    }
-
-byte-requires : tie.Need-byte-requires Inv-loop μ-loop
-byte-requires c κs =
-    let v = c .before .before .before .before .before in
-    omega (arith, got (v .before .before .field .ensures) (v .v .given .1) .small)
-
-loop-again : tie.Need-loop-again Inv-loop μ-loop
-loop-again c =
-    let t = c .before .before .before .before in
-    let v = t .before .before in
-    let f = v .before .before in
+    let x = t .before .before .before in
+    let f = x .before .before in
     let at = f .before .before in
     let n = at .before .before .args .count in
     let k = at .loop .k in
-    let e = got (f .field .ensures) (v .v .given .1) .is in
-    let d = sym (t .item .ensures) ∙ c .before .before .inside .given .1 in (
+    let e = got-as (got (f .field .ensures) (x .x .given .1)) (t .before .low-byte .ensures) .is in
+    record {
+      is = sym (at .loop .inv .2
+          ∙ numbers-fault _ _ _ _ (n - k) (n - k - 1) _ _ (omega arith) e (sym (t .item .ensures) ∙ c .enum-told2 .given .1));
+      long = at .loop .inv .1;
+    }
+
+loop-again : tie.Need-loop-again Inv-loop μ-loop
+loop-again c =
+    let t = c .before .before .before in
+    let x = t .before .before .before in
+    let f = x .before .before in
+    let at = f .before .before in
+    let n = at .before .before .args .count in
+    let k = at .loop .k in
+    let e = got-as (got (f .field .ensures) (x .x .given .1)) (t .before .low-byte .ensures) .is in (
       omega arith,
       simp length-set (at .loop .inv .1),
       at .loop .inv .2
-          ∙ numbers-more _ _ _ k (n - k) (n - k - 1) _ _ _ _ _ (omega arith) (omega arith) (at .loop .inv .1) e d (c .byte .ensures) (n - (k + 1))
-          (omega arith),
+          ∙ numbers-go _ _ _ _ (n - k) (n - k - 1) _ _ (omega arith) e _ (sym (t .item .ensures) ∙ c .before .inside .given .1)
+          ∙ numbers-more _ _ k (n - k - 1) (n - (k + 1)) _ _ _ (omega arith) (at .loop .inv .1) (omega arith),
     )
 
 returns-3 : tie.Need-returns-3 Inv-loop μ-loop
@@ -85,5 +83,6 @@ returns-3 c =
 pub read-numbers-spec : {M : Type 1} → statement M
 read-numbers-spec =
     tie.close
-    (tie.spec Inv-loop μ-loop loop-holds (λ c κs. search needs) (λ c. search needs) (λ c. search needs) returns (λ c. search needs) (λ c. search needs)
-    (λ c κs. search needs) (λ c. search needs) (λ c. search needs) returns-2 byte-requires (λ c. search needs) (λ c. search needs) (λ c. search needs) loop-again returns-3)
+    (tie.spec Inv-loop μ-loop loop-holds (λ c κs. search needs) (λ c. search needs) (λ c. search needs) returns low-byte-requires (λ c. search needs)
+    (λ c. search needs) (λ c κs. search needs) (λ c. search needs) (λ c. search needs) returns-2 (λ c. search needs) (λ c. search needs) (λ c. search needs)
+    loop-again returns-3)

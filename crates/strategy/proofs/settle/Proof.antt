@@ -6,7 +6,7 @@ use native.Mathlib.Omega.{arith}
 use lib.ListN.{length, take, drop}
 use borrow.Author.Needs.{needs}
 use Rattle.strategy.specs.Settling.{settling}
-use Rattle.strategy.proofs.Kept.{settling-more, settling-end, kept-same, same-at, same-from}
+use Rattle.strategy.proofs.Front.{settling-more, settling-end, kept-same, same-at, same-from}
 use Rattle.strategy.proofs.settle.Statement.{statement}
 use Rattle.strategy.proofs.settle.Tie as tie
 

@@ -2,8 +2,8 @@
 -- Assumes nothing.
 use mathlib.Core.List.{List}
 use Rattle.bits.proofs.Reading.{got, ran-out}
-use Rattle.side.specs.Side.{bitsAt}
-use Rattle.writer.specs.Put.{Put}
+use Rattle.side.specs.Contracts.{bitsAt}
+use Rattle.writer.specs.Contracts.{BitsPut}
 use Rattle.writer.proofs.Puts.{put-no-bits, put-as, put-both, copy-more, there}
 use mathlib.Core.Path.{_≡_, refl, _∙_}
 use Prim.Native.Nat.{ℕ, _+_, _*_, _-_, _≤_}
@@ -16,7 +16,7 @@ use Rattle.writer.proofs.copy.Tie as tie
 abbrev Inv-loop : tie.InvT-loop
 Inv-loop book from k out₀ to p₀ q₀ left₀ out p q left =
     (left ≤ 8 * length book - p) × (q + left ≤ to + k) × (length out ≡ length out₀)
-    × ((out′ : List ℕ) (r : ℕ) → Put q (take left (bitsAt book p)) out out′ r → Put to (take k (bitsAt book from)) out₀ out′ r)
+    × ((out′ : List ℕ) (r : ℕ) → BitsPut q (take left (bitsAt book p)) out out′ r → BitsPut to (take k (bitsAt book from)) out₀ out′ r)
 
 abbrev μ-loop : tie.MeasureT-loop
 μ-loop book from k out₀ to p₀ q₀ left₀ out p q left = left

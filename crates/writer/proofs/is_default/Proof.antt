@@ -26,13 +26,13 @@ returns c =
 loop-holds : tie.Need-loop-holds Inv-loop μ-loop
 loop-holds c =
     let s = c .before .before in
-    (omega arith, default-start _ _ (s .pre .1) (s .pre .2) _ (c .before .wide .result - 0) (omega arith))
+    (omega arith, default-start _ _ (s .pre .1) (s .pre .2) _ (c .before .index .result - 0) (omega arith))
 
 returns-2 : tie.Need-returns-2 Inv-loop μ-loop
 returns-2 c =
     let l = c .before .before .before .before in
     let s = l .before .before .before in
-    let n = l .before .before .wide .result in
+    let n = l .before .before .index .result in
     sym (l .loop .inv .1 ∙ default-differs _ _ (s .pre .1) (s .pre .2) (l .loop .i) (n - l .loop .i) (omega arith) (n - (l .loop .i + 1)) (omega arith)
     (λ e. c .if2 .taken (omega arith)))
 
@@ -40,7 +40,7 @@ loop-again : tie.Need-loop-again Inv-loop μ-loop
 loop-again c =
     let l = c .before .before .before .before in
     let s = l .before .before .before in
-    let n = l .before .before .wide .result in (
+    let n = l .before .before .index .result in (
       omega arith,
       l .loop .inv .1 ∙ default-more _ _ (s .pre .1) (s .pre .2) (l .loop .i) (n - l .loop .i) (omega arith) (n - (l .loop .i + 1)) (omega arith) (omega arith),
     )
@@ -49,7 +49,7 @@ returns-3 : tie.Need-returns-3 Inv-loop μ-loop
 returns-3 c =
     let l = c .before .before in
     let s = l .before .before .before in
-    let n = l .before .before .wide .result in
+    let n = l .before .before .index .result in
     sym (l .loop .inv .1 ∙ default-last _ (s .args .len) (s .pre .1) (s .pre .2) (l .loop .i) (n - l .loop .i) (omega arith)
     n (omega arith) (omega arith) (omega arith))
 

@@ -1,6 +1,6 @@
 -- `writer::rules_end` meets its contract. The loop's invariant: where the rules that are left end, all end. The measure is how many are left.
 -- Assumes nothing.
-use Rattle.writer.specs.Put.{RulesEnd}
+use Rattle.writer.specs.Contracts.{RulesEnd}
 use Rattle.writer.proofs.Rules.{rules-none, rules-refused, rules-more}
 use Prim.Native.Nat.{ℕ, _+_, _-_, _≤_}
 use native.Mathlib.Omega.{arith}
@@ -10,11 +10,11 @@ use Rattle.writer.proofs.rules_end.Statement.{statement}
 use Rattle.writer.proofs.rules_end.Tie as tie
 
 abbrev Inv-loop : tie.InvT-loop
-Inv-loop book at n arities m p₀ i₀ p i =
-    (i ≤ m) × ((end : ℕ) → RulesEnd book p n arities (m - i) end → RulesEnd book at n arities m end)
+Inv-loop book at n operators m p₀ i₀ p i =
+    (i ≤ m) × ((end : ℕ) → RulesEnd book p n operators (m - i) end → RulesEnd book at n operators m end)
 
 abbrev μ-loop : tie.MeasureT-loop
-μ-loop book at n arities m p₀ i₀ p i = m - i
+μ-loop book at n operators m p₀ i₀ p i = m - i
 
 loop-holds : tie.Need-loop-holds Inv-loop μ-loop
 loop-holds c = (omega arith, λ end h. simp unary-clauses at h)
@@ -33,7 +33,7 @@ loop-again c =
     let s = q .before .before .before .before in (
       omega arith,
       λ end h. l .inv .1 end
-          (rules-more _ _ _ _ _ (s .args .m - (l .i + 1)) (omega arith) _ _ _ _ (rw (c .before .next .given .1) at (q .read-rule .ensures)) h),
+          (rules-more _ _ _ _ _ (s .args .m - (l .i + 1)) (omega arith) _ _ (rw (c .before .rule .given .1) at (q .read-rule .ensures)) h),
     )
 
 returns-2 : tie.Need-returns-2 Inv-loop μ-loop

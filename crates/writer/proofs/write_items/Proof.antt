@@ -3,7 +3,7 @@
 use mathlib.Core.List.{List}
 use Rattle.paper.specs.Bits.{toBits}
 use Rattle.paper.specs.Writer.{concat}
-use Rattle.writer.specs.Put.{Put}
+use Rattle.writer.specs.Contracts.{BitsPut}
 use Rattle.writer.proofs.Puts.{put-none, put-as, put-both}
 use Rattle.writer.proofs.Lists.{items-more, items-end}
 use mathlib.Core.Path.{_≡_, refl, _∙_}
@@ -17,7 +17,7 @@ use Rattle.writer.proofs.write_items.Tie as tie
 abbrev Inv-loop : tie.InvT-loop
 Inv-loop items len out₀ at to₀ i₀ out to i =
     (i ≤ len) × (to ≡ at + 4 * i) × (length out ≡ length out₀)
-    × ((out′ : List ℕ) (r : ℕ) → Put to (concat (toBits 4) (drop i (take len items))) out out′ r → Put at (concat (toBits 4) (take len items)) out₀ out′ r)
+    × ((out′ : List ℕ) (r : ℕ) → BitsPut to (concat (toBits 4) (drop i (take len items))) out out′ r → BitsPut at (concat (toBits 4) (take len items)) out₀ out′ r)
 
 abbrev μ-loop : tie.MeasureT-loop
 μ-loop items len out₀ at to₀ i₀ out to i = len - i

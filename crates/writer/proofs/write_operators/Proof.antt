@@ -2,7 +2,7 @@
 -- many are left. Assumes nothing.
 use mathlib.Core.List.{List}
 use native.Mathlib.Numerals.{unary-clauses}
-use Rattle.writer.specs.Put.{OperatorsAt}
+use Rattle.writer.specs.Contracts.{OperatorsWritten}
 use Rattle.writer.proofs.Operators.{operators-none, operators-more}
 use mathlib.Core.Path.{_≡_, refl, _∙_}
 use Prim.Native.Nat.{ℕ, _+_, _*_, _-_, _≤_}
@@ -15,7 +15,7 @@ use Rattle.writer.proofs.write_operators.Tie as tie
 abbrev Inv-loop : tie.InvT-loop
 Inv-loop book at n out₀ to p₀ q₀ o₀ out p q o =
     (o ≤ n) × (q ≤ to + 133 * o) × (length out ≡ length out₀)
-    × ((at′ to′ : ℕ) (out′ : List ℕ) → OperatorsAt book p (n - o) q out out′ at′ to′ → OperatorsAt book at n to out₀ out′ at′ to′)
+    × ((at′ to′ : ℕ) (out′ : List ℕ) → OperatorsWritten book p (n - o) q out out′ at′ to′ → OperatorsWritten book at n to out₀ out′ at′ to′)
 
 abbrev μ-loop : tie.MeasureT-loop
 μ-loop book at n out₀ to p₀ q₀ o₀ out p q o = n - o

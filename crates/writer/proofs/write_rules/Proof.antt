@@ -16,7 +16,7 @@ returns-2 c =
     let k = c .before .before .before .before in
     let e = k .before .before .before in
     let m = e .before .before .before in (
-      rules-copied _ _ _ _ _ _ _ _ _ _ _ _ _ (got (m .before .before .field .ensures) (m .m .given .1)) (e .before .count .ensures) (e .rules-end .ensures)
+      rules-copied _ _ _ _ _ _ _ _ _ _ _ _ _ (got (m .before .before .field .ensures) (m .m .given .1)) (e .before .offset .ensures .0) (e .rules-end .ensures)
           (k .less .ensures ∙ ap₂ _-_ (k .before .before .left .ensures) (k .before .left2 .ensures)) (c .before .before .copy .ensures .0),
       omega arith,
     )

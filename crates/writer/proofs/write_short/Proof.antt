@@ -8,7 +8,7 @@ write-fitting-requires : tie.Need-write-fitting-requires
 write-fitting-requires c κs =
     let n = c .before .before .before .before in
     let q = n .before .before in
-    (q .before .before .before .before .before .before .before .before .pre, accepted-of (rw (n .n .given .1) at (q .read-book .ensures)))
+    (q .before .before .before .before .before .pre, accepted-of (rw (n .n .given .1) at (q .read-book .ensures)))
 
 returns : tie.Need-returns
 returns c = answers-refused _ _ _ ((rw (c .before .k .given .1) at (c .before .before .before .read-book .ensures)) .is)

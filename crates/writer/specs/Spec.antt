@@ -1,14 +1,11 @@
--- What the writer answers, and the output behind it. Assumes nothing.
+-- What the writer answers, and the output behind it (document 01, 'What is checked where', 'Book writer'). Assumes nothing.
 use mathlib.Core.List.{List, _++_}
 use mathlib.Core.Path.{_≡_}
 use Prim.Native.Nat.{ℕ}
 use lib.Dec.{ltb}
 use lib.ListN.{length, drop}
 use Rattle.paper.specs.Result.{Result, refused, accepted, if}
-use Rattle.paper.specs.Book.{Book}
-use Rattle.paper.specs.Reader.{readBook}
 use Rattle.paper.specs.Page.{writtenOf}
-use Rattle.side.specs.Side.{Table}
 use Rattle.writer.specs.declared.Written as D
 
 pub record Outcome : Type 0 where
@@ -26,9 +23,3 @@ writing (accepted ws) output =
 -- r and output′ are what the writer gives for a book's bytes and an output
 pub record Answers (book output output′ : List ℕ) (r : D.Written) : Type 0 where
   pub is : writing (writtenOf book) output ≡ record { answer = r; output = output′ }
-
--- a book that is read, with n operators and their arities
-pub record Accepted (bytes : List ℕ) (n : ℕ) (arities : List ℕ) : Type 0 where
-  pub book : Book
-  pub is : readBook bytes ≡ accepted book
-  pub table : Table (book .operators) n arities

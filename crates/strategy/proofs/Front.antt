@@ -1,8 +1,8 @@
 -- A list at the front of an array: how the code that settles reads and changes it. Assumes nothing.
 use mathlib.Core.Bool.{Bool, true, false}
 use mathlib.Core.List.{List, [], _∷_, _++_}
-use mathlib.Core.Path.{_≡_, refl, sym, ap, ap₂, _∙_}
-use Prim.Native.Nat.{ℕ, zero, suc, _+_, _-_, _≤_, _<_}
+use mathlib.Core.Path.{_≡_, sym, ap, ap₂, _∙_}
+use Prim.Native.Nat.{ℕ, suc, _+_, _-_, _≤_, _<_}
 use native.Mathlib.Omega.{arith}
 use native.Mathlib.Numerals.{add-one}
 use borrow.Author.Tests.{eq-eqb, ne-eqb, lt-ltb, le-ltb}
@@ -12,16 +12,12 @@ use lib.Seq.{length-take-le, take-take, take-suc-set, getD-take, drop-cons, getD
 use Rattle.paper.specs.Result.{if}
 use Rattle.paper.specs.Strategy.{has, upward, default}
 use Rattle.paper.specs.Writer.{numbers}
-use Rattle.strategy.specs.Settling.{ends-in-zero, closed, keeping, opening, settling, Kept}
+use Rattle.strategy.specs.Settling.{ends-in-zero, closed, keeping, opening, settling, AtFront}
+use Rattle.tables.proofs.Rows.{getD-any}
 use Rattle.strategy.proofs.OnePass.{has-cons}
 
-pub getD-any : (l : List ℕ) (i d e : ℕ) → i < length l → getD l i d ≡ getD l i e
-getD-any [] i d e h = absurd (omega arith)
-getD-any (x ∷ l) zero d e h = refl
-getD-any (x ∷ l) (suc i) d e h = getD-any l i d e (omega arith)
-
 module _ (kept : List ℕ) (len : ℕ) (h : length kept ≡ 32) where
-  pub kept-push : (v : ℕ) → len < 32 → Kept (take len kept ++ (v ∷ [])) (len + 1) (set kept len v)
+  pub kept-push : (v : ℕ) → len < 32 → AtFront (take len kept ++ (v ∷ [])) (len + 1) (set kept len v)
   kept-push v l =
       record { is = rw (add-one len) (take-suc-set kept len v (omega arith)); long = length-set kept len v ∙ h }
 
@@ -61,7 +57,7 @@ module _ (kept : List ℕ) (len : ℕ) (h : length kept ≡ 32) where
 
   -- the ways to close a group
   module _ (g : ℕ) (l : len < 32) where
-    pub close-none : len ≡ g + 1 → Kept (closed (take len kept) g) g kept
+    pub close-none : len ≡ g + 1 → AtFront (closed (take len kept) g) g kept
     unfolding closed
     close-none e =
         record {
@@ -69,7 +65,7 @@ module _ (kept : List ℕ) (len : ℕ) (h : length kept ≡ 32) where
           long = h;
         }
 
-    pub close-one : len ≡ g + 2 → (x : ℕ) → x ≡ getD kept (g + 1) 0 → Kept (closed (take len kept) g) (g + 1) (set kept g x)
+    pub close-one : len ≡ g + 2 → (x : ℕ) → x ≡ getD kept (g + 1) 0 → AtFront (closed (take len kept) g) (g + 1) (set kept g x)
     unfolding closed
     close-one e x q =
         let t = taken (omega arith) in
@@ -81,8 +77,8 @@ module _ (kept : List ℕ) (len : ℕ) (h : length kept ≡ 32) where
           long = length-set kept g x ∙ h;
         }
 
-    pub close-more : (len ≡ g + 1 → ⊥) → (len ≡ g + 2 → ⊥) → (r : ℕ) (kept′ : List ℕ) → Kept (take len kept ++ (9 ∷ [])) r kept′ →
-        Kept (closed (take len kept) g) r kept′
+    pub close-more : (len ≡ g + 1 → ⊥) → (len ≡ g + 2 → ⊥) → (r : ℕ) (kept′ : List ℕ) → AtFront (take len kept ++ (9 ∷ [])) r kept′ →
+        AtFront (closed (take len kept) g) r kept′
     unfolding closed
     close-more m n r kept′ k =
         let t = taken (omega arith) in
@@ -109,10 +105,10 @@ module _ (us : List ℕ) (g v : ℕ) where
   unfolding keeping
   keeping-close h = simp (ne-eqb v 0 (λ z. omega arith), le-ltb v 8 (omega arith), ne-eqb v 8 (λ z. omega arith))
 
-pub kept-as : (us vs : List ℕ) (len : ℕ) (kept : List ℕ) → us ≡ vs → Kept vs len kept → Kept us len kept
+pub kept-as : (us vs : List ℕ) (len : ℕ) (kept : List ℕ) → us ≡ vs → AtFront vs len kept → AtFront us len kept
 kept-as us vs len kept e k = record { is = k .is ∙ sym e; long = k .long }
 
-pub kept-same : (us kept : List ℕ) (len : ℕ) → us ≡ take len kept → length kept ≡ 32 → Kept us len kept
+pub kept-same : (us kept : List ℕ) (len : ℕ) → us ≡ take len kept → length kept ≡ 32 → AtFront us len kept
 kept-same us kept len e h = record { is = sym e; long = h }
 
 -- two lists that are the same from i on
@@ -129,7 +125,7 @@ same-from us vs i j h e =
 -- the turns of the settling loop
 module _ (raw : List ℕ) (count i : ℕ) (h : length raw ≡ 32) (l : count ≤ 31) where
   pub settling-more : (kept kept′ : List ℕ) (len len′ g g′ v : ℕ) → i < count → v ≡ getD raw i 0 → length kept ≡ 32 → len ≤ 32 → g′ ≡ opening len g v →
-      Kept (keeping (take len kept) g′ v) len′ kept′ →
+      AtFront (keeping (take len kept) g′ v) len′ kept′ →
       settling (take len kept) g (drop i (take count raw)) ≡ settling (take len′ kept′) g′ (drop (i + 1) (take count raw))
   unfolding settling
   settling-more kept kept′ len len′ g g′ v k e m n q s =
@@ -157,7 +153,7 @@ module _ (kept : List ℕ) (i m : ℕ) (h : length kept ≡ 32) (l : i < 32) whe
       ∙ ap (λ (us : List ℕ). us ++ numbers (upward (suc i) n)) (sym (take-suc-set kept i x (omega arith)))
       ∙ ap (λ (j : ℕ). take j (set kept i x) ++ numbers (upward j n)) (sym (add-one i)))
 
-  pub default-end : (us : List ℕ) (n : ℕ) → us ≡ take i kept ++ numbers (upward i m) → m ≡ 0 → n ≡ i → Kept us (n + 1) (set kept n 0)
+  pub default-end : (us : List ℕ) (n : ℕ) → us ≡ take i kept ++ numbers (upward i m) → m ≡ 0 → n ≡ i → AtFront us (n + 1) (set kept n 0)
   unfolding upward numbers
   default-end us n e z q =
       record {
