@@ -11,8 +11,7 @@ use Rattle.paper.specs.Tree.{node, label, preorder, preorders}
 use Rattle.paper.specs.Book.{Operator, Symbol, Side, Rule, Book}
 use Rattle.paper.specs.Sound.{IsOperator}
 use Rattle.paper.specs.Writer.{concat, write-symbol}
-use Rattle.paper.proofs.Books.{GoodBook}
-use Rattle.paper.proofs.Rules.{Fits, GoodSide}
+use Rattle.paper.specs.WellFormed.{Fits, GoodSide, GoodBook}
 use Rattle.paper.proofs.Tests.{eqb-cases}
 use Rattle.tables.specs.Layout.{first-in, next-in, left-in, with-link}
 use Rattle.tables.specs.Tables.{Stand, ruleAt, Sides, NoneOf, FirstOf, Root, ChainedFrom}

@@ -17,7 +17,8 @@ use Rattle.paper.specs.Reader.{read-operator, read-rule, read-count, all-zero, 
 use Rattle.paper.specs.Sound.{All}
 use Rattle.paper.proofs.Bits.{all-drop, field-read}
 use Rattle.paper.proofs.Bytes.{bits-below}
-use Rattle.paper.proofs.Books.{GoodBook, read-book-good}
+use Rattle.paper.specs.WellFormed.{GoodBook}
+use Rattle.paper.proofs.Books.{read-book-good}
 use Rattle.paper.proofs.Tests.{eqb-true, eqb-false, ltb-true, ltb-false}
 use Rattle.paper.proofs.Readers.{refused-accepted, bind-return}
 use Rattle.bits.proofs.Reading.{Got, bits-left}

@@ -10,7 +10,7 @@ use Rattle.paper.specs.Bits.{field}
 use Rattle.paper.specs.Book as P
 use Rattle.paper.specs.Book.{Operator, Rule}
 use Rattle.paper.specs.Reader.{read-operator, read-rule, all-zero, read-end, readBook}
-use Rattle.paper.proofs.Books.{GoodBook}
+use Rattle.paper.specs.WellFormed.{GoodBook}
 use Rattle.tables.specs.Layout.{first-in}
 use Rattle.tables.specs.Tables.{book-of, Operators, Sides, TablesOf}
 use Rattle.side.specs.Contracts.{AritiesIn, bitsAt}

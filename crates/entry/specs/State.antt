@@ -1,15 +1,16 @@
 -- The state of a run as a function of what is kept of it: the arrays of the present term and of the units, and the numbers of its progress. It is a
--- state of the machine on lists. Assumes nothing.
+-- state of the machine on lists (whole/specs/State). Assumes nothing.
 use mathlib.Core.Path.{_≡_}
 use mathlib.Core.List.{List}
 use mathlib.Core.Option.{some}
 use Prim.Native.Nat.{ℕ, _≤_}
-use lib.ListN.{length, take}
+use lib.ListN.{length}
 use Rattle.paper.specs.Line.{symbol-limit}
 use Rattle.paper.specs.Machine as paper
 use Rattle.flat.specs.Machine.{FlatState}
-use Rattle.units.specs.Stacks.{store, units-in}
+use Rattle.units.specs.Stacks.{store}
 use Rattle.units.specs.Contracts.{Stacks-fit}
+use Rattle.whole.specs.State as whole
 use Rattle.whole.specs.declared.Progress.{Progress}
 use Rattle.whole.specs.declared.Limits.{Limits}
 
@@ -17,15 +18,8 @@ use Rattle.whole.specs.declared.Limits.{Limits}
 abbrev pub limited : ℕ → paper.Limits
 limited budget = record { budget = budget; symbols = some symbol-limit }
 
--- the present term is the first symbols, the units are the first of the cells
 abbrev pub state : List ℕ → List ℕ → List ℕ → Progress → Limits → FlatState
-state symbols work units p l = record {
-  symbols = take (p .length) symbols;
-  units = units-in (store work units) (l .units);
-  rewrites = p .rewrites;
-  granted = p .granted;
-  kept = p .kept;
-}
+state symbols work units p l = whole.state (whole.arrays symbols work units) p l
 
 -- the arrays' lengths, and that what is kept lies within them; scratch is room for a filled right side
 pub record Arrays (symbols scratch work units : List ℕ) (p : Progress) (l : Limits) : Type 0 where

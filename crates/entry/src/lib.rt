@@ -3,6 +3,7 @@ use tables::Step;
 use units::Frame;
 use units::Job;
 use whole::Limits;
+use whole::Place;
 use whole::Progress;
 use whole::Whole;
 ghost use mathlib.Core.Option.{some};
@@ -13,6 +14,8 @@ ghost use Rattle.paper.specs.Strategy as P;
 ghost use Rattle.flat.specs.Machine.{FlatState, flat-entry};
 ghost use Rattle.tables.specs.Layout.{step-of, code-in};
 ghost use Rattle.tables.specs.Tables.{book-of};
+ghost use Rattle.whole.specs.State.{progress};
+ghost use Rattle.whole.specs.declared.Whole as W;
 ghost use Rattle.entry.specs.State as S;
 ghost use Rattle.entry.specs.Contracts as E;
 
@@ -44,6 +47,19 @@ fn forked(p: Progress, granted: bool) -> Progress
     next
 }
 
+// A rewrite has been made, and so many symbols are present now.
+fn rewritten(p: Progress, length: usize) -> Progress
+    requires { ⌜ p .rewrites + 1 < 2 ^ 32 ⌝ }
+    ensures { λ r. ⌜ r ≡ progress p (W.Whole.Rewrote length) ⌝ }
+{
+    Progress {
+        length,
+        rewrites: p.rewrites + 1,
+        granted: p.granted,
+        kept: p.kept,
+    }
+}
+
 // WHOLE of the job.
 fn rewrite(
     book: &[u8],
@@ -67,25 +83,20 @@ fn rewrite(
 {
     let u = task.unit;
     let job = task.job;
-    let o = symbols[casts::offset(job.offset)];
+    let a = casts::offset(job.offset);
+    let o = symbols[a];
+    let place = Place {
+        unit: u,
+        offset: a,
+    };
     match whole::rewrite(
-        book,
-        operators,
-        rules,
-        symbols,
-        scratch,
-        work,
-        units,
-        u,
-        job.offset,
-        p,
-        l,
+        book, operators, rules, symbols, scratch, work, units, place, p, l,
     ) {
         Whole::Missed => {
             orders::proceed(operators, work, units, u, o, job);
             Entry::Going(p)
         }
-        Whole::Rewrote(next) => Entry::Going(next),
+        Whole::Rewrote(length) => Entry::Going(rewritten(p, length)),
         Whole::Spent => Entry::Spent,
         Whole::Full => Entry::Full,
     }
