@@ -1,7 +1,7 @@
 -- An accepted run: what run_schedule asks for, and that what it leaves is the definition's answer. Assumes nothing.
 use mathlib.Core.List.{List, _++_}
 use mathlib.Core.Path.{_≡_, refl, sym, ap, ap₂, _∙_, subst, subst₂}
-use Prim.Native.Nat.{ℕ, _+_, _≤_, _<_}
+use Prim.Native.Nat.{ℕ, _+_, _^_, _≤_, _<_}
 use native.Mathlib.Omega.{arith}
 use lib.ListN.{length, take, drop, replicate, length-append, length-drop}
 use lib.Seq.{take-at, length-take-le}
@@ -69,7 +69,7 @@ module _ {book operators rules line : List ℕ} {units budget : ℕ} {schedule w
 
   -- behind load and start: the line's symbols, and the units of the start, as many as there are
   module _ (base : List ℕ) {symbols w cells : List ℕ} {l : Limits} (long : length base ≡ 1024) (loaded : symbols ≡ line ++ drop (length line) base)
-      (started : Started (store w cells)) (same : l .units ≡ units) (limit : l .budget ≡ budget) where
+      (started : Started (store w cells)) (same : l .units ≡ units) (limit : l .budget ≡ budget) (small : budget < 2 ^ 32) where
     abbrev first : FlatState
     first = state symbols w cells (beginning (length line)) l
 
@@ -95,6 +95,7 @@ module _ {book operators rules line : List ℕ} {units budget : ℕ} {schedule w
         known = subst (λ (x : FlatState). All (λ o. o < length (B .operators)) (x .symbols)) (sym first-is) known-first;
       };
       named = rw same (named units schedule (s .units-named));
+      small = rw limit small;
     }
 
     module _ {symbols′ : List ℕ} {r : R.Run} (is : Run.answer r symbols′ ≡ flat-run-from B (limited (l .budget)) 0 schedule first)

@@ -31,6 +31,7 @@ pub record Running (bytes operators rules : List ℕ) (l : Limits) (s : FlatStat
 pub record Turn (l : Limits) (u : ℕ) (s : FlatState) : Type 0 where
   pub one : u < l .units
   pub allowed : s .rewrites ≤ l .budget
+  pub small : l .budget < 2 ^ 32
   pub room : s .granted + s .kept + 1 < 2 ^ 64
 
 -- the progress behind an entry; one that ends the run has changed nothing

@@ -85,12 +85,18 @@ fn rewrite(
     let job = task.job;
     let a = casts::offset(job.offset);
     let o = symbols[a];
-    let place = Place {
-        unit: u,
-        offset: a,
-    };
+    let place = Place { unit: u, offset: a };
     match whole::rewrite(
-        book, operators, rules, symbols, scratch, work, units, place, p, l,
+        book,
+        operators,
+        rules,
+        symbols,
+        scratch,
+        work,
+        units,
+        place,
+        p,
+        l,
     ) {
         Whole::Missed => {
             orders::proceed(operators, work, units, u, o, job);

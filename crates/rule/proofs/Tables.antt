@@ -12,7 +12,7 @@ use Rattle.paper.specs.WellFormed.{Fits}
 use Rattle.paper.specs.WellFormed.{GoodSide}
 use Rattle.paper.specs.Tree.{Complete}
 use Rattle.paper.proofs.Trees.{correct-complete}
-use Rattle.side.specs.Side.{Held}
+use Rattle.side.specs.Contracts.{NumberFits}
 use Rattle.tables.specs.Layout.{left-in, right-in}
 use Rattle.tables.specs.Tables.{Stand, ruleAt, Tables}
 use Rattle.tables.proofs.Laws.{arity-at, rule-good, left-at, right-at}
@@ -31,7 +31,7 @@ unfolding preorder count
 one-term ops side g = rw (append-nil (preorder side)) at (correct-complete (symbolArity ops) (cons side nil) (g .correct, tt))
 
 module _ {bytes operators rules : List ℕ} {B : Book} (T : Tables bytes operators rules B) where
-  held : (s : Symbol) → Fits (B .operators) s → Held s
+  held : (s : Symbol) → Fits (B .operators) s → NumberFits s
   held (Symbol.operator o) h = let f = T .good .few-operators in omega arith
   held (Symbol.variable v) h = h
 

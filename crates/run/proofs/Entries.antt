@@ -75,6 +75,7 @@ module _ {bytes operators rules : List ℕ} {l : Limits} {schedule : List ℕ} w
     along-turn r room h u eu = record {
       one = rw eu (all-at _ 0 schedule i (r .named) h);
       allowed = a .tallied .allowed;
+      small = r .small;
       room = omega (arith, a .tallied .forks);
     }
 

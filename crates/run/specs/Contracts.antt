@@ -1,7 +1,7 @@
 -- The run over a schedule (document 01, 'How a run ends'): its answer is that of the machine on lists. Assumes nothing.
 use mathlib.Core.List.{List}
 use mathlib.Core.Path.{_≡_}
-use Prim.Native.Nat.{ℕ, _+_, _≤_, _<_}
+use Prim.Native.Nat.{ℕ, _+_, _^_, _≤_, _<_}
 use lib.ListN.{length, take}
 use Rattle.paper.specs.Machine as paper
 use Rattle.paper.specs.Sound.{All}
@@ -24,10 +24,11 @@ ending Ending.Cut = paper.cut
 abbrev pub beginning : ℕ → Progress
 beginning length = record { length = length; rewrites = 0; granted = 0; kept = 0 }
 
--- the tables are a book's, s is a state that runs by it reach, and every entry names one of the units
+-- the tables are a book's, s is a state that runs by it reach, every entry names one of the units, and the budget has 32 bits
 pub record Runnable (bytes operators rules : List ℕ) (l : Limits) (schedule : List ℕ) (s : FlatState) : Type 0 where
   pub running : Running bytes operators rules l s
   pub named : All (λ u. u < l .units) schedule
+  pub small : l .budget < 2 ^ 32
 
 -- the answer that a run's numbers and the symbols that it leaves are
 abbrev pub answer : Run → List ℕ → FlatAnswer

@@ -2,6 +2,7 @@
 use borrow.Author.Needs.{needs}
 use mathlib.Core.Path.{refl, ap, _∙_}
 use Prim.Native.Nat.{ℕ}
+use native.Mathlib.Omega.{arith}
 use lib.ListN.{replicate}
 use Rattle.engine.proofs.Frame.{frame-of}
 use Rattle.engine.proofs.Runs.{short, arrays, runnable, reduced}
@@ -25,9 +26,9 @@ run-schedule-requires c κs =
     let b = i .before .before .before in
     let l = b .before .before .before in
     let s = l .before .before .before .before .before .before .before in
-    let a = arrays (s .pre .0) (s .pre .1) (replicate 1024 0) refl (l .load .ensures) (b .start .ensures) (i .index .ensures .0) refl in
-    let r = runnable (s .pre .0) (s .pre .1) (replicate 1024 0) refl (l .load .ensures) (b .start .ensures) (i .index .ensures .0) refl in
-    (a (replicate 1024 0) refl, (r, ?))
+    let a = arrays (s .pre .0) (s .pre .1) (replicate 1024 0) refl (l .load .ensures) (b .start .ensures) (i .index .ensures .0) refl (omega (arith, s .fits)) in
+    let r = runnable (s .pre .0) (s .pre .1) (replicate 1024 0) refl (l .load .ensures) (b .start .ensures) (i .index .ensures .0) refl (omega (arith, s .fits)) in
+    (a (replicate 1024 0) refl, r)
 
 hand-out-requires : tie.Need-hand-out-requires
 hand-out-requires c κs =
@@ -55,7 +56,7 @@ returns c =
     let l = b .before .before .before in
     let s = l .before .before .before .before .before .before .before in
     let e = o .before .before .before .before .before .work2 .given ∙ i .before .before .work .given in
-    reduced (s .pre .0) (s .pre .1) (replicate 1024 0) refl (l .load .ensures) (b .start .ensures) (i .index .ensures .0) refl
+    reduced (s .pre .0) (s .pre .1) (replicate 1024 0) refl (l .load .ensures) (b .start .ensures) (i .index .ensures .0) refl (omega (arith, s .fits))
     (r .run-schedule .ensures .0) (r .run-schedule .ensures .1) (c .before .before .clear .ensures ∙ ap (λ (k : ℕ). replicate k 0) e) (o .hand-out .ensures)
 
 pub post-spec : {M : Type 1} → statement M

@@ -1,12 +1,12 @@
 -- `engine::reduce_book` meets its contract, by the laws of Answers. Assumes nothing.
 use borrow.Author.Needs.{needs}
-use mathlib.Core.Path.{refl}
+use mathlib.Core.Path.{refl, sym}
 use Rattle.engine.proofs.Answers.{by-book, refuses}
 use Rattle.engine.proofs.reduce_book.Statement.{statement}
 use Rattle.engine.proofs.reduce_book.Tie as tie
 
 read-book-requires : tie.Need-read-book-requires
-read-book-requires c κs = (c .before .before .before .before .before .before .before .pre .short, refl, ?)
+read-book-requires c κs = (c .before .before .before .before .before .before .before .pre .short, refl)
 
 enum-known-k : tie.Need-enum-known-k
 enum-known-k c = search needs
@@ -18,7 +18,7 @@ reduce-line-requires : tie.Need-reduce-line-requires
 reduce-line-requires c κs =
     let b = c .before .before .before .before .before .before .before in
     let is = rw (c .before .before .before .before .before .n .given .1) at (b .read-book .ensures .is) in
-    (b .before .before .before .before .before .before .before .before .pre, record { tables = is .0; count = is .1 })
+    (b .before .before .before .before .before .before .before .before .pre, record { tables = is .0; count = sym (is .1) })
 
 returns : tie.Need-returns
 returns c =

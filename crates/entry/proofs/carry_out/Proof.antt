@@ -1,41 +1,43 @@
+-- `entry::carry_out` meets its contract: order 0 of a job is its VISIT, any other a step. Assumes nothing.
 use borrow.Author.Needs.{needs}
+use native.Mathlib.Omega.{arith}
+use Rattle.entry.proofs.Orders.{visit-asks, visited}
 use Rattle.entry.proofs.carry_out.Statement.{statement}
 use Rattle.entry.proofs.carry_out.Tie as tie
-use Rattle.entry.proofs.carry_out.Reads as reads
-use Rattle.entry.proofs.carry_out.Lts as lts
-use Rattle.casts.proofs.offset.Reads as offset-reads
-use Rattle.entry.proofs.step.Reads as step-reads
-use Rattle.orders.proofs.visit.Reads as visit-reads
 
--- src/lib.rt:180:25
 offset-requires : tie.Need-offset-requires
 offset-requires c κs = search needs
 
--- src/lib.rt:180:17
 element-copy-out-o : tie.Need-element-copy-out-o
 element-copy-out-o c = search needs
 
--- src/lib.rt:181:9
 visit-requires : tie.Need-visit-requires
-visit-requires c κs = ?
+visit-requires c κs =
+    let a = c .before .before .before in
+    let q = a .before .before .before .before .before .before .pre in
+    let t = q .1 in
+    rw (a .offset .ensures .0) (visit-asks (q .0) (t .0) (t .1) (t .2))
 
--- src/lib.rt:182:9
 same-length : tie.Need-same-length
 same-length c = search needs
 
--- src/lib.rt:182:9
 returns : tie.Need-returns
-returns c = ?
+returns c =
+    let v = c .before .before in
+    let a = v .before .before .before .before in
+    let q = a .before .before .before .before .before .before .pre in
+    let t = q .1 in
+    visited (q .0) (t .0) (t .1) (t .2) (a .before .if1 .taken) (rw (a .offset .ensures .0) at (v .visit .ensures))
 
--- src/lib.rt:184:5
 step-requires : tie.Need-step-requires
-step-requires c κs = ?
+step-requires c κs =
+    let i = c .before .before .before .before in
+    let q = i .before .before .before .before .before .pre in
+    (q .0, (q .1, omega (arith, i .if1 .left)))
 
--- src/lib.rt:158:1
 same-length-2 : tie.Need-same-length-2
 same-length-2 c = search needs
 
--- src/lib.rt:158:1
 returns-2 : tie.Need-returns-2
 returns-2 c = search needs
 

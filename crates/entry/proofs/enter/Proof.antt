@@ -1,85 +1,100 @@
+-- `entry::enter` meets its contract: the top frame of a busy unit is looked at. Assumes nothing.
 use borrow.Author.Needs.{needs}
+use mathlib.Core.Path.{sym, _∙_}
+use borrow.Author.Tests.{not-true, not-false}
+use Rattle.entry.proofs.Facts.{has-frame}
+use Rattle.entry.proofs.Orders.{stayed, finished, slept, exit-asks, exited}
 use Rattle.entry.proofs.enter.Statement.{statement}
 use Rattle.entry.proofs.enter.Tie as tie
-use Rattle.entry.proofs.enter.Reads as reads
-use Rattle.entry.proofs.enter.Lts as lts
-use Rattle.entry.proofs.carry_out.Reads as carry-out-reads
-use Rattle.orders.proofs.exit.Reads as exit-reads
-use Rattle.units.proofs.load.Reads as load-reads
-use Rattle.units.proofs.sleep_unit.Reads as sleep-unit-reads
-use Rattle.units.proofs.top.Reads as top-reads
 
--- src/lib.rt:218:9
 load-requires : tie.Need-load-requires
 load-requires c κs = search needs
 
--- src/lib.rt:220:9
 returns : tie.Need-returns
-returns c = ?
+returns c =
+    let b = c .before .before in
+    let q = b .before .before .before .before .pre in
+    stayed (q .0) (q .1 .0) (q .1 .1) (sym (b .load .ensures .busy) ∙ not-true _ (c .if1 .taken))
 
--- src/lib.rt:222:11
 top-requires : tie.Need-top-requires
-top-requires c κs = ?
+top-requires c κs =
+    let q = c .before .before .before .before .before .before .before .before .pre in
+    has-frame (q .0) (q .1 .0) (q .1 .1)
 
--- src/lib.rt:223:20
 enum-known-job : tie.Need-enum-known-job
 enum-known-job c = search needs
 
--- src/lib.rt:223:28
 carry-out-requires : tie.Need-carry-out-requires
-carry-out-requires c κs = ?
+carry-out-requires c κs =
+    let m = c .before .before .before .before .before in
+    let o = m .before .before in
+    let i = o .before .before .before in
+    let b = i .before .before in
+    let q = b .before .before .before .before .pre in
+    (q .0, (q .1 .0, q .1 .1, record { busy = sym (b .load .ensures .busy) ∙ not-false _ (i .if1 .left); top = rw (m .job .given .1) at (o .top .ensures) }))
 
--- src/lib.rt:235:21
 enum-known-exit : tie.Need-enum-known-exit
 enum-known-exit c = search needs
 
--- src/lib.rt:236:13
 exit-requires : tie.Need-exit-requires
-exit-requires c κs = ?
+exit-requires c κs =
+    let m = c .before .before .before in
+    let o = m .before .before in
+    let i = o .before .before .before in
+    let b = i .before .before in
+    let q = b .before .before .before .before .pre in
+    exit-asks (q .0) (q .1 .0) (q .1 .1) (sym (b .load .ensures .busy) ∙ not-false _ (i .if1 .left)) (rw (m .exit .given .1) at (o .top .ensures))
 
--- src/lib.rt:240:31
 enum-told : tie.Need-enum-told
 enum-told c = search needs
 
--- src/lib.rt:240:13
 sleep-unit-requires : tie.Need-sleep-unit-requires
 sleep-unit-requires c κs = search needs
 
--- src/lib.rt:243:25
 enum-told-2 : tie.Need-enum-told-2
 enum-told-2 c = search needs
 
--- src/lib.rt:199:1
 same-length : tie.Need-same-length
 same-length c = search needs
 
--- src/lib.rt:199:1
 returns-2 : tie.Need-returns-2
 returns-2 c = search needs
 
--- src/lib.rt:199:1
 same-length-2 : tie.Need-same-length-2
 same-length-2 c = search needs
 
--- src/lib.rt:199:1
 returns-3 : tie.Need-returns-3
-returns-3 c = ?
+returns-3 c =
+    let x = c .before .before in
+    let m = x .before .before .before .before in
+    let o = m .before .before in
+    let i = o .before .before .before in
+    let b = i .before .before in
+    let q = b .before .before .before .before .pre in
+    exited (q .0) (q .1 .0) (q .1 .1) (sym (b .load .ensures .busy) ∙ not-false _ (i .if1 .left)) (rw (m .exit .given .1) at (o .top .ensures)) (x .exit2 .ensures)
 
--- src/lib.rt:199:1
 same-length-3 : tie.Need-same-length-3
 same-length-3 c = search needs
 
--- src/lib.rt:199:1
 returns-4 : tie.Need-returns-4
-returns-4 c = ?
+returns-4 c =
+    let m = c .before .before in
+    let o = m .before .before in
+    let i = o .before .before .before in
+    let b = i .before .before in
+    let q = b .before .before .before .before .pre in
+    slept (q .0) (q .1 .0) (q .1 .1) (sym (b .load .ensures .busy) ∙ not-false _ (i .if1 .left)) (rw (m .enum-told .given .1) at (o .top .ensures)) (c .sleep-unit .ensures)
 
--- src/lib.rt:199:1
 same-length-4 : tie.Need-same-length-4
 same-length-4 c = search needs
 
--- src/lib.rt:199:1
 returns-5 : tie.Need-returns-5
-returns-5 c = ?
+returns-5 c =
+    let o = c .before .before in
+    let i = o .before .before .before in
+    let b = i .before .before in
+    let q = b .before .before .before .before .pre in
+    finished (q .0) (q .1 .0) (q .1 .1) (sym (b .load .ensures .busy) ∙ not-false _ (i .if1 .left)) (rw (c .enum-told2 .given .1) at (o .top .ensures))
 
 pub enter-spec : {M : Type 1} → statement M
 enter-spec =

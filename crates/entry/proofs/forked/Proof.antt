@@ -1,24 +1,14 @@
+-- `entry::forked` meets its contract. Assumes nothing.
 use borrow.Author.Needs.{needs}
+use native.Mathlib.Numerals.{add-one}
 use Rattle.entry.proofs.forked.Statement.{statement}
 use Rattle.entry.proofs.forked.Tie as tie
-use Rattle.entry.proofs.forked.Reads as reads
-use Rattle.entry.proofs.forked.Lts as lts
 
--- src/lib.rt:40:24
-add-next : tie.Need-add-next
-add-next c = search needs
-
--- src/lib.rt:42:21
-add-next-2 : tie.Need-add-next-2
-add-next-2 c = search needs
-
--- src/lib.rt:34:1
 returns : tie.Need-returns
-returns c = ?
+returns c = rw (add-one, c .before .if1 .taken)
 
--- src/lib.rt:34:1
 returns-2 : tie.Need-returns-2
-returns-2 c = ?
+returns-2 c = rw (add-one, c .before .if1 .left)
 
 pub forked-spec : {M : Type 1} → statement M
-forked-spec = tie.close (tie.spec add-next add-next-2 returns returns-2)
+forked-spec = tie.close (tie.spec (λ c. search needs) (λ c. search needs) returns returns-2)

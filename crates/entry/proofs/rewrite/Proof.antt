@@ -1,75 +1,116 @@
+-- `entry::rewrite` meets its contract, by the laws of Rewriting. Assumes nothing.
 use borrow.Author.Needs.{needs}
+use mathlib.Core.Path.{refl}
+use native.Mathlib.Omega.{arith}
+use Rattle.entry.proofs.Rewriting.{whole-present, units-due, proceed-asks, rewrites-left, whole-rewrote, whole-spent, whole-full, whole-missed}
 use Rattle.entry.proofs.rewrite.Statement.{statement}
 use Rattle.entry.proofs.rewrite.Tie as tie
-use Rattle.entry.proofs.rewrite.Reads as reads
-use Rattle.entry.proofs.rewrite.Lts as lts
-use Rattle.casts.proofs.offset.Reads as offset-reads
-use Rattle.orders.proofs.proceed.Reads as proceed-reads
-use Rattle.whole.proofs.rewrite.Reads as rewrite-reads
 
--- src/lib.rt:70:21
 offset-requires : tie.Need-offset-requires
 offset-requires c κs = search needs
 
--- src/lib.rt:70:13
 element-copy-out-o : tie.Need-element-copy-out-o
 element-copy-out-o c = search needs
 
--- src/lib.rt:71:11
 rewrite-requires : tie.Need-rewrite-requires
-rewrite-requires c κs = search needs
+rewrite-requires c κs =
+    let a = c .before .before .before .before .before in
+    let q = a .before .before .before .before .pre in
+    let e = a .offset .ensures .0 in
+    let t = q .1 .0 in
+    (
+      whole-present (q .0) (t .0) (t .1) (t .2) (q .1 .1) refl e,
+      q .0 .scratch-long,
+      units-due (q .0) (t .0) (t .1) (t .2) (q .1 .1) refl e,
+    )
 
--- src/lib.rt:85:40
 enum-told : tie.Need-enum-told
 enum-told c = search needs
 
--- src/lib.rt:85:13
 proceed-requires : tie.Need-proceed-requires
-proceed-requires c κs = ?
+proceed-requires c κs =
+    let m = c .before .before in
+    let w = m .before .before .before .before in
+    let a = w .before .before .before .before .before .before in
+    let q = a .before .before .before .before .pre in
+    let e = a .offset .ensures .0 in
+    let t = q .1 .0 in
+    rw e (proceed-asks (q .0) (t .0) (t .1) (t .2) (q .1 .1) refl e (rw (m .enum-told .given .1) at (w .rewrite .ensures) .0))
 
--- src/lib.rt:88:24
-enum-known-next : tie.Need-enum-known-next
-enum-known-next c = search needs
+enum-known-length : tie.Need-enum-known-length
+enum-known-length c = search needs
 
--- src/lib.rt:89:25
+rewritten-requires : tie.Need-rewritten-requires
+rewritten-requires c κs =
+    let m = c .before in
+    let w = m .before .before .before .before in
+    let a = w .before .before .before .before .before .before in
+    let q = a .before .before .before .before .pre in
+    let e = a .offset .ensures .0 in
+    let t = q .1 .0 in
+    let h = rewrites-left (q .0) (t .0) (t .1) (t .2) (q .1 .1) refl e (rw (m .length .given .1) at (w .rewrite .ensures) .0) in
+    omega (arith, h, t .1 .small)
+
 enum-told-2 : tie.Need-enum-told-2
 enum-told-2 c = search needs
 
--- src/lib.rt:90:24
 enum-told-3 : tie.Need-enum-told-3
 enum-told-3 c = search needs
 
--- src/lib.rt:48:1
 same-length : tie.Need-same-length
 same-length c = search needs
 
--- src/lib.rt:48:1
 returns : tie.Need-returns
-returns c = ?
+returns c =
+    let g = c .before .before in
+    let m = g .before .before .before in
+    let w = m .before .before .before .before in
+    let a = w .before .before .before .before .before .before in
+    let q = a .before .before .before .before .pre in
+    let e = a .offset .ensures .0 in
+    let t = q .1 .0 in
+    let d = rw (m .enum-told .given .1) at (w .rewrite .ensures) in
+    whole-missed (q .0) (t .0) (t .1) (t .2) (q .1 .1) refl e (d .0) _ (d .1) (rw e at (g .proceed .ensures))
 
--- src/lib.rt:48:1
 same-length-2 : tie.Need-same-length-2
 same-length-2 c = search needs
 
--- src/lib.rt:48:1
 returns-2 : tie.Need-returns-2
-returns-2 c = ?
+returns-2 c =
+    let m = c .before .before in
+    let w = m .before .before .before .before in
+    let a = w .before .before .before .before .before .before in
+    let q = a .before .before .before .before .pre in
+    let e = a .offset .ensures .0 in
+    let t = q .1 .0 in
+    let d = rw (m .length .given .1) at (w .rewrite .ensures) in
+    whole-rewrote (q .0) (t .0) (t .1) (t .2) (q .1 .1) refl e (d .0) _ (d .1) _ (c .rewritten .ensures)
 
--- src/lib.rt:48:1
 same-length-3 : tie.Need-same-length-3
 same-length-3 c = search needs
 
--- src/lib.rt:48:1
 returns-3 : tie.Need-returns-3
-returns-3 c = ?
+returns-3 c =
+    let w = c .before .before .before .before in
+    let a = w .before .before .before .before .before .before in
+    let q = a .before .before .before .before .pre in
+    let e = a .offset .ensures .0 in
+    let t = q .1 .0 in
+    let d = rw (c .enum-told2 .given .1) at (w .rewrite .ensures) in
+    whole-spent (q .0) (t .0) (t .1) (t .2) (q .1 .1) refl e _ (d .1) (d .0)
 
--- src/lib.rt:48:1
 same-length-4 : tie.Need-same-length-4
 same-length-4 c = search needs
 
--- src/lib.rt:48:1
 returns-4 : tie.Need-returns-4
-returns-4 c = ?
+returns-4 c =
+    let w = c .before .before .before .before in
+    let a = w .before .before .before .before .before .before in
+    let q = a .before .before .before .before .pre in
+    let e = a .offset .ensures .0 in
+    let t = q .1 .0 in
+    let d = rw (c .enum-told3 .given .1) at (w .rewrite .ensures) in
+    whole-full (q .0) (t .0) (t .1) (t .2) (q .1 .1) refl e _ (d .1) (d .0)
 
 pub rewrite-spec : {M : Type 1} → statement M
 rewrite-spec =
@@ -80,7 +121,8 @@ rewrite-spec =
     rewrite-requires
     enum-told
     proceed-requires
-    enum-known-next
+    enum-known-length
+    rewritten-requires
     enum-told-2
     enum-told-3
     same-length

@@ -1,107 +1,138 @@
+-- `entry::step` meets its contract: the step that the table has says which order it is. Assumes nothing.
+use native.Mathlib.Omega.{arith}
 use borrow.Author.Needs.{needs}
+use Rattle.entry.proofs.Facts.{next-most, rowed, can-proceed, step-there}
+use Rattle.entry.proofs.Orders.{visit-place, visit-argument-asks, visited-argument, joined}
+use Rattle.entry.proofs.Forking.{fork-place, fork-asks, fork-entered}
 use Rattle.entry.proofs.step.Statement.{statement}
 use Rattle.entry.proofs.step.Tie as tie
-use Rattle.entry.proofs.step.Reads as reads
-use Rattle.entry.proofs.step.Lts as lts
-use Rattle.casts.proofs.offset.Reads as offset-reads
-use Rattle.entry.proofs.forked.Reads as forked-reads
-use Rattle.entry.proofs.rewrite.Reads as rewrite-reads
-use Rattle.orders.proofs.fork.Reads as fork-reads
-use Rattle.orders.proofs.join.Reads as join-reads
-use Rattle.orders.proofs.visit_argument.Reads as visit-argument-reads
-use Rattle.tables.proofs.step_at.Reads as step-at-reads
 
--- src/lib.rt:117:21
 offset-requires : tie.Need-offset-requires
 offset-requires c κs = search needs
 
--- src/lib.rt:117:13
 element-copy-out-o : tie.Need-element-copy-out-o
 element-copy-out-o c = search needs
 
--- src/lib.rt:118:41
 sub-step-at : tie.Need-sub-step-at
 sub-step-at c = search needs
 
--- src/lib.rt:118:11
 step-at-requires : tie.Need-step-at-requires
-step-at-requires c κs = ?
+step-at-requires c κs =
+    let t = c .before .before .before .before .before .before .pre .1 .0 in
+    omega (arith, next-most (c .before .before .before .before .before .before .pre .0) (t .0) (t .1) (t .2))
 
--- src/lib.rt:120:23
 enum-told : tie.Need-enum-told
 enum-told c = search needs
 
--- src/lib.rt:125:13
 enum-told-2 : tie.Need-enum-told-2
 enum-told-2 c = search needs
 
--- src/lib.rt:121:24
 rewrite-requires : tie.Need-rewrite-requires
-rewrite-requires c κs = ?
+rewrite-requires c κs =
+    let m = c .before .before .before .before in
+    let k = m .before .before in
+    let a = k .before .before .before in
+    let q = a .before .before .before .before .pre in
+    let e = rw (m .enum-told2 .given .1, a .offset .ensures .0) at (k .step-at .ensures) in
+    (q .0, (q .1 .0, record { one = q .1 .1; is = e }))
 
--- src/lib.rt:133:21
 enum-known-i : tie.Need-enum-known-i
 enum-known-i c = search needs
 
--- src/lib.rt:134:13
 visit-argument-requires : tie.Need-visit-argument-requires
-visit-argument-requires c κs = ?
+visit-argument-requires c κs =
+    let m = c .before .before .before .before in
+    let k = m .before .before in
+    let a = k .before .before .before in
+    let q = a .before .before .before .before .pre in
+    let t = q .1 .0 in
+    let e = rw (m .i .given .1, a .offset .ensures .0) at (k .step-at .ensures) in
+    rw (a .offset .ensures .0)
+    ((rowed (q .0) (t .0) (t .1) (t .2), visit-place (q .0) (t .0) (t .1) (t .2) (q .1 .1) e), visit-argument-asks (q .0) (t .0) (t .1) (t .2) (q .1 .1) e)
 
--- src/lib.rt:137:20
 enum-known-i-2 : tie.Need-enum-known-i-2
 enum-known-i-2 c = search needs
 
--- src/lib.rt:138:17
 fork-requires : tie.Need-fork-requires
-fork-requires c κs = ?
+fork-requires c κs =
+    let m = c .before .before .before .before in
+    let k = m .before .before in
+    let a = k .before .before .before in
+    let q = a .before .before .before .before .pre in
+    let t = q .1 .0 in
+    let e = rw (m .i2 .given .1, a .offset .ensures .0) at (k .step-at .ensures) in
+    rw (a .offset .ensures .0)
+    ((rowed (q .0) (t .0) (t .1) (t .2), fork-place (q .0) (t .0) (t .1) (t .2) (q .1 .1) e .place), fork-asks (q .0) (t .0) (t .1) (t .2) (q .1 .1) e)
 
--- src/lib.rt:150:26
 forked-requires : tie.Need-forked-requires
 forked-requires c κs = search needs
 
--- src/lib.rt:153:37
 enum-told-3 : tie.Need-enum-told-3
 enum-told-3 c = search needs
 
--- src/lib.rt:153:13
 join-requires : tie.Need-join-requires
-join-requires c κs = ?
+join-requires c κs =
+    let k = c .before .before .before .before in
+    let a = k .before .before .before in
+    let q = a .before .before .before .before .pre in
+    let t = q .1 .0 in
+    rw (a .offset .ensures .0) (rowed (q .0) (t .0) (t .1) (t .2), can-proceed (q .0) (t .0) (t .1) (t .2))
 
--- src/lib.rt:95:1
 returns : tie.Need-returns
-returns c = ?
+returns c =
+    let k = c .before .before in
+    let a = k .before .before .before in
+    let q = a .before .before .before .before .pre in
+    let t = q .1 .0 in
+    absurd (step-there (q .0) (t .0) (t .1) (t .2) (q .1 .1) (rw (c .enum-told .given .1, a .offset .ensures .0) at (k .step-at .ensures)))
 
--- src/lib.rt:95:1
 same-length : tie.Need-same-length
 same-length c = search needs
 
--- src/lib.rt:95:1
 returns-2 : tie.Need-returns-2
 returns-2 c = search needs
 
--- src/lib.rt:95:1
 same-length-2 : tie.Need-same-length-2
 same-length-2 c = search needs
 
--- src/lib.rt:95:1
 returns-3 : tie.Need-returns-3
-returns-3 c = ?
+returns-3 c =
+    let v = c .before .before in
+    let m = v .before .before .before .before .before in
+    let k = m .before .before in
+    let a = k .before .before .before in
+    let q = a .before .before .before .before .pre in
+    let t = q .1 .0 in
+    let e = rw (m .i .given .1, a .offset .ensures .0) at (k .step-at .ensures) in
+    visited-argument (q .0) (t .0) (t .1) (t .2) (q .1 .1) e (rw (a .offset .ensures .0) at (v .visit-argument .ensures))
 
--- src/lib.rt:95:1
 same-length-3 : tie.Need-same-length-3
 same-length-3 c = search needs
 
--- src/lib.rt:95:1
 returns-4 : tie.Need-returns-4
-returns-4 c = ?
+returns-4 c =
+    let v = c .before .before .before in
+    let m = v .before .before .before .before .before in
+    let k = m .before .before in
+    let a = k .before .before .before in
+    let q = a .before .before .before .before .pre in
+    let t = q .1 .0 in
+    let e = rw (m .i2 .given .1, a .offset .ensures .0) at (k .step-at .ensures) in
+    fork-entered (q .0) (t .0) (t .1) (t .2) (q .1 .1) e (rw (a .offset .ensures .0) at (v .fork .ensures)) _ (c .forked .ensures)
 
--- src/lib.rt:95:1
 same-length-4 : tie.Need-same-length-4
 same-length-4 c = search needs
 
--- src/lib.rt:95:1
 returns-5 : tie.Need-returns-5
-returns-5 c = ?
+returns-5 c =
+    let v = c .before .before in
+    let m = v .before .before .before in
+    let k = m .before .before in
+    let a = k .before .before .before in
+    let q = a .before .before .before .before .pre in
+    let t = q .1 .0 in
+    joined (q .0) (t .0) (t .1) (t .2) (q .1 .1) (rw (m .enum-told3 .given .1, a .offset .ensures .0) at (k .step-at .ensures))
+    (rw (a .offset .ensures .0) at (v .join .ensures))
 
 pub step-spec : {M : Type 1} → statement M
 step-spec =

@@ -36,7 +36,7 @@ enter-requires c κs =
     let b = turn c in
     let a = b .before .loop .inv .0 in
     let s = b .before .before .before .before .before in
-    (a .arrays, ((a .running, along-turn a (s .pre .1) (room b) (b .loop-test .taken) _ (c .index .ensures .0)), ?))
+    (a .arrays, (a .running, along-turn a (s .pre .1) (room b) (b .loop-test .taken) _ (c .index .ensures .0)))
 
 returns : tie.Need-returns Inv-loop μ-loop
 returns c =

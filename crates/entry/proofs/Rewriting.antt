@@ -1,0 +1,158 @@
+-- WHOLE of the job on top of a busy unit's stack: what the code asks holds of each state that runs reach, and its answers are the machine's outcomes.
+-- Assumes nothing.
+use mathlib.Core.Path.{_≡_, refl, sym, ap, ap₂, subst, subst₂, _∙_}
+use mathlib.Core.List.{List, [], _∷_}
+use mathlib.Core.Logic.{inl, inr}
+use mathlib.Core.Option.{some}
+use mathlib.Core.Bool.{true, false}
+use Prim.Native.Nat.{ℕ, suc, _+_, _-_, _^_, _≤_, _<_}
+use native.Mathlib.Nat.{le-trans}
+use native.Mathlib.Omega.{arith}
+use lib.ListN.{length, getD, take, drop}
+use Rattle.paper.specs.Strategy.{Step}
+use Rattle.paper.specs.Book.{Book, arity}
+use Rattle.paper.specs.Machine as paper
+use Rattle.paper.specs.Machine.{Ending}
+use Rattle.paper.specs.Sound.{In, All}
+use Rattle.paper.proofs.Lists.{all-of}
+use Rattle.flat.specs.Symbols.{Hit, rewrite}
+use Rattle.flat.specs.Machine.{Frame, FlatUnit, unit, FlatState, FlatOutcome, going, ended, with-unit, with-units, proceed, do-step, do-whole, flat-entry}
+use Rattle.flat.specs.Rules.{stack, Rules}
+use Rattle.flat.proofs.Tallies.{Tallied, tallied-next}
+use Rattle.tables.specs.Layout.{step-of, code-in, steps-in, Rowed}
+use Rattle.units.specs.Stacks.{store, Below, Offsets, units-in}
+use Rattle.units.proofs.Units.{at-is}
+use Rattle.units.specs.declared.frames.Job.{Job}
+use Rattle.orders.specs.Contracts as O
+use Rattle.rule.specs.Contracts.{Present}
+use Rattle.whole.specs.State as whole
+use Rattle.whole.specs.Contracts as W
+use Rattle.whole.specs.declared.Whole as D
+use Rattle.whole.specs.declared.Place.{Place}
+use Rattle.whole.specs.declared.Progress.{Progress}
+use Rattle.whole.specs.declared.Limits.{Limits}
+use Rattle.entry.specs.State.{state, Arrays}
+use Rattle.entry.specs.Contracts.{Running, Turn, Working, Next}
+use Rattle.entry.proofs.Facts as F
+use Rattle.entry.proofs.Orders as orders
+
+-- what holds of each unit holds of all
+all-units : (P : FlatUnit → Type 0) (us : List FlatUnit) → ((v : ℕ) → P (unit us v)) → All P us
+all-units P [] p = tt
+all-units P (x ∷ us) p = (p 0, all-units P us (λ v. p (suc v)))
+
+-- the jobs of all units are inside the term
+offsets-inside : {B : Book} {L : paper.Limits} {s : FlatState} → Rules B L s → All (λ (x : FlatUnit). Offsets (length (s .symbols)) (x .stack)) (s .units)
+offsets-inside {s = s} r = all-units _ (s .units) (λ v. all-of _ (stack s v) (inside v))
+  where
+    inside : (v : ℕ) (f : Frame) → In f (stack s v) → Below (length (s .symbols)) f
+    inside v (Frame.job a k c) i = r .offsets v a k c i
+    inside v (Frame.exit w i) _ = tt
+    inside v Frame.sleep _ = tt
+    inside v Frame.bingo _ = tt
+
+module _ {bytes operators rules symbols scratch work units : List ℕ} {u : ℕ} {p : Progress} {l : Limits} (z : Arrays symbols scratch work units p l)
+    (r : Running bytes operators rules l (state symbols work units p l)) (t : Turn l u (state symbols work units p l)) {x : Job}
+    (w : Working work units u x) (n : Next operators symbols x Step.whole) {y : Place} (at : y .unit ≡ u) (off : y .offset ≡ x .offset) where
+  abbrev s : FlatState
+  s = state symbols work units p l
+
+  -- WHAT IS ASKED
+
+  pub whole-present : Present bytes operators rules symbols (p .length) (y .offset)
+  whole-present = record {
+    tables = r .tables;
+    short = le-trans (r .short) (omega arith);
+    long = z .symbols-long;
+    most = z .most;
+    inside = omega (arith, off, F.offset-inside z r t w);
+    known = r .known;
+  }
+
+  pub units-due : W.Units-due (store work units) (l .units) y (p .length)
+  units-due = record {
+    few = z .few;
+    one = omega (arith, at, t .one);
+    top = rw at (F.has-frame z r t);
+    offsets = subst (λ (k : ℕ). All (λ (q : FlatUnit). Offsets k (q .stack)) (s .units)) (F.length-is z r t) (offsets-inside (F.rules-hold z r t));
+  }
+
+  -- WHAT IS ANSWERED
+
+  module _ {symbols′ work′ : List ℕ} where
+    -- the machine's outcome is the answer's
+    outcome-is : (a : D.Whole) → W.Carried-out (F.B z r t) y p l (whole.arrays symbols work units) (whole.arrays symbols′ work′ units) a →
+        flat-entry (F.B z r t) (F.L z r t) u s ≡
+        W.outcome y (x .next) (x .count) (drop (x .next) (steps-in operators (F.o z r t w))) (F.below z r t (w .busy) (w .top)) s
+        (whole.state (whole.arrays symbols′ work′ units) (whole.progress p a) l) a
+    unfolding do-step
+    outcome-is a d =
+        let ss = drop (x .next) (steps-in operators (F.o z r t w)) in
+        let fs = F.below z r t (w .busy) (w .top) in
+        let s′ = whole.state (whole.arrays symbols′ work′ units) (whole.progress p a) l in
+        orders.step-entry z r t w (n .one) (n .is)
+        ∙ subst₂ (λ (v q : ℕ).
+        do-whole (F.B z r t) (F.L z r t) v s q (x .next) (x .count) ss fs (rewrite (arity (F.B z r t)) (F.B z r t .rules) q (s .symbols)) ≡
+        W.outcome y (x .next) (x .count) ss fs s s′ a) at off
+        (d .is (x .next) (x .count) ss (Frame.job (x .offset) (x .next) (x .count)) fs (rw at (F.unit-is z r t (w .busy) (w .top))))
+
+    -- the budget is used up; the term would be too long: nothing has changed
+    module _ (scratch′ : List ℕ) (long : length scratch′ ≡ 1024) where
+      pub whole-spent : W.Carried-out (F.B z r t) y p l (whole.arrays symbols work units) (whole.arrays symbols′ work′ units) D.Whole.Spent →
+          (ended Ending.spent (state symbols′ work′ units p l) ≡ flat-entry (F.B z r t) (F.L z r t) u s) × Arrays symbols′ scratch′ work′ units p l
+      whole-spent d = (
+        ap (λ (q : whole.Arrays). ended Ending.spent (whole.state q p l)) (d .stays) ∙ sym (outcome-is D.Whole.Spent d),
+        record { symbols-long = d .long; scratch-long = long; most = z .most; fit = d .fit; few = z .few },
+      )
+
+      pub whole-full : W.Carried-out (F.B z r t) y p l (whole.arrays symbols work units) (whole.arrays symbols′ work′ units) D.Whole.Full →
+          (ended Ending.full (state symbols′ work′ units p l) ≡ flat-entry (F.B z r t) (F.L z r t) u s) × Arrays symbols′ scratch′ work′ units p l
+      whole-full d = (
+        ap (λ (q : whole.Arrays). ended Ending.full (whole.state q p l)) (d .stays) ∙ sym (outcome-is D.Whole.Full d),
+        record { symbols-long = d .long; scratch-long = long; most = z .most; fit = d .fit; few = z .few },
+      )
+
+    -- a rule rewrote the term
+    module _ {k : ℕ} (d : W.Carried-out (F.B z r t) y p l (whole.arrays symbols work units) (whole.arrays symbols′ work′ units) (D.Whole.Rewrote k)) where
+      -- the budget was not used up
+      pub rewrites-left : p .rewrites < l .budget
+      rewrites-left =
+          tallied-next (F.B z r t) (F.L z r t) u s {n = s .granted + s .kept} (record { allowed = t .allowed; forks = omega arith })
+          (outcome-is (D.Whole.Rewrote k) d) .allowed
+
+      pub whole-rewrote : (scratch′ : List ℕ) → length scratch′ ≡ 1024 → (p′ : Progress) → p′ ≡ whole.progress p (D.Whole.Rewrote k) →
+          (going (state symbols′ work′ units p′ l) ≡ flat-entry (F.B z r t) (F.L z r t) u s) × Arrays symbols′ scratch′ work′ units p′ l
+      whole-rewrote scratch′ long p′ e =
+          subst (λ (q : Progress). (going (state symbols′ work′ units q l) ≡ flat-entry (F.B z r t) (F.L z r t) u s) × Arrays symbols′ scratch′ work′ units q l) (sym e)
+          (
+            sym (outcome-is (D.Whole.Rewrote k) d),
+            record { symbols-long = d .long; scratch-long = long; most = d .stays; fit = d .fit; few = z .few },
+          )
+
+    -- no rule matches: nothing has changed yet, and the job goes on
+    module _ (d : W.Carried-out (F.B z r t) y p l (whole.arrays symbols work units) (whole.arrays symbols′ work′ units) D.Whole.Missed) where
+      same-symbols : symbols′ ≡ symbols
+      same-symbols = ap (λ (q : whole.Arrays). q .symbols) (d .stays)
+
+      same-work : work′ ≡ work
+      same-work = ap (λ (q : whole.Arrays). q .store .work) (d .stays)
+
+      pub proceed-asks : Rowed operators (F.o z r t w) × O.Can-proceed x u (store work′ units)
+      proceed-asks = (F.rowed z r t w, subst (λ (k : List ℕ). O.Can-proceed x u (store k units)) (sym same-work) (F.can-proceed z r t w))
+
+      pub whole-missed : (scratch′ : List ℕ) → length scratch′ ≡ 1024 → {work″ units″ : List ℕ} →
+          O.Proceeded (steps-in operators (F.o z r t w)) x u (store work′ units) (store work″ units″) →
+          (going (state symbols′ work″ units″ p l) ≡ flat-entry (F.B z r t) (F.L z r t) u s) × Arrays symbols′ scratch′ work″ units″ p l
+      whole-missed scratch′ long {work″} {units″} q =
+          let ss = steps-in operators (F.o z r t w) in
+          let fs = F.below z r t (w .busy) (w .top) in
+          let c : O.Proceeded ss x u (store work units) (store work″ units″) = subst (λ (k : List ℕ). O.Proceeded ss x u (store k units) (store work″ units″)) same-work q in
+          let e : flat-entry (F.B z r t) (F.L z r t) u s ≡ going (with-units s (units-in (store work″ units″) (l .units))) =
+          outcome-is D.Whole.Missed d
+          ∙ ap₂ (λ (v k : ℕ). going (with-unit s v true (proceed k (suc (x .next)) (x .count) (drop (x .next) ss) fs))) at off
+          ∙ ap (λ (us : List FlatUnit). going (with-units s us))
+          (sym (at-is u (s .units) (O.restack (O.goes-on ss x (x .count))) _ (F.unit-is z r t (w .busy) (w .top))) ∙ sym (c .change .units (l .units))) in
+          (
+            ap (λ (xs : List ℕ). going (state xs work″ units″ p l)) same-symbols ∙ sym e,
+            record { symbols-long = d .long; scratch-long = long; most = z .most; fit = c .change .fit; few = z .few },
+          )
