@@ -10,7 +10,7 @@ use lib.Seq.{length-take-le, take-take, take-suc-set, take-paste}
 use Rattle.paper.specs.Tree.{preorder}
 use Rattle.paper.specs.Book.{Symbol, Side}
 use Rattle.flat.specs.Symbols.{Binding, fill}
-use Rattle.side.specs.Side.{StandingAt}
+use Rattle.side.specs.Contracts.{StandingAt}
 use Rattle.side.specs.declared.Standing as Sd
 use Rattle.tables.specs.Layout.{arity-in}
 use Rattle.term.specs.Contracts.{Pasted}

@@ -14,7 +14,7 @@ use Rattle.paper.specs.Book.{Symbol}
 use Rattle.flat.specs.Symbols as flat
 use Rattle.flat.specs.Symbols.{segment, Binding, bind, skip, match}
 use Rattle.bits.specs.Field.{Nine}
-use Rattle.side.specs.Side.{StandingAt}
+use Rattle.side.specs.Contracts.{StandingAt}
 use Rattle.side.specs.declared.Standing as Sd
 use Rattle.side.proofs.There.{stands-operator}
 use Rattle.tables.specs.Layout.{arity-in}

@@ -17,7 +17,7 @@ use Rattle.paper.proofs.Readers.{accepted-injective}
 use Rattle.paper.proofs.Rules as paper
 use Rattle.paper.proofs.Rules.{symbol-written}
 use Rattle.paper.proofs.Trees.{Complete}
-use Rattle.side.specs.Side.{bitsAt, standing, Held, StandingAt}
+use Rattle.side.specs.Contracts.{bitsAt, standing, NumberFits, StandingAt}
 use Rattle.side.specs.declared.Standing as Sd
 use Rattle.tables.specs.Layout.{arity-in}
 use Rattle.rule.specs.Packed.{symbol-arity, Stands, Goes, All-at}
@@ -31,13 +31,13 @@ taken arity next size = record { arity = arity; next = next; size = size }
 any : List Operator
 any = replicate 256 (record { arity = 0; strategy = [] })
 
-fits : (s : Symbol) → Held s → paper.Fits any s
+fits : (s : Symbol) → NumberFits s → paper.Fits any s
 unfolding any
 fits (Symbol.operator o) h = rw length-replicate h
 fits (Symbol.variable v) h = h
 
 -- the first of the symbols that bits spell is read off them
-first : (s : Symbol) (ss : List Symbol) (rest xs : List ℕ) → Held s → xs ≡ concat write-symbol (s ∷ ss) ++ rest →
+first : (s : Symbol) (ss : List Symbol) (rest xs : List ℕ) → NumberFits s → xs ≡ concat write-symbol (s ∷ ss) ++ rest →
     read-symbol any xs ≡ accepted (record { value = s; left = concat write-symbol ss ++ rest })
 unfolding any concat return
 first s ss rest xs f e =
@@ -56,7 +56,7 @@ module _ (bytes : List ℕ) (operators : List ℕ) where
   Took due room ss (Sd.Standing.Operator o next) = Behind due room ss (Symbol.operator o) next
   Took due room ss (Sd.Standing.Variable v next) = Behind due room ss (Symbol.variable v) next
 
-  behind : (due room : ℕ) (s : Symbol) (ss : List Symbol) (rest : List ℕ) → All Held ss → Complete (symbol-arity operators) (symbol-arity operators s + due) ss →
+  behind : (due room : ℕ) (s : Symbol) (ss : List Symbol) (rest : List ℕ) → All NumberFits ss → Complete (symbol-arity operators) (symbol-arity operators s + due) ss →
       suc (length ss) ≤ room → (t : Symbol) (next : ℕ) →
       _≡_ {A = Read Symbol} (record { value = t; left = bitsAt bytes next }) (record { value = s; left = concat write-symbol ss ++ rest }) →
       Behind (suc due) room (s ∷ ss) t next
@@ -128,7 +128,7 @@ module _ (bytes : List ℕ) (operators : List ℕ) where
   none-left at due room (s ∷ ss) k (inr e) = let l = k .short in absurd (omega arith)
 
   -- bits spell only one list of symbols
-  spelt-once : (due : ℕ) (ss ts : List Symbol) (xs rest rest′ : List ℕ) → All Held ss → All Held ts → Complete (symbol-arity operators) due ss →
+  spelt-once : (due : ℕ) (ss ts : List Symbol) (xs rest rest′ : List ℕ) → All NumberFits ss → All NumberFits ts → Complete (symbol-arity operators) due ss →
       Complete (symbol-arity operators) due ts → xs ≡ concat write-symbol ss ++ rest → xs ≡ concat write-symbol ts ++ rest′ → ss ≡ ts
   spelt-once zero [] [] xs rest rest′ f g c d p q = refl
   spelt-once zero [] (t ∷ ts) xs rest rest′ f g c d p q = absurd d

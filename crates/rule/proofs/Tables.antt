@@ -11,7 +11,7 @@ use Rattle.paper.proofs.Lists.{all-map}
 use Rattle.paper.proofs.Rules as paper
 use Rattle.paper.proofs.Rules.{GoodSide}
 use Rattle.paper.proofs.Trees.{Complete, correct-complete}
-use Rattle.side.specs.Side.{Held}
+use Rattle.side.specs.Contracts.{NumberFits}
 use Rattle.tables.specs.Layout.{left-in, right-in}
 use Rattle.tables.specs.Tables.{Stand, ruleAt, Tables}
 use Rattle.tables.proofs.Laws.{arity-at, rule-good, left-at, right-at}
@@ -30,7 +30,7 @@ unfolding preorder count
 one-term ops side g = rw (append-nil (preorder side)) at (correct-complete (symbolArity ops) (cons side nil) (g .correct, tt))
 
 module _ {bytes operators rules : List ℕ} {B : Book} (T : Tables bytes operators rules B) where
-  held : (s : Symbol) → paper.Fits (B .operators) s → Held s
+  held : (s : Symbol) → paper.Fits (B .operators) s → NumberFits s
   held (Symbol.operator o) h = let f = T .good .few-operators in omega arith
   held (Symbol.variable v) h = h
 

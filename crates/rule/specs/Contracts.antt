@@ -10,7 +10,7 @@ use Rattle.paper.specs.Book.{Symbol, Side, Rule, Book, arity}
 use Rattle.paper.specs.Sound.{All, IsOperator}
 use Rattle.flat.specs.Symbols as flat
 use Rattle.flat.specs.Symbols.{Binding, blank, match, fill, rewrite}
-use Rattle.side.specs.Side.{StandingAt}
+use Rattle.side.specs.Contracts.{StandingAt}
 use Rattle.side.specs.declared.Standing as Sd
 use Rattle.tables.specs.Layout.{arity-in, left-in}
 use Rattle.tables.specs.Tables.{ruleAt, Chained, TablesOf, book-of}

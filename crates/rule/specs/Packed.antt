@@ -8,7 +8,7 @@ use Rattle.paper.specs.Book.{Symbol, Side}
 use Rattle.paper.specs.Sound.{All}
 use Rattle.paper.proofs.Trees.{Complete}
 use Rattle.flat.specs.Symbols.{segment, Binding}
-use Rattle.side.specs.Side.{Held}
+use Rattle.side.specs.Contracts.{NumberFits}
 use Rattle.tables.specs.Layout.{arity-in}
 use Rattle.tables.specs.Tables.{Stand}
 
@@ -22,7 +22,7 @@ symbol-arity operators (Symbol.variable v) = 0
 -- the symbols ss stand at a position of the book's bits: `due` terms, in up to room symbols
 pub record Stands (bytes : List ℕ) (at : ℕ) (operators : List ℕ) (due room : ℕ) (ss : List Symbol) : Type 0 where
   pub stand : Stand bytes at ss
-  pub held : All Held ss
+  pub held : All NumberFits ss
   pub complete : Complete (symbol-arity operators) due ss
   pub short : length ss ≤ room
 
