@@ -7,9 +7,10 @@
 enum { RULES = 32, TERM = 1000, TURNS = 301, INNER = 256 };
 enum { END, TICK, BOTH, PAIR, OPERATORS };
 
-uint8_t bench_book_read(const uint8_t *book, size_t len, uint8_t *arities, uint8_t *laid, uint32_t *lefts, uint32_t *rights, uint8_t *chain);
-size_t bench_rule_rewrite(const uint8_t *book, size_t len, size_t n, size_t m, const uint8_t *arities, const uint32_t *lefts, const uint32_t *rights,
-    const uint8_t *chain, uint8_t *symbols, size_t size, size_t offset, uint8_t *scratch);
+uint8_t bench_book_read(const uint8_t *book, size_t len, uint8_t *operators, uint32_t *rules);
+void bench_rule_start(uint8_t *work, size_t work_length, uint16_t *units);
+size_t bench_rule_rewrite(const uint8_t *book, size_t len, const uint8_t *operators, const uint32_t *rules, uint8_t *symbols, size_t size, size_t offset,
+    uint8_t *scratch, uint8_t *work, size_t work_length, const uint16_t *units);
 
 // The unverified rewrite.
 
@@ -88,9 +89,9 @@ static size_t fill(side s, const tables *t, const uint8_t *symbols, const uint16
     return k;
 }
 
-static size_t c_rewrite(const uint8_t *book, size_t len, unsigned m, const tables *t, uint8_t *symbols, size_t size, size_t offset, uint8_t *scratch) {
+static size_t c_rewrite(const uint8_t *book, size_t len, void *of_book, uint8_t *symbols, size_t size, size_t offset, uint8_t *scratch) {
+    const tables *t = of_book;
     uint16_t starts[16], sizes[16];
-    (void)m;
     for (unsigned k = offset < size ? t->chain[symbols[offset]] : 0; k; k = t->chain[255 + k]) {
         unsigned i = k - 1;
         size_t end = match((side){book, 8 * len, t->lefts[i]}, t, symbols, size, offset, starts, sizes);
@@ -154,34 +155,46 @@ static size_t make_term(uint8_t *term) {
 
 static const size_t OFFSET = 202;
 
-static size_t rattle_rewrite(const uint8_t *bytes, size_t len, unsigned m, const tables *t, uint8_t *symbols, size_t size, size_t offset, uint8_t *scratch) {
-    return bench_rule_rewrite(bytes, len, OPERATORS, m, t->arities, t->lefts, t->rights, t->chain, symbols, size, offset, scratch);
+// The library's tables, and the only unit, whose job's offset goes along.
+typedef struct {
+    uint8_t operators[4352];
+    uint32_t rules[1024];
+    uint8_t work[24624];
+    uint16_t units[8];
+} library;
+
+static size_t rattle_rewrite(const uint8_t *bytes, size_t len, void *of_book, uint8_t *symbols, size_t size, size_t offset, uint8_t *scratch) {
+    library *l = of_book;
+    return bench_rule_rewrite(bytes, len, l->operators, l->rules, symbols, size, offset, scratch, l->work, sizeof l->work, l->units);
 }
 
-typedef size_t rewriter(const uint8_t *, size_t, unsigned, const tables *, uint8_t *, size_t, size_t, uint8_t *);
+typedef size_t rewriter(const uint8_t *, size_t, void *, uint8_t *, size_t, size_t, uint8_t *);
 
 // Nanoseconds for one rewrite. The term is set back each time, for both alike.
-static double timed(rewriter *rewrite, const tables *t, const uint8_t *term, uint8_t *symbols) {
+static double timed(rewriter *rewrite, void *of_book, const uint8_t *term, uint8_t *symbols) {
     static uint8_t scratch[1024];
     size_t len = packed_length(&book);
     double start = now();
     for (int i = 0; i < INNER; i++) {
         memcpy(symbols, term, 1024);
-        if (!rewrite(book.bytes, len, RULES, t, symbols, TERM, OFFSET, scratch)) abort();
+        if (!rewrite(book.bytes, len, of_book, symbols, TERM, OFFSET, scratch)) abort();
     }
     return (now() - start) / INNER;
 }
 
 int main(void) {
+    static library l;
     static tables t;
     static uint8_t term[1024], ours[1024], theirs[1024];
     static double rattle[TURNS], c[TURNS];
     make_book();
-    if (bench_book_read(book.bytes, packed_length(&book), t.arities, t.laid, t.lefts, t.rights, t.chain) || make_term(term) != TERM) return 1;
+    size_t len = packed_length(&book);
+    if (bench_book_read(book.bytes, len, l.operators, l.rules) || c_read_book(book.bytes, len, &t) || make_term(term) != TERM) return 1;
+    bench_rule_start(l.work, sizeof l.work, l.units);
     for (int i = 0; i < TURNS; i++) {
-        rattle[i] = timed(rattle_rewrite, &t, term, ours);
+        rattle[i] = timed(rattle_rewrite, &l, term, ours);
         c[i] = timed(c_rewrite, &t, term, theirs);
-        if (memcmp(ours, theirs, 1024) || !memcmp(ours, term, 1024)) {
+        if (memcmp(ours, theirs, TERM) || !memcmp(ours, term, TERM)) {
             printf("the rewrites differ\n");
             return 1;
         }

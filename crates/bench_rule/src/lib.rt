@@ -1,42 +1,65 @@
 // A rewrite for the benchmark.
-use rewrite::Outcome;
+use whole::Limits;
+use whole::Place;
+use whole::Progress;
+use whole::Whole;
 ghost use mathlib.Core.Path.{_≡_};
-ghost use Prim.Native.Nat.{_≤_};
 ghost use lib.ListN.{length};
-ghost use Rattle.rewrite.specs.Ready.{Ready};
+ghost use Rattle.rule.specs.Contracts.{Present};
+ghost use Rattle.units.specs.Stacks.{store};
+ghost use Rattle.units.specs.Contracts.{Eight-regions};
+ghost use Rattle.whole.specs.Contracts.{Units-due};
 
-// The new term's length, or 0. A caller has the tables, n and m from bench_book_read of the same bytes.
+// The units of a run's start.
+#[no_mangle]
+pub extern "C" fn bench_rule_start(work: &mut [u8], units: &mut [u16; 8])
+    requires { ⌜ Eight-regions (store (now work) (now units)) ⌝ }
+{
+    units::start(work, units);
+}
+
+// WHOLE of the term at an offset, by the only unit: the new term's length, or 0. A caller has the tables from bench_book_read of the same bytes, and
+// the units from bench_rule_start.
 #[no_mangle]
 pub extern "C" fn bench_rule_rewrite(
     bytes: &[u8],
-    n: usize,
-    m: usize,
-    arities: &[u8; 256],
-    lefts: &[u32; 256],
-    rights: &[u32; 256],
-    chain: &[u8; 768],
+    operators: &[u8; 4352],
+    rules: &[u32; 1024],
     symbols: &mut [u8; 1024],
     len: usize,
     offset: usize,
     scratch: &mut [u8; 1024],
+    work: &mut [u8],
+    units: &[u16; 8],
 ) -> usize
-    requires { ⌜ (length (now bytes) ≤ 65536) × Ready (now bytes) (now arities) (now lefts) (now rights) (now chain) n m × (length (now symbols) ≡ 1024) × (len ≤ 1024) × (offset ≤ len) × (length (now scratch) ≡ 1024) ⌝ }
+    requires { ⌜ Present (now bytes) (now operators) (now rules) (now symbols) len offset × (length (now scratch) ≡ 1024) × Units-due (store (now work) (now units)) 1 (record { unit = 0; offset = offset }) len ⌝ }
 {
-    match rewrite::rewrite(
+    match whole::rewrite(
         bytes,
-        n,
-        m,
-        arities,
-        lefts,
-        rights,
-        chain,
+        operators,
+        rules,
         symbols,
-        len,
-        offset,
         scratch,
+        work,
+        units,
+        Place {
+            unit: 0,
+            offset: offset,
+        },
+        Progress {
+            length: len,
+            rewrites: 0,
+            granted: 0,
+            kept: 0,
+        },
+        Limits {
+            units: 1,
+            budget: 1,
+        },
     ) {
-        Outcome::Done(_, _, _, new_len) => new_len,
-        Outcome::Full(_, _, _) => 0,
-        Outcome::None => 0,
+        Whole::Rewrote(after) => after,
+        Whole::Missed => 0,
+        Whole::Spent => 0,
+        Whole::Full => 0,
     }
 }

@@ -10,10 +10,11 @@ use native.Mathlib.Omega.{arith}
 use lib.Dec.{ltb}
 use lib.ListN.{length, getD, drop, drop-of-length-le}
 use lib.Seq.{drop-cons}
-use borrow.Author.Tests.{lt-ltb, le-ltb, ltb-true}
-use Rattle.paper.specs.Result.{Result, refused, accepted}
+use borrow.Author.Tests.{lt-ltb, le-ltb, ltb-true, ltb-false}
+use Rattle.paper.specs.Result.{Result, refused, accepted, if}
 use Rattle.paper.specs.Tree.{node, trees}
 use Rattle.paper.specs.Book.{Term, Book, arity}
+use Rattle.paper.specs.Sound.{All}
 use Rattle.paper.specs.Line.{symbol-limit, line-fault, unless-fault, readLine}
 use Rattle.line.specs.declared.Line.the-variants.{Sound, Refused}
 use Rattle.tables.specs.Layout.{arity-in}
@@ -46,6 +47,30 @@ module _ (n : ℕ) (arity : ℕ → ℕ) (l : List ℕ) (i : ℕ) where
   fault-known zero due′ h z k f = absurd (z refl)
   fault-known (suc due) due′ h z k f =
       rw (drop-cons l i 0, add-one) (rw (lt-ltb (getD l i 0) n k, fault) (ap (λ (d : ℕ). fault n arity d (drop (suc i) l)) (omega arith)))
+
+-- a line without fault has known symbols, and not too many
+fault-known-all : (n : ℕ) (arity : ℕ → ℕ) (due : ℕ) (line : List ℕ) → fault n arity due line ≡ none → All (λ o. o < n) line
+unfolding fault
+fault-known-all n arity due [] e = tt
+fault-known-all n arity zero (o ∷ os) e = let z : _≡_ {A = ℕ} 0 1 = cc in absurd (omega arith)
+fault-known-all n arity (suc due) (o ∷ os) e = go (ltb o n) refl (λ d. fault-known-all n arity d os) e
+  where
+    go : (b : Bool) → ltb o n ≡ b → ((d : ℕ) → fault n arity d os ≡ none → All (λ o. o < n) os) →
+        _≡_ {A = Option ℕ} (elim b as (λ z. Option ℕ) [ true ↦ fault n arity (arity o + due) os | false ↦ some 11 ]) none → All (λ o. o < n) (o ∷ os)
+    go true t rest f = (ltb-true o n t, rest (arity o + due) f)
+    go false t rest f = let z : _≡_ {A = ℕ} 0 1 = cc in absurd (omega arith)
+
+pub sound-known : (n : ℕ) (arity : ℕ → ℕ) (line : List ℕ) → judgement n arity line ≡ Sound → All (λ o. o < n) line × (length line ≤ 1024)
+unfolding judgement
+sound-known n arity line e = go (ltb symbol-limit (length line)) refl e
+  where
+    none-of : (f : Option ℕ) → by-fault f ≡ Sound → f ≡ none
+    none-of none h = refl
+    none-of (some r) h = let z : _≡_ {A = ℕ} 0 1 = cc in absurd (omega arith)
+
+    go : (b : Bool) → ltb symbol-limit (length line) ≡ b → if b (Refused 12) (by-fault (fault n arity 1 line)) ≡ Sound → All (λ o. o < n) line × (length line ≤ 1024)
+    go true t h = let z : _≡_ {A = ℕ} 0 1 = cc in absurd (omega arith)
+    go false t h = (fault-known-all n arity 1 line (none-of (fault n arity 1 line) h), ltb-false symbol-limit (length line) t)
 
 module _ (B : Book) {n : ℕ} {operators : List ℕ} (count : length (B .operators) ≡ n) (t : Operators (B .operators) operators) where
   -- the paper's line-fault depends on the book only through the number of operators and their arities

@@ -6,12 +6,17 @@ use cases::say;
 use cases::say_front;
 use cases::say_number;
 use cases::say_refused;
-use rewrite::Outcome;
-use term::Line;
+use line::Line;
+use rule::Hit;
+use whole::Limits;
+use whole::Place;
+use whole::Progress;
+use whole::Whole;
 ghost use mathlib.Core.Path.{_≡_};
 ghost use Prim.Native.Nat.{_<_, _≤_};
-ghost use lib.ListN.{length};
-ghost use Rattle.rewrite.specs.Ready.{Ready};
+ghost use lib.ListN.{length, take};
+ghost use Rattle.tables.specs.Tables.{TablesOf, book-of};
+ghost use Rattle.rule.specs.Contracts.{Present};
 
 fn say_found(i: usize, end: usize, size: usize) {
     say(b"rule ");
@@ -22,85 +27,110 @@ fn say_found(i: usize, end: usize, size: usize) {
     say_number(size);
 }
 
-// The rewrite at the offset.
-fn try_rewrite(
+fn at_most(n: usize) -> usize
+    ensures { λ r. ⌜ r ≤ 1024 ⌝ }
+{
+    if n < 1024 { n } else { 1024 }
+}
+
+// WHOLE of the term at the offset, by the only unit: the filled right side, of size symbols, and the new term.
+fn carry_out(
     bytes: &[u8],
-    n: usize,
-    m: usize,
-    arities: &[u8; 256],
-    lefts: &[u32; 256],
-    rights: &[u32; 256],
-    chain: &[u8; 768],
+    operators: &[u8; 4352],
+    rules: &[u32; 1024],
     symbols: &mut [u8; 1024],
     len: usize,
     offset: usize,
+    size: usize,
 )
-    requires { ⌜ (length (now bytes) ≤ 65536) × Ready (now bytes) (now arities) (now lefts) (now rights) (now chain) n m × (length (now symbols) ≡ 1024) × (len ≤ 1024) × (offset ≤ len) ⌝ }
+    requires { ⌜ Present (now bytes) (now operators) (now rules) (now symbols) len offset ⌝ }
 {
     let mut scratch = [0u8; 1024];
-    match rewrite::rewrite(
+    let mut work = [0u8; 24624];
+    let mut units = [0u16; 8];
+    units::start(&mut work, &mut units);
+    match whole::rewrite(
         bytes,
-        n,
-        m,
-        arities,
-        lefts,
-        rights,
-        chain,
+        operators,
+        rules,
         symbols,
-        len,
-        offset,
         &mut scratch,
+        &mut work,
+        &units,
+        Place {
+            unit: 0,
+            offset: offset,
+        },
+        Progress {
+            length: len,
+            rewrites: 0,
+            granted: 0,
+            kept: 0,
+        },
+        Limits {
+            units: 1,
+            budget: 1,
+        },
     ) {
-        Outcome::None => say(b"none"),
-        Outcome::Full(i, end, size) => {
-            say_found(i, end, size);
-            say(b" full");
-        }
-        Outcome::Done(i, end, size, new_len) => {
-            say_found(i, end, size);
+        Whole::Missed => say(b" missed"),
+        Whole::Spent => say(b" spent"),
+        Whole::Full => say(b" full"),
+        Whole::Rewrote(new_len) => {
             say(b" ");
-            say_front(&scratch, size);
+            say_front(&scratch, at_most(size));
             say(b" ");
             say_front(symbols, new_len);
         }
     }
 }
 
-fn at_most(n: usize) -> usize
-    ensures { λ r. ⌜ (r ≤ n) × (r ≤ 1024) ⌝ }
+// The rewrite at the offset.
+fn try_rewrite(
+    bytes: &[u8],
+    operators: &[u8; 4352],
+    rules: &[u32; 1024],
+    symbols: &mut [u8; 1024],
+    len: usize,
+    offset: usize,
+)
+    requires { ⌜ Present (now bytes) (now operators) (now rules) (now symbols) len offset ⌝ }
 {
-    if n < 1024 { n } else { 1024 }
+    let mut bound = [0; 32];
+    let Hit::Rule(m) = rule::find(bytes, operators, rules, symbols, len, offset, &mut bound) else {
+        say(b"none");
+        return;
+    };
+    let right = tables::right_side(rules, m.rule);
+    let size = rule::filled_size(bytes, right, operators, &bound);
+    say_found(m.rule, m.end, size);
+    carry_out(bytes, operators, rules, symbols, len, offset, size);
 }
 
-// The line's symbols, up to 1,024, at the front of symbols; how many.
+// The line's symbols at the front of symbols; how many.
 fn load(line: &[u8], symbols: &mut [u8; 1024]) -> usize
-    requires { ⌜ length (now symbols) ≡ 1024 ⌝ }
-    ensures { λ r. ⌜ (r ≤ 1024) × (length (now (symbols .exit)) ≡ 1024) ⌝ }
+    requires { ⌜ (length (now line) ≤ 1024) × (length (now symbols) ≡ 1024) ⌝ }
+    ensures { λ r. ⌜ (r ≡ length (now (line .entry))) × (take r (now (symbols .exit)) ≡ now (line .entry)) × (length (now (symbols .exit)) ≡ 1024) ⌝ }
 {
-    let n = at_most(line.len());
     let mut i = 0;
-    while i < n {
+    while i < line.len() {
         symbols[i] = line[i];
         i += 1;
     }
-    n
+    i
 }
 
-// A line against a book that is read.
+// A line against a book of n operators that is read.
 fn try_line(
     bytes: &[u8],
     n: usize,
-    m: usize,
-    arities: &[u8; 256],
-    lefts: &[u32; 256],
-    rights: &[u32; 256],
-    chain: &[u8; 768],
+    operators: &[u8; 4352],
+    rules: &[u32; 1024],
     line: &[u8],
     offset: usize,
 )
-    requires { ⌜ (length (now bytes) ≤ 65536) × Ready (now bytes) (now arities) (now lefts) (now rights) (now chain) n m ⌝ }
+    requires { ⌜ (length (now bytes) ≤ 65536) × TablesOf (now bytes) (now operators) (now rules) × (n ≡ length (book-of (now bytes) .operators)) ⌝ }
 {
-    match term::check_line(line, n, arities) {
+    match line::check_line(line, n, operators) {
         Line::Refused(k) => say_refused(k),
         Line::Sound => {
             let mut symbols = [0u8; 1024];
@@ -109,18 +139,11 @@ fn try_line(
                 say(b"outside");
                 return;
             }
-            try_rewrite(
-                bytes,
-                n,
-                m,
-                arities,
-                lefts,
-                rights,
-                chain,
-                &mut symbols,
-                len,
-                offset,
-            );
+            if len == offset {
+                say(b"none");
+                return;
+            }
+            try_rewrite(bytes, operators, rules, &mut symbols, len, offset);
         }
     }
 }
@@ -128,21 +151,11 @@ fn try_line(
 fn try_book(bytes: &[u8], line: &[u8], offset: usize)
     requires { ⌜ length (now bytes) ≤ 65536 ⌝ }
 {
-    let mut arities = [0u8; 256];
-    let mut laid = [0u8; 4096];
-    let mut lefts = [0u32; 256];
-    let mut rights = [0u32; 256];
-    let mut chain = [0u8; 768];
-    match book::read_book(
-        bytes,
-        &mut arities,
-        &mut laid,
-        &mut lefts,
-        &mut rights,
-        &mut chain,
-    ) {
+    let mut operators = [0u8; 4352];
+    let mut rules = [0u32; 1024];
+    match book::read_book(bytes, &mut operators, &mut rules) {
         Book::Refused(k) => say_refused(k),
-        Book::Read(n, m) => try_line(bytes, n, m, &arities, &lefts, &rights, &chain, line, offset),
+        Book::Read(n) => try_line(bytes, n, &operators, &rules, line, offset),
     }
 }
 

@@ -1,40 +1,35 @@
--- `rule_cases::load` meets its contract. The measure is what is left to load. Assumes nothing.
-use Prim.Native.Nat.{_≤_, _-_}
-use mathlib.Core.Path.{_≡_}
-use lib.ListN.{length}
+-- `rule_cases::load` meets its contract: so far the first i are loaded. Assumes nothing.
+use mathlib.Core.Path.{_≡_, refl, ap, _∙_}
+use Prim.Native.Nat.{ℕ, _≤_, _-_}
+use native.Mathlib.Omega.{arith}
+use lib.ListN.{length, take}
+use lib.Seq.{take-length}
+use denote.Ref.{now}
 use borrow.Author.Needs.{needs}
+use Rattle.rule_cases.proofs.Laws.{load-more}
 use Rattle.rule_cases.proofs.load.Statement.{statement}
 use Rattle.rule_cases.proofs.load.Tie as tie
 
 abbrev Inv-loop : tie.InvT-loop
-Inv-loop line symbols₀ n i₀ symbols i = (i ≤ n) × (n ≤ length line) × (n ≤ 1024) × (length symbols ≡ 1024)
+Inv-loop line symbols₀ i₀ symbols i = (i ≤ length line) × (length symbols ≡ 1024) × (take i symbols ≡ take i line)
 
 abbrev μ-loop : tie.MeasureT-loop
-μ-loop line symbols₀ n i₀ symbols i = n - i
-
-at-most-requires : tie.Need-at-most-requires Inv-loop μ-loop
-at-most-requires c κs = search needs
+μ-loop line symbols₀ i₀ symbols i = length line - i
 
 loop-holds : tie.Need-loop-holds Inv-loop μ-loop
-loop-holds c = search needs
-
-shared-slice-read-symbols : tie.Need-shared-slice-read-symbols Inv-loop μ-loop
-shared-slice-read-symbols c = search needs
-
-element-write-symbols : tie.Need-element-write-symbols Inv-loop μ-loop
-element-write-symbols c = search needs
-
-add-i : tie.Need-add-i Inv-loop μ-loop
-add-i c = search needs
-
-loop-less : tie.Need-loop-less Inv-loop μ-loop
-loop-less c = search needs
+loop-holds c = (omega arith, c .pre .1, refl)
 
 loop-again : tie.Need-loop-again Inv-loop μ-loop
-loop-again c = search needs
+loop-again c =
+    let l = c .before .before in
+    (omega arith, search needs, load-more _ _ (l .loop .i) (omega arith) (omega arith) (l .loop .inv .2))
 
 returns : tie.Need-returns Inv-loop μ-loop
-returns c = search needs
+returns c =
+    let l = c .before .loop in
+    let line = now (c .before .before .args .line) in
+    let e : l .i ≡ length line = omega arith in
+    (e, l .inv .2 ∙ ap (λ (i : ℕ). take i line) e ∙ take-length line, l .inv .1)
 
 pub load-spec : {M : Type 1} → statement M
-load-spec = tie.close (tie.spec Inv-loop μ-loop at-most-requires loop-holds shared-slice-read-symbols element-write-symbols add-i loop-less loop-again returns)
+load-spec = tie.close (tie.spec Inv-loop μ-loop loop-holds (λ c. search needs) (λ c. search needs) (λ c. search needs) (λ c. search needs) loop-again returns)
