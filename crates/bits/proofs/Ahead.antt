@@ -4,13 +4,13 @@ use mathlib.Core.Path.{_≡_, refl, sym, ap, ap₂, _∙_}
 use Prim.Native.Nat.{ℕ, zero, suc, _+_, _-_, _*_, _/_, _%_, _^_, _≤_, _<_}
 use native.Mathlib.Nat.{suc-add, mod-lt, mod-eq-of-lt}
 use native.Mathlib.Omega.{arith}
-use lib.ListN.{length, getD, take, drop, replicate, drop-of-length-le, length-append, take-append-drop}
+use lib.ListN.{length, getD, take, drop, List·getD-eq-default, replicate, drop-of-length-le, length-append, take-append-drop}
 use lib.Pow.{pow-pos, shr-le, shr-mod}
 use lib.Pow as pow
 use lib.Seq.{take-at, drop-at, drop-drop, take-take, take-append-le, drop-append-le, drop-append-add}
 use Rattle.paper.specs.Bits.{toBits, value, bitsOf}
 use Rattle.paper.proofs.Bits.{length-toBits, value-toBits}
-use Rattle.bits.specs.Field.{Nine}
+use Rattle.bits.specs.Field.{Pair, Nine}
 use Rattle.bits.proofs.Bytes.{split, two, three}
 use Rattle.bits.proofs.Reading.{bits-left}
 
@@ -60,12 +60,17 @@ ahead (x ∷ xs) (suc i) k b c h e f l =
     ahead xs i k b c h e (f ∙ ap (λ (n : ℕ). getD (x ∷ xs) n 0) (suc-add i 1)) l
     ∙ ap (λ (ys : List ℕ). take 9 (ys ++ replicate 9 0)) (sym (ap (λ (n : ℕ). drop n (toBits 8 x ++ bitsOf xs)) j ∙ drop-append-add (toBits 8 x) (bitsOf xs) (8 * i + k)))
 
-pub nine-read : (bytes : List ℕ) (at b c p r : ℕ) → b ≡ getD bytes (at / 8) 0 → c ≡ getD bytes (at / 8 + 1) 0 → c < 256 → p ≡ 2 ^ (7 - at % 8) →
-    r ≡ (b * 256 + c) / p % 512 → Nine bytes at r
-nine-read bytes at b c p r e f l q s =
+-- two bytes, where the second is not there
+pub pair-end : {bytes : List ℕ} {i b : ℕ} → b ≡ getD bytes i 0 → length bytes ≤ i + 1 → Pair bytes i (b * 256)
+pair-end {bytes} {i} e l =
+    let z : getD bytes (i + 1) 0 ≡ 0 = List·getD-eq-default bytes 0 l in
+    record { is = omega arith; low = omega arith }
+
+pub nine-read : (bytes : List ℕ) (at w p r : ℕ) → Pair bytes (at / 8) w → p ≡ 2 ^ (7 - at % 8) → r ≡ w / p % 512 → Nine bytes at r
+nine-read bytes at w p r e q s =
     let j : 8 * (at / 8) + at % 8 ≡ at = omega arith in
     record {
-      is = rw (s, q) (ahead bytes (at / 8) (at % 8) b c (omega arith) e f l ∙ ap (λ (k : ℕ). take 9 (drop k (bitsOf bytes) ++ replicate 9 0)) j);
+      is = rw (s, q, e .is) (ahead bytes (at / 8) (at % 8) _ _ (omega arith) refl refl (e .low) ∙ ap (λ (k : ℕ). take 9 (drop k (bitsOf bytes) ++ replicate 9 0)) j);
       small = omega arith;
     }
 

@@ -1,8 +1,8 @@
 -- What a field that is read or written means, in the paper's terms. Assumes nothing.
 use mathlib.Core.List.{List, _++_}
 use mathlib.Core.Path.{_≡_}
-use Prim.Native.Nat.{ℕ, _+_, _<_}
-use lib.ListN.{length, take, drop, replicate}
+use Prim.Native.Nat.{ℕ, _+_, _*_, _<_}
+use lib.ListN.{length, getD, take, drop, replicate}
 use Rattle.paper.specs.Result.{Result, refused, accepted, Read}
 use Rattle.paper.specs.Bits.{toBits, bitsOf, field}
 use Rattle.bits.specs.declared.Bits as D
@@ -22,6 +22,11 @@ Ends end Out = Unit
 pub record Answers (bytes : List ℕ) (at n : ℕ) (r : D.Bits) : Type 0 where
   pub is : answer bytes r ≡ field n (drop at (bitsOf bytes))
   pub ends : Ends (at + n) r
+
+-- r is the number of the two bytes from i on, where bytes past the end count as 0
+pub record Pair (bytes : List ℕ) (i r : ℕ) : Type 0 where
+  pub is : r ≡ getD bytes i 0 * 256 + getD bytes (i + 1) 0
+  pub low : getD bytes (i + 1) 0 < 256
 
 -- r is the number of the nine bits at position at, where bits past the end count as 0
 pub record Nine (bytes : List ℕ) (at r : ℕ) : Type 0 where

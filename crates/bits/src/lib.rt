@@ -3,7 +3,7 @@
 ghost use mathlib.Core.Path.{_≡_};
 ghost use Prim.Native.Nat.{_+_, _-_, _*_, _/_, _%_, _^_, _<_, _≤_};
 ghost use lib.ListN.{length, getD, set};
-ghost use Rattle.bits.specs.Field.{Answers, Nine, Written};
+ghost use Rattle.bits.specs.Field.{Answers, Pair, Nine, Written};
 ghost use Rattle.bits.specs.Window.{Window, renewed, set3};
 
 // A field's value and the position behind it, or that the bits run out.
@@ -69,12 +69,23 @@ pub fn field(s: &[u8], at: usize, n: usize) -> Bits
     Bits::Value(middle(w, 24 - at % 8 - n, n), at + n)
 }
 
+// The two bytes from i on, as one number. Where both are there, one test tells.
+fn pair(s: &[u8], i: usize) -> usize
+    requires { ⌜ i < 2 ^ 62 ⌝ }
+    ensures { λ r. ⌜ Pair (now (s .entry)) i r ⌝ }
+{
+    if i + 1 < s.len() {
+        return wide(s[i]) * 256 + wide(s[i + 1]);
+    }
+    byte_at(s, i) * 256
+}
+
 // The nine bits at position at, as a number; past the end they count as 0. They stand in two bytes.
 pub fn nine(s: &[u8], at: usize) -> usize
     ensures { λ r. ⌜ Nine (now (s .entry)) at r ⌝ }
 {
     let i = at / 8;
-    let w = byte_at(s, i) * 256 + byte_at(s, i + 1);
+    let w = pair(s, i);
     w / power(7 - at % 8) % 512
 }
 

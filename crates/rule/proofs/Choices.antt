@@ -19,7 +19,7 @@ use Rattle.tables.specs.Layout.{arity-in, first-in, next-in, left-in}
 use Rattle.tables.specs.Tables.{ruleAt, NoneOf, FirstOf, Root, Tables}
 use Rattle.tables.proofs.Laws.{all-at, arity-at}
 use Rattle.rule.specs.Packed.{Stands, SideAt}
-use Rattle.rule.specs.Contracts.{found, Agrees-within, Other-stands, Rest-matched, Lefts, Under-root, Left-tried, tries, Passed, Misses, Hits}
+use Rattle.rule.specs.Contracts.{found, Agrees-within, Other-stands, Rest-matched, Lefts, Under-root, Left-tried, tries, Passed, None-found, Rule-found}
 use Rattle.rule.specs.declared.Found as F
 use Rattle.rule.proofs.Sides.{under-root}
 use Rattle.rule.proofs.Matches.{match-same, match-other, head-at, other-differs, stopped}
@@ -109,12 +109,12 @@ module _ {bytes operators rules : List ℕ} {B : Book} (T : Tables bytes operato
   by-book : rewrite (arity-in operators) rs a xs ≡ rewrite (arity B) rs a xs
   by-book = rewrite-same (arity-in operators) (arity B) rs a xs (all-map _ _ (arity-at T) xs known)
 
-  pub missed : (k : ℕ) → k ≡ 0 → Reached operators xs a rs k → Misses B operators a xs
+  pub missed : (k : ℕ) → k ≡ 0 → Reached operators xs a rs k → None-found B operators a xs
   missed zero e p = record { passed = p; is = sym by-book ∙ rewrite-miss operators xs a rs p }
   missed (suc k) e p = absurd (omega arith)
 
   pub chosen : (k i left e len : ℕ) (b : Binding) → 0 < k → i ≡ k - 1 → left ≡ left-in rules i → Reached operators xs a rs k →
-      Left-tried bytes left operators xs a len b (F.Found.Agrees e) → Hits B operators a xs len b (record { rule = i; end = e })
+      Left-tried bytes left operators xs a len b (F.Found.Agrees e) → Rule-found B operators a xs len b (record { rule = i; end = e })
   chosen zero i left e len b s f z h d = absurd (omega arith)
   chosen (suc j) i left e len b s f z (l, root, p) d =
       let g : j ≡ i = omega arith in

@@ -82,7 +82,7 @@ module _ {bytes operators rules : List ℕ} {B : Book} (T : Tables bytes operato
   hits = rewrite-hits B (B .rules) sound t correct a rest xs there
 
   -- the paper's new term is the right side of the rule that is found, filled
-  pub first-rewrites : {len : ℕ} (m : M.Match) (b : Binding) → C.Hits B operators a xs len b m →
+  pub first-rewrites : {len : ℕ} (m : M.Match) (b : Binding) → C.Rule-found B operators a xs len b m →
       (y : Term) × (Match.rewrite (B .rules) t ≡ some y) × (fill (preorder (ruleAt (B .rules) (m .rule) .right)) b xs ≡ preorder y) × (m .end ≡ a + size t)
   first-rewrites m b f = go refl hits
     where
@@ -91,7 +91,7 @@ module _ {bytes operators rules : List ℕ} {B : Book} (T : Tables bytes operato
       go p (h-miss q) = let s = f .is in let z : _≡_ {A = ℕ} 0 1 = cc in absurd (omega arith)
       go p (h-hit y q) = let s = f .is in (y, p, cc, cc)
 
-  pub missed-rewrites : C.Misses B operators a xs → Match.rewrite (B .rules) t ≡ none
+  pub missed-rewrites : C.None-found B operators a xs → Match.rewrite (B .rules) t ≡ none
   missed-rewrites f = go refl hits
     where
       go : {o : Option Term} → Match.rewrite (B .rules) t ≡ o → Hits (a + size t) (rewrite (arity B) (B .rules) a xs) o → Match.rewrite (B .rules) t ≡ none

@@ -170,7 +170,7 @@ abbrev pub Passed : List ℕ → List Rule → ℕ → ℕ → List ℕ → Type
 Passed operators rs i a xs = (j : ℕ) → j < i → tries operators rs j a xs ≡ flat.Match.differs
 
 -- m is the first rule of the book B that matches, with the binding b, within the first len symbols
-pub record Hits (B : Book) (operators : List ℕ) (a : ℕ) (xs : List ℕ) (len : ℕ) (b : Binding) (m : M.Match) : Type 0 where
+pub record Rule-found (B : Book) (operators : List ℕ) (a : ℕ) (xs : List ℕ) (len : ℕ) (b : Binding) (m : M.Match) : Type 0 where
   pub below : m .rule < length (B .rules)
   pub passed : Passed operators (B .rules) (m .rule) a xs
   pub agrees : tries operators (B .rules) (m .rule) a xs ≡ flat.Match.agrees b (m .end)
@@ -179,10 +179,10 @@ pub record Hits (B : Book) (operators : List ℕ) (a : ℕ) (xs : List ℕ) (len
   pub end : m .end ≤ len
 
 -- none of its rules matches
-pub record Misses (B : Book) (operators : List ℕ) (a : ℕ) (xs : List ℕ) : Type 0 where
+pub record None-found (B : Book) (operators : List ℕ) (a : ℕ) (xs : List ℕ) : Type 0 where
   pub passed : Passed operators (B .rules) (length (B .rules)) a xs
   pub is : rewrite (arity B) (B .rules) a xs ≡ flat.Hit.miss
 
 abbrev pub Search-answers : Book → List ℕ → ℕ → List ℕ → ℕ → Binding → H.Hit → Type 0
-Search-answers B operators a xs len b (H.Hit.Rule m) = Hits B operators a xs len b m
-Search-answers B operators a xs len b H.Hit.None = Misses B operators a xs
+Search-answers B operators a xs len b (H.Hit.Rule m) = Rule-found B operators a xs len b m
+Search-answers B operators a xs len b H.Hit.None = None-found B operators a xs

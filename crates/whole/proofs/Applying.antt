@@ -16,7 +16,7 @@ use Rattle.units.specs.Stacks.{Offsets, Store, units-in}
 use Rattle.units.specs.Contracts.{Stacks-fit, topped, at, Changed, Shiftable, Units-shifted}
 use Rattle.units.proofs.Units.{shiftable}
 use Rattle.whole.specs.State.{Arrays}
-use Rattle.whole.specs.Contracts.{Replaceable, Units-due, Replaced}
+use Rattle.whole.specs.Contracts.{Replaceable, Units-due, Rewritten}
 use Rattle.whole.specs.declared.Place as Pl
 use Rattle.whole.specs.declared.Filled as F
 
@@ -71,7 +71,7 @@ unmoved {s} {n} {a} {e} {k} q f = record {
 pub applied : {s : Arrays} {len count i len′ : ℕ} {scratch scratch′ symbols′ : List ℕ} {s₁ s₂ : Store} {x : Pl.Place} {f : F.Filled} →
     Replaceable s len scratch (x .offset) f → term.Replaced (s .symbols) len (x .offset) (f .end) scratch (f .size) symbols′ scratch′ len′ → i ≡ x .offset →
     Changed (x .unit) (topped (Frame.job i 0 0)) (s .store) s₁ → Units-shifted count (x .offset) (f .end) (f .size) s₁ s₂ →
-    Replaced x (take (f .size) scratch) (f .end) len count s (record { symbols = symbols′; store = s₂ }) len′
+    Rewritten x (take (f .size) scratch) (f .end) len count s (record { symbols = symbols′; store = s₂ }) len′
 applied {s} {count = count} {scratch = scratch} {x = x} {f = f} r p ex t v =
     let l = r .fits in
     let z = p .size in

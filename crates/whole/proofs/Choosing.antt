@@ -14,7 +14,7 @@ use Rattle.flat.specs.Symbols.{Match, Hit, Binding, skip, match, fill}
 use Rattle.tables.specs.Layout.{right-in}
 use Rattle.tables.specs.Tables.{ruleAt, Tables}
 use Rattle.rule.specs.Packed.{SideAt}
-use Rattle.rule.specs.Contracts.{Hits, Side-sized, Side-fits, Side-filled}
+use Rattle.rule.specs.Contracts.{Rule-found, Side-sized, Side-fits, Side-filled}
 use Rattle.rule.specs.declared.Match as M
 use Rattle.rule.proofs.Tables.{right-stands}
 use Rattle.rule.proofs.Fills.{size-is}
@@ -37,7 +37,7 @@ match-ends arity (Symbol.operator o ∷ ss) a (x ∷ xs) b b′ e h =
 match-ends arity (Symbol.variable v ∷ ss) a xs b b′ e h = let l = match-ends arity ss (a + skip arity 1 xs) _ _ b′ e h in omega arith
 
 module _ {bytes operators rules xs : List ℕ} {B : Book} {a len : ℕ} {b : Binding} {m : M.Match} (T : Tables bytes operators rules B)
-    (h : Hits B operators a xs len b m) where
+    (h : Rule-found B operators a xs len b m) where
   pub small : m .rule < 256
   small = omega (arith, h .below, T .good .few-rules)
 

@@ -15,7 +15,7 @@ use Rattle.flat.specs.Symbols.{Hit, rewrite, splice}
 use Rattle.flat.specs.Machine.{Frame, FlatUnit, flat-unit, unit, FlatState, FlatOutcome, going, ended, shift-unit, with-unit, proceed, do-rewrite, do-whole}
 use Rattle.units.specs.Contracts.{Stacks-fit, topped, at}
 use Rattle.whole.specs.State.{Arrays, state, limits}
-use Rattle.whole.specs.Contracts.{spent, over, Rule-gives, Right-fits, Replaced, Carried-out}
+use Rattle.whole.specs.Contracts.{spent, over, Rule-gives, Right-fits, Rewritten, Carried-out}
 use Rattle.whole.specs.declared.Progress as P
 use Rattle.whole.specs.declared.Limits as L
 use Rattle.whole.specs.declared.Place as Pl
@@ -75,7 +75,7 @@ module _ {B : Book} {x : Pl.Place} {p : P.Progress} {l : L.Limits} {s : Arrays} 
   -- a right side that fits replaces the term
   pub rewrote : {scratch : List ℕ} {f : F.Filled} {s′ : Arrays} {len : ℕ} → p .length ≤ 1024 → length scratch ≡ 1024 →
       Right-fits B (x .offset) p l (take (p .length) (s .symbols)) scratch f →
-      Replaced x (take (f .size) scratch) (f .end) (p .length) (l .units) s s′ len → Carried-out B x p l s s′ (W.Whole.Rewrote len)
+      Rewritten x (take (f .size) scratch) (f .end) (p .length) (l .units) s s′ len → Carried-out B x p l s s′ (W.Whole.Rewrote len)
   rewrote {scratch} {f} most scratch-long r q =
       let i = r .fits in
       let m = r .least in

@@ -83,7 +83,7 @@ pub record Units-due (s : Store) (count : ℕ) (x : Pl.Place) (len : ℕ) : Type
   pub offsets : All (λ (y : FlatUnit). Offsets len (y .stack)) (units-in s count)
 
 -- ys stands for the symbols from the place's offset up to e, the jobs' offsets have gone along, and the unit is to visit the new term
-pub record Replaced (x : Pl.Place) (ys : List ℕ) (e len count : ℕ) (s s′ : Arrays) (len′ : ℕ) : Type 0 where
+pub record Rewritten (x : Pl.Place) (ys : List ℕ) (e len count : ℕ) (s s′ : Arrays) (len′ : ℕ) : Type 0 where
   pub symbols : take len′ (s′ .symbols) ≡ splice (x .offset) e ys (take len (s .symbols))
   pub units : units-in (s′ .store) count
       ≡ map (shift-unit (x .offset) e (length ys)) (at (x .unit) (topped (Frame.job (x .offset) 0 0)) (units-in (s .store) count))

@@ -119,7 +119,7 @@ fn apply(
     ghost { S.Arrays }
     requires { λ s. ⌜ S.arrays (now symbols) (now work) (now units) ≡ s ⌝ }
     requires { λ s. ⌜ W.Replaceable s len (now scratch) (place .offset) filled × W.Units-due (s .store) count place len ⌝ }
-    ensures { λ s r. ⌜ W.Replaced place (take (filled .size) (now (scratch .entry))) (filled .end) len count s (S.arrays (now (symbols .exit)) (now (work .exit)) (s .store .cells)) r × (length (now (scratch .exit)) ≡ 1024) ⌝ }
+    ensures { λ s r. ⌜ W.Rewritten place (take (filled .size) (now (scratch .entry))) (filled .end) len count s (S.arrays (now (symbols .exit)) (now (work .exit)) (s .store .cells)) r × (length (now (scratch .exit)) ≡ 1024) ⌝ }
 {
     let a = place.offset;
     let end = filled.end;

@@ -6,12 +6,8 @@ use Rattle.bits.proofs.nine.Statement.{statement}
 use Rattle.bits.proofs.nine.Tie as tie
 
 returns : tie.Need-returns
-returns c =
-    let b = c .before in
-    nine-read _ _ _ _ _ _ (b .before .byte-at .ensures .0) (b .byte-at2 .ensures .0) (b .byte-at2 .ensures .1) (c .power .ensures .0) refl
+returns c = nine-read _ _ _ _ _ (c .before .pair .ensures) (c .power .ensures .0) refl
 
 pub nine-spec : {M : Type 1} → statement M
 nine-spec =
-    tie.close
-    (tie.spec (λ c κs. search needs) (λ c. search needs) (λ c. search needs) (λ c κs. search needs) (λ c. search needs) (λ c. search needs)
-    (λ c κs. search needs) (λ c. search needs) returns)
+    tie.close (tie.spec (λ c κs. search needs) (λ c. search needs) (λ c κs. search needs) (λ c. search needs) returns)
