@@ -123,8 +123,7 @@ module _ {bytes operators rules symbols scratch work units : List ℕ} {u : ℕ}
       pub whole-rewrote : (scratch′ : List ℕ) → length scratch′ ≡ 1024 → (p′ : Progress) → p′ ≡ whole.progress p (D.Whole.Rewrote k) →
           (going (state symbols′ work′ units p′ l) ≡ flat-entry (F.B z r t) (F.L z r t) u s) × Arrays symbols′ scratch′ work′ units p′ l
       whole-rewrote scratch′ long p′ e =
-          subst (λ (q : Progress). (going (state symbols′ work′ units q l) ≡ flat-entry (F.B z r t) (F.L z r t) u s) × Arrays symbols′ scratch′ work′ units q l) (sym e)
-          (
+          subst (λ (q : Progress). (going (state symbols′ work′ units q l) ≡ flat-entry (F.B z r t) (F.L z r t) u s) × Arrays symbols′ scratch′ work′ units q l) (sym e) (
             sym (outcome-is (D.Whole.Rewrote k) d),
             record { symbols-long = d .long; scratch-long = long; most = d .stays; fit = d .fit; few = z .few },
           )
@@ -151,8 +150,7 @@ module _ {bytes operators rules symbols scratch work units : List ℕ} {u : ℕ}
           outcome-is D.Whole.Missed d
           ∙ ap₂ (λ (v k : ℕ). going (with-unit s v true (proceed k (suc (x .next)) (x .count) (drop (x .next) ss) fs))) at off
           ∙ ap (λ (us : List FlatUnit). going (with-units s us))
-          (sym (at-is u (s .units) (O.restack (O.goes-on ss x (x .count))) _ (F.unit-is z r t (w .busy) (w .top))) ∙ sym (c .change .units (l .units))) in
-          (
+          (sym (at-is u (s .units) (O.restack (O.goes-on ss x (x .count))) _ (F.unit-is z r t (w .busy) (w .top))) ∙ sym (c .change .units (l .units))) in (
             ap (λ (xs : List ℕ). going (state xs work″ units″ p l)) same-symbols ∙ sym e,
             record { symbols-long = d .long; scratch-long = long; most = z .most; fit = c .change .fit; few = z .few },
           )

@@ -317,10 +317,10 @@ pub fn find(
 {
     let o = symbols[offset];
     let due = tables::arity(operators, o);
-    let x = symbol_or_none(symbols, len, offset + 1);
     let mut k = tables::first_rule(rules, o);
     while 0 < k {
         let left = tables::left_side(rules, k - 1);
+        let x = symbol_or_none(symbols, len, offset + 1);
         if let Found::Agrees(end) = try_left(
             book,
             left,

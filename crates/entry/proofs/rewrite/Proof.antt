@@ -17,8 +17,7 @@ rewrite-requires c κs =
     let a = c .before .before .before .before .before in
     let q = a .before .before .before .before .pre in
     let e = a .offset .ensures .0 in
-    let t = q .1 .0 in
-    (
+    let t = q .1 .0 in (
       whole-present (q .0) (t .0) (t .1) (t .2) (q .1 .1) refl e,
       q .0 .scratch-long,
       units-due (q .0) (t .0) (t .1) (t .2) (q .1 .1) refl e,

@@ -1,31 +1,31 @@
 -- `rule::find` meets its contract: the rule of number k is the next with the term's root, and those below it differ. Assumes nothing.
 use mathlib.Core.Path.{_≡_, refl, sym, ap, _∙_}
-use Prim.Native.Nat.{ℕ, _<_}
+use Prim.Native.Nat.{ℕ, _+_, _<_}
 use native.Mathlib.Omega.{arith}
-use lib.ListN.{length, getD, take}
+use lib.ListN.{length, getD, take, drop}
 use lib.Seq.{getD-take, length-take-le}
 use borrow.Author.Needs.{needs}
 use Rattle.tables.specs.Layout.{arity-in}
 use Rattle.tables.specs.Tables.{book-of}
-use Rattle.rule.specs.Contracts.{Under-root}
+use Rattle.rule.specs.Contracts.{head-or, Under-root}
 use Rattle.rule.proofs.Choices.{ahead, missed, Reached, reached-first, reached-next, chosen}
 use Rattle.rule.proofs.find.Statement.{statement}
 use Rattle.rule.proofs.find.Tie as tie
 
 abbrev Inv-loop : tie.InvT-loop
-Inv-loop book operators rules symbols len offset bound₀ o due x k₀ bound k =
-    (k < 256) × Under-root operators (take len symbols) offset x due × Reached operators (take len symbols) offset (book-of book .rules) k
+Inv-loop book operators rules symbols len offset bound₀ o due k₀ bound k =
+    (k < 256) × Under-root operators (take len symbols) offset (head-or (drop (offset + 1) (take len symbols))) due × Reached operators (take len symbols) offset (book-of book .rules) k
 
 abbrev μ-loop : tie.MeasureT-loop
-μ-loop book operators rules symbols len offset bound₀ o due x k₀ bound k = ahead k
+μ-loop book operators rules symbols len offset bound₀ o due k₀ bound k = ahead k
 
 -- where the function starts, from its loop
 abbrev start : tie.At-loop Inv-loop μ-loop → tie.Start Inv-loop μ-loop
-start l = l .before .before .before .before .before .before
+start l = l .before .before .before .before .before
 
 loop-holds : tie.Need-loop-holds Inv-loop μ-loop
 loop-holds c =
-    let a = c .before .before in
+    let a = c .before in
     let s = a .before .before .before in
     let p = s .pre in
     let len = s .args .len in
@@ -36,7 +36,7 @@ loop-holds c =
       c .first-rule .ensures .1,
       record {
         inside = i;
-        second = c .before .symbol-or-none .ensures;
+        second = refl;
         arguments = a .arity .ensures .0 ∙ ap (λ (o : ℕ). arity-in (s .args .operators .now) o) e;
         few = a .arity .ensures .1;
       },
@@ -45,15 +45,20 @@ loop-holds c =
 
 try-left-requires : tie.Need-try-left-requires Inv-loop μ-loop
 try-left-requires c κs =
-    let l = c .before .before .before in
+    let x = c .before in
+    let l = x .before .before .before in
     let p = start l .pre in
-    let i = p .inside in
-    (p .short, c .before .left-side .ensures .1, record { long = p .long; most = p .most; inside = omega arith }, l .loop .inv .1)
+    let i = p .inside in (
+      p .short,
+      x .before .left-side .ensures .1,
+      record { long = p .long; most = p .most; inside = omega arith },
+      rw (x .symbol-or-none .ensures) (l .loop .inv .1),
+    )
 
 returns : tie.Need-returns Inv-loop μ-loop
 returns c =
     let t = c .before .before .before in
-    let f = t .before .before in
+    let f = t .before .before .before in
     let l = f .before .before in
     let p = start l .pre in
     chosen (p .tables .tables) _ _ (p .known) _ _ _ _ _ _ (f .before .loop-test .taken) refl (f .left-side .ensures .0) (l .loop .inv .2)
@@ -61,13 +66,13 @@ returns c =
 
 -- the next rule of the root, behind one that differs
 next : (c : tie.After-next-rule Inv-loop μ-loop) →
-    let l = c .before .before .before .before .before .before .before in
+    let l = c .before .before .before .before .before .before .before .before in
     let a = start l .args in
     Reached (a .operators .now) (take (a .len) (a .symbols .now)) (a .offset) (book-of (a .book .now) .rules) (c .next-rule .result)
     × (ahead (c .next-rule .result) < ahead (l .loop .k))
 next c =
     let t = c .before .before .before in
-    let f = t .before .before in
+    let f = t .before .before .before in
     let l = f .before .before in
     let p = start l .pre in
     reached-next (p .tables .tables) _ _ (p .known) (l .loop .inv .1 .inside) _ _ _ _ _ _ (f .before .loop-test .taken) refl (f .left-side .ensures .0)
@@ -77,7 +82,7 @@ loop-less : tie.Need-loop-less Inv-loop μ-loop
 loop-less c = next c .1
 
 loop-again : tie.Need-loop-again Inv-loop μ-loop
-loop-again c = (c .next-rule .ensures .1, c .before .before .before .before .before .before .before .loop .inv .1, next c .0)
+loop-again c = (c .next-rule .ensures .1, c .before .before .before .before .before .before .before .before .loop .inv .1, next c .0)
 
 returns-2 : tie.Need-returns-2 Inv-loop μ-loop
 returns-2 c =
@@ -88,4 +93,4 @@ returns-2 c =
 pub find-spec : {M : Type 1} → statement M
 find-spec =
     tie.close
-    (tie.spec Inv-loop μ-loop (λ c. search needs) (λ c κs. search needs) (λ c. search needs) (λ c κs. search needs) (λ c κs. search needs) loop-holds (λ c. search needs) (λ c κs. search needs) try-left-requires (λ c. search needs) (λ c. search needs) returns (λ c. search needs) (λ c. search needs) (λ c κs. search needs) loop-less loop-again returns-2)
+    (tie.spec Inv-loop μ-loop (λ c. search needs) (λ c κs. search needs) (λ c κs. search needs) loop-holds (λ c. search needs) (λ c κs. search needs) (λ c. search needs) (λ c κs. search needs) try-left-requires (λ c. search needs) (λ c. search needs) returns (λ c. search needs) (λ c. search needs) (λ c κs. search needs) loop-less loop-again returns-2)
