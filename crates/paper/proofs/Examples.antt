@@ -16,7 +16,7 @@ use Rattle.paper.specs.Reader.{readBook}
 use Rattle.paper.specs.Writer.{writeBook}
 use Rattle.paper.specs.Line.{readLine}
 use Rattle.paper.specs.Match.{rewrite}
-use Rattle.paper.specs.Machine.{Order, worker, Event, Ending}
+use Rattle.paper.specs.Machine.{Order, unit-state, Event, Ending}
 use Rattle.paper.specs.Run.{Answer, run, Moment, moments, events}
 use Rattle.paper.specs.Page.{answerOf, pageOf, writtenOf}
 use Rattle.paper.proofs.Starred.{ascii, P-bytes, input-on, input, one-of, two-of, x, y, P-operators, P, end, tick, both, Q, dup, limits}
@@ -389,7 +389,7 @@ pub record Runs : Type 0 where
   pub spent-and-full : grow-page 4 0 ≡ tree-after "REDUCE 1\nend 1\nrewrites 0\nentries 2\ngranted 0\nterm 4"
   -- a rewrite forgets its own term's orders, here VISIT and WHOLE of the part dup(end), and no other
   pub forgotten : map (λ (m : Moment). m .state .units) (drop 2 (moments Q (limits 9) 1 (replicate 3 0) (tick (dup end)))) ≡
-      (worker true (Order.visit (0 ∷ []) ∷ Order.whole [] 0 ∷ Order.bingo ∷ []) ∷ []) ∷ []
+      (unit-state true (Order.visit (0 ∷ []) ∷ Order.whole [] 0 ∷ Order.bingo ∷ []) ∷ []) ∷ []
   -- no list given means (0), (1 0), (1 2 0); the empty list stays empty, and is written back as given
   pub lists-read : strategies lists-bytes ≡
       (Item.whole ∷ [])
