@@ -316,11 +316,15 @@ pub fn find(
     ensures { λ r. ⌜ R.Search-answers (book-of (now (book .entry))) (now (operators .entry)) offset (take len (now (symbols .entry))) len (binding (now (bound .exit))) r ⌝ }
 {
     let o = symbols[offset];
-    let due = tables::arity(operators, o);
     let mut k = tables::first_rule(rules, o);
+    // Most terms have a root without rules.
+    if k == 0 {
+        return Hit::None;
+    }
+    let due = tables::arity(operators, o);
+    let x = symbol_or_none(symbols, len, offset + 1);
     while 0 < k {
         let left = tables::left_side(rules, k - 1);
-        let x = symbol_or_none(symbols, len, offset + 1);
         if let Found::Agrees(end) = try_left(
             book,
             left,
