@@ -1,21 +1,14 @@
 // What the programs that try cases share: numbers and bytes from standard input, and words, numbers and bytes to standard output.
 use libc::STDIN_FILENO;
 use libc::STDOUT_FILENO;
-ghost use mathlib.Core.Path.{_≡_};
 ghost use Prim.Native.Nat.{_<_, _≤_};
 ghost use lib.ListN.{length};
-
-pub fn wide(x: u8) -> usize
-    ensures { λ r. ⌜ (r ≡ x) × (r < 256) ⌝ }
-{
-    x as usize
-}
 
 // Two bytes as one number, the most significant first.
 pub fn number(high: u8, low: u8) -> usize
     ensures { λ r. ⌜ r < 65536 ⌝ }
 {
-    wide(high) * 256 + wide(low)
+    casts::index(high) * 256 + casts::index(low)
 }
 
 pub fn say(text: &[u8]) {
@@ -28,7 +21,7 @@ pub fn say_number(x: usize) {
 
 pub fn say_refused(k: u8) {
     say(b"refused ");
-    say_number(wide(k));
+    say_number(casts::index(k));
 }
 
 // The first n bytes, in hexadecimal.
@@ -37,7 +30,7 @@ pub fn say_front(bytes: &[u8], n: usize)
 {
     let mut i = 0;
     while i < n {
-        io::print_hex(STDOUT_FILENO, wide(bytes[i]) as u64, 2);
+        io::print_hex(STDOUT_FILENO, casts::index(bytes[i]) as u64, 2);
         i += 1;
     }
 }

@@ -8,7 +8,7 @@ use Rattle.engine.specs.Spec as R
 use Rattle.engine.specs.declared.Answer as A
 use Rattle.writer.specs.Spec.{Answers}
 use Rattle.writer.specs.declared.Written as W
-use Rattle.kurvneist.specs.Exported as X
+use Rattle.kurvneist.specs.Spec as X
 
 pub one : (l : List ℕ) (a : ℕ) → length l ≡ 1 → set l 0 a ≡ a ∷ []
 one [] a h = absurd (omega arith)
@@ -29,11 +29,11 @@ five (v ∷ w ∷ x ∷ y ∷ z ∷ l) a b c d e h = ap (λ l. a ∷ b ∷ c ∷
 
 -- a run's answer as numbers
 pub reduced : {book line : List ℕ} {units budget : ℕ} {schedule work output work′ output′ answer′ : List ℕ} (r : A.Answer) →
-    R.Reduced book line units budget schedule work output work′ output′ r → answer′ ≡ X.numbers (R.values r) →
-    X.Reduced book line units budget schedule work output work′ output′ answer′ (X.refusal (R.values r))
-reduced r q e = record { number = ap X.refusal (q .answer); values = e ∙ ap X.numbers (q .answer); answer = r; buffers = q }
+    R.Reduced book line units budget schedule work output work′ output′ r → answer′ ≡ X.value-numbers (R.values r) →
+    X.Reduced-in-numbers book line units budget schedule work output work′ output′ answer′ (X.refusal (R.values r))
+reduced r q e = record { number = ap X.refusal (q .answer); values = e ∙ ap X.value-numbers (q .answer); answer = r; buffers = q }
 
 -- the writer's
 pub wrote : {book output output′ : List ℕ} (r : W.Written) (l : List ℕ) → Answers book output output′ r → length l ≡ 1 →
-    X.Wrote book output output′ (set l 0 (X.written-length r)) (X.written-refusal r)
+    X.Wrote-in-numbers book output output′ (set l 0 (X.written-length r)) (X.written-refusal r)
 wrote r l q h = record { answer = r; is = q; number = refl; length = one l (X.written-length r) h }

@@ -10,7 +10,7 @@ ghost use lib.ListN.{length};
 ghost use Rattle.paper.specs.Page.{ending-number};
 ghost use Rattle.run.specs.Contracts.{ending};
 ghost use Rattle.engine.specs.Spec.{published};
-ghost use Rattle.kurvneist.specs.Exported as X;
+ghost use Rattle.kurvneist.specs.Spec as X;
 
 // The bytes of a work area.
 #[no_mangle]
@@ -28,7 +28,7 @@ pub extern "C" fn kurvneist_output_length() -> usize
     engine::OUTPUT
 }
 
-fn number(e: Ending) -> u64
+fn ending_number(e: Ending) -> u64
     ensures { λ r. ⌜ r ≡ ending-number (ending e) ⌝ }
 {
     match e {
@@ -39,7 +39,14 @@ fn number(e: Ending) -> u64
     }
 }
 
-fn put(answer: &mut [u64; 5], ending: u64, rewrites: u64, entries: u64, granted: u64, size: u64)
+fn put_numbers(
+    answer: &mut [u64; 5],
+    ending: u64,
+    rewrites: u64,
+    entries: u64,
+    granted: u64,
+    size: u64,
+)
     requires { ⌜ length (now answer) ≡ 5 ⌝ }
     ensures { λ _. ⌜ now (answer .exit) ≡ ending ∷ rewrites ∷ entries ∷ granted ∷ size ∷ [] ⌝ }
 {
@@ -63,18 +70,19 @@ pub extern "C" fn kurvneist_reduce(
     answer: &mut [u64; 5],
 ) -> u8
     requires { ⌜ length (now answer) ≡ 5 ⌝ }
-    ensures { λ r. ⌜ X.Reduced (now (book .entry)) (now (line .entry)) units budget (now (schedule .entry)) (now (work .entry)) (now (output .entry)) (now (work .exit)) (now (output .exit)) (now (answer .exit)) r ⌝ }
+    ensures { λ r. ⌜ X.Reduced-in-numbers (now (book .entry)) (now (line .entry)) units budget (now (schedule .entry)) (now (work .entry))
+        (now (output .entry)) (now (work .exit)) (now (output .exit)) (now (answer .exit)) r ⌝ }
 {
     match engine::reduce(book, line, units, budget, schedule, work, output) {
         Answer::Refused(k) => {
-            put(answer, 0, 0, 0, 0, 0);
+            put_numbers(answer, 0, 0, 0, 0, 0);
             k
         }
         Answer::Ran(run) => {
             let e = run.ending;
-            put(
+            put_numbers(
                 answer,
-                number(e),
+                ending_number(e),
                 run.rewrites as u64,
                 run.entries as u64,
                 run.granted as u64,
@@ -89,7 +97,7 @@ pub extern "C" fn kurvneist_reduce(
 #[no_mangle]
 pub extern "C" fn kurvneist_write_book(book: &[u8], output: &mut [u8], size: &mut [u64; 1]) -> u8
     requires { ⌜ length (now size) ≡ 1 ⌝ }
-    ensures { λ r. ⌜ X.Wrote (now (book .entry)) (now (output .entry)) (now (output .exit)) (now (size .exit)) r ⌝ }
+    ensures { λ r. ⌜ X.Wrote-in-numbers (now (book .entry)) (now (output .entry)) (now (output .exit)) (now (size .exit)) r ⌝ }
 {
     match writer::write_book(book, output) {
         Written::Refused(k) => {

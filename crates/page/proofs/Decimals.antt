@@ -9,7 +9,7 @@ use borrow.Author.Tests.{lt-ltb, le-ltb}
 use lib.ListN.{length, getD, set, take, drop, drop-of-length-le}
 use lib.Seq.{set-split, drop-at, length-take-le, drop-cons}
 use Rattle.paper.specs.Page.{digits, decimal, spaced, line}
-use Rattle.page.specs.Page.{field}
+use Rattle.page.specs.Contracts.{decimal-field}
 
 digits-last : (n v : ℕ) (ds : List ℕ) → v < 10 → digits (suc n) v ds ≡ (48 + v) ∷ ds
 unfolding digits
@@ -23,17 +23,17 @@ drop-set : (d : List ℕ) (j x : ℕ) → j < length d → drop j (set d j x) �
 drop-set d j x h = ap (drop j) (set-split d j x h) ∙ drop-at (take j d) (x ∷ drop (suc j) d) j (length-take-le j d (omega arith))
 
 -- a digit stored before those that are there
-module _ (i j v : ℕ) (d : List ℕ) (x : ℕ) (e : i ≡ suc j) (h : j < length d) where
-  pub digit-last : v < 10 → x ≡ 48 + v → drop j (set d j x) ≡ digits i v (drop i d)
+module _ (i j v : ℕ) (d : List ℕ) {x : ℕ} (e : i ≡ suc j) (h : j < length d) where
+  pub digit-last : v < 10 → x ≡ v → drop j (set d j (48 + x)) ≡ digits i v (drop i d)
   digit-last k f =
-      drop-set d j x h
-      ∙ ap (λ (y : ℕ). y ∷ drop (suc j) d) f
+      drop-set d j (48 + x) h
+      ∙ ap (λ (y : ℕ). (48 + y) ∷ drop (suc j) d) f
       ∙ sym (digits-last j v (drop (suc j) d) k)
       ∙ ap (λ (n : ℕ). digits n v (drop n d)) (sym e)
 
-  pub digit-more : 10 ≤ v → x ≡ 48 + v % 10 → digits j (v / 10) (drop j (set d j x)) ≡ digits i v (drop i d)
+  pub digit-more : 10 ≤ v → x ≡ v % 10 → digits j (v / 10) (drop j (set d j (48 + x))) ≡ digits i v (drop i d)
   digit-more k f =
-      ap (λ (ds : List ℕ). digits j (v / 10) ds) (drop-set d j x h ∙ ap (λ (y : ℕ). y ∷ drop (suc j) d) f)
+      ap (λ (ds : List ℕ). digits j (v / 10) ds) (drop-set d j (48 + x) h ∙ ap (λ (y : ℕ). (48 + y) ∷ drop (suc j) d) f)
       ∙ sym (digits-more j v (drop (suc j) d) k)
       ∙ ap (λ (n : ℕ). digits n v (drop n d)) (sym e)
 
@@ -67,21 +67,21 @@ decimal-short v h = go (decLt v 10)
 
 -- FIELDS
 
-pub field-short : (v : ℕ) → v < 256 → length (field v) ≤ 4
+pub field-short : (v : ℕ) → v < 256 → length (decimal-field v) ≤ 4
 field-short v h = omega (arith, decimal-short v (omega arith))
 
 -- the symbols from i on: one field and the symbols behind it
-pub spaced-more : (term : List ℕ) (i v : ℕ) → i < length term → v ≡ getD term i 0 → field v ++ spaced (drop (i + 1) term) ≡ spaced (drop i term)
+pub spaced-more : (term : List ℕ) (i v : ℕ) → i < length term → v ≡ getD term i 0 → decimal-field v ++ spaced (drop (i + 1) term) ≡ spaced (drop i term)
 unfolding spaced
 spaced-more term i v h e =
-    ap₂ (λ (x k : ℕ). field x ++ spaced (drop k term)) e (add-one i) ∙ ap spaced (sym (drop-cons term i 0 h))
+    ap₂ (λ (x k : ℕ). decimal-field x ++ spaced (drop k term)) e (add-one i) ∙ ap spaced (sym (drop-cons term i 0 h))
 
 pub spaced-end : (term : List ℕ) (i : ℕ) → length term ≤ i → [] ≡ spaced (drop i term)
 unfolding spaced
 spaced-end term i h = ap spaced (sym (drop-of-length-le term h))
 
 -- a line of one field, and a line of symbols
-pub one-field : (word : List ℕ) (v : ℕ) → word ++ (field v ++ (10 ∷ [])) ≡ line word (v ∷ [])
+pub one-field : (word : List ℕ) (v : ℕ) → word ++ (decimal-field v ++ (10 ∷ [])) ≡ line word (v ∷ [])
 unfolding line spaced
 one-field word v = ap (λ (l : List ℕ). word ++ (32 ∷ l ++ (10 ∷ []))) (sym (append-nil (decimal v)))
 

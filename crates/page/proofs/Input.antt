@@ -1,4 +1,4 @@
--- The input's frame: numbers, counted bytes, and what follows them. Assumes nothing.
+-- The input's parts: numbers, counted bytes, and what follows them. Assumes nothing.
 use mathlib.Core.List.{List, [], _∷_, _++_}
 use mathlib.Core.Path.{_≡_, refl, sym, ap, ap₂, _∙_}
 use Prim.Native.Nat.{ℕ, suc, _+_, _-_, _*_, _≤_, _<_}
@@ -10,9 +10,9 @@ use lib.ListN.{length, getD, take, drop, length-drop}
 use lib.Seq.{drop-cons, drop-drop, take-add, take-all, length-take-le}
 use Rattle.paper.specs.Result.{Result, refused, accepted, Read, Reader, return, refuse, then, _>>=_}
 use Rattle.paper.specs.Page.{Request, number, read-bytes, read-number, read-schedule, read-request}
-use Rattle.page.specs.Page.{read-counted, asked, Counted, Framed}
-use Rattle.page.specs.declared.Place as P
-use Rattle.page.specs.declared.Frame as F
+use Rattle.page.specs.Contracts.{read-counted, asked, Part-ends, Parts-stand}
+use Rattle.page.specs.declared.PartEnd as E
+use Rattle.page.specs.declared.InputParts as I
 
 -- NUMBERS
 
@@ -193,31 +193,31 @@ module _ (input : List ℕ) where
     unfolding then
     third l line f = request-counted input ∙ rw (e, f)
 
--- THE FRAME
+-- THE PARTS
 
 module _ (input : List ℕ) where
-  pub cut-first : Counted input 0 P.Place.Cut → Framed input F.Frame.Cut
-  cut-first c = record { is = first-cut input (c .is); inside = tt }
+  pub cut-first : Part-ends input 0 E.PartEnd.Short → Parts-stand input I.InputParts.Refused
+  cut-first c = record { is = first-cut input (c .is); within = tt }
 
-  module _ {b : ℕ} (c : Counted input 0 (P.Place.At b)) where
-    pub cut-second : Counted input b P.Place.Cut → Framed input F.Frame.Cut
-    cut-second d = record { is = second-cut input b _ (c .is) (d .is); inside = tt }
+  module _ {b : ℕ} (c : Part-ends input 0 (E.PartEnd.At b)) where
+    pub cut-second : Part-ends input b E.PartEnd.Short → Parts-stand input I.InputParts.Refused
+    cut-second d = record { is = second-cut input b _ (c .is) (d .is); within = tt }
 
-    module _ {l : ℕ} (d : Counted input b (P.Place.At l)) where
+    module _ {l : ℕ} (d : Part-ends input b (E.PartEnd.At l)) where
       rest : read-request input ≡ read-rest (take (b - 2) (drop 2 input)) (take (l - (b + 2)) (drop (b + 2) input)) (drop l input)
       rest = third input b _ (c .is) l _ (d .is)
 
-      pub cut-rest : length input - l < 5 → Framed input F.Frame.Cut
-      cut-rest h = record { is = rest ∙ rest-short _ _ (drop l input) (omega (arith, length-drop l input)); inside = tt }
+      pub cut-rest : length input - l < 5 → Parts-stand input I.InputParts.Refused
+      cut-rest h = record { is = rest ∙ rest-short _ _ (drop l input) (omega (arith, length-drop l input)); within = tt }
 
-      pub cut-over : 32768 < length input - l - 5 → Framed input F.Frame.Cut
-      cut-over h = record { is = rest ∙ rest-over _ _ (drop l input) (omega (arith, length-drop l input)); inside = tt }
+      pub cut-over : 32768 < length input - l - 5 → Parts-stand input I.InputParts.Refused
+      cut-over h = record { is = rest ∙ rest-over _ _ (drop l input) (omega (arith, length-drop l input)); within = tt }
 
       units-are : l < length input → number 0 (take 1 (drop l input)) ≡ getD input l 0
       unfolding number
       units-are h = ap (λ (xs : List ℕ). number 0 (take 1 xs)) (drop-cons input l 0 h) ∙ omega arith
 
-      pub whole : 5 ≤ length input - l → length input - l - 5 ≤ 32768 → Framed input (F.Frame.Whole b l)
+      pub whole : 5 ≤ length input - l → length input - l - 5 ≤ 32768 → Parts-stand input (I.InputParts.At (record { book = b; line = l }))
       whole h k =
           let n = length-drop l input in
           let book : List ℕ = take (b - 2) (drop 2 input) in
@@ -232,5 +232,5 @@ module _ (input : List ℕ) where
                 })) (units-are (omega arith))
                 ∙ ap₂ (λ (ys zs : List ℕ). accepted (record { value = asked book line (getD input l 0) (number 0 (take 4 ys)) zs; left = [] }))
                 (drop-drop 1 l input) (drop-drop 4 1 (drop l input) ∙ drop-drop 5 l input);
-            inside = (c .within .0, d .within .0, omega arith);
+            within = (c .within .0, d .within .0, omega arith);
           }

@@ -10,8 +10,9 @@ use lib.ListN.{length, getD, take, drop, length-append, length-take, List·getD-
 use lib.Seq.{take-all, take-length, getD-take}
 use Rattle.paper.specs.Result.{refused}
 use Rattle.paper.specs.Page.{number, read-request, pageOf}
-use Rattle.page.specs.Page.{Paged, Bytes, StandardInput, PagedFrom, begins, fixed-line, Counted}
-use Rattle.page.specs.declared.Place as P
+use Rattle.page.specs.Spec.{Paged, Bytes, StandardInput, PagedFrom, begins, fixed-line}
+use Rattle.page.specs.Contracts.{Part-ends}
+use Rattle.page.specs.declared.PartEnd as E
 use Rattle.page.proofs.Input.{number-two, counted-at, cut-over}
 use Rattle.page.proofs.Lines.{page-cut}
 use Rattle.page.proofs.Prefix.{begins-front}
@@ -42,9 +43,9 @@ long-refused input h k =
     let m : ℕ = number 0 (take 2 (drop b input)) in
     let m-below : m < 65536 = length-below input b h (omega arith) in
     let l : ℕ = b + 2 + m in
-    let book : Counted input 0 (P.Place.At b) =
+    let book : Part-ends input 0 (E.PartEnd.At b) =
     record { is = counted-at input 0 (omega arith) n b refl refl (omega arith); within = (omega arith, omega arith) } in
-    let line : Counted input b (P.Place.At l) =
+    let line : Part-ends input b (E.PartEnd.At l) =
     record { is = counted-at input b (omega arith) m l refl refl (omega arith); within = (omega arith, omega arith) } in
     cut-over input book line (omega arith) .is
 

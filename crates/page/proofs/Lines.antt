@@ -12,7 +12,8 @@ use Rattle.paper.specs.Page.{Request, frame-fault, run-checked, answerOf, read-
 use Rattle.run.specs.Contracts.{ending}
 use Rattle.engine.specs.Spec as R
 use Rattle.engine.specs.declared.Answer as A
-use Rattle.page.specs.Page.{Paged, asked, Put, fixed-line, lines, Fits}
+use Rattle.page.specs.Spec.{Paged, fixed-line}
+use Rattle.page.specs.Contracts.{asked, Written-at, lines, Term-fits}
 
 -- THE ANSWER
 
@@ -52,7 +53,7 @@ lines-as (A.Answer.Ran r) (accepted a) output e h =
     }) term) (h a refl)
 
 fits-as : (r : A.Answer) (x : Result Answer) (output : List ℕ) → R.values r ≡ R.values-of x → length output ≡ 1024 →
-    ((a : Answer) → x ≡ accepted a → length (preorder (a .term)) ≤ 1024) → Fits r output
+    ((a : Answer) → x ≡ accepted a → length (preorder (a .term)) ≤ 1024) → Term-fits r output
 fits-as (A.Answer.Refused k) x output e l h = tt
 fits-as (A.Answer.Ran r) (refused n) output e l h = absurd (apart (sym e))
 fits-as (A.Answer.Ran r) (accepted a) output e l h =
@@ -71,7 +72,7 @@ module _ {book line : List ℕ} {units budget : ℕ} {schedule work output work�
       take (length (preorder (a .term))) output′ ≡ preorder (a .term)
   front a e = ap (take (length (preorder (a .term)))) (d .written a e) ∙ take-at (preorder (a .term)) _ _ refl
 
-  pub reduced-fits : length output′ ≡ 1024 → Fits r output′
+  pub reduced-fits : length output′ ≡ 1024 → Term-fits r output′
   reduced-fits l = fits-as r _ output′ (d .answer) l (λ a e. d .run-of a e .fits)
 
   pub reduced-lines : (budget′ : ℕ) (schedule′ : List ℕ) → budget ≡ budget′ → schedule ≡ schedule′ → length work ≡ R.published → length output ≡ 1024 →
@@ -92,5 +93,5 @@ pub page-whole : (input : List ℕ) (q : Request) → read-request input ≡ acc
 unfolding pageOf then
 page-whole input q e = ap (λ (x : Result (Read Request)). fixed-line ++ answer-lines (then x (λ r. answerOf 0 (r .value)))) (sym e)
 
-pub paged : {input page page′ : List ℕ} {r : ℕ} → Put 0 (pageOf input) page page′ r → Paged input page page′ r
+pub paged : {input page page′ : List ℕ} {r : ℕ} → Written-at 0 (pageOf input) page page′ r → Paged input page page′ r
 paged p = let e = p .ends in record { size = omega arith; is = p .is }

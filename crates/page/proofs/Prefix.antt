@@ -7,7 +7,7 @@ use native.Mathlib.Numerals.{add-one}
 use borrow.Author.Tests.{eq-eqb, ne-eqb}
 use lib.ListN.{length, getD, drop, drop-of-length-le}
 use lib.Seq.{drop-cons}
-use Rattle.page.specs.Page.{begins}
+use Rattle.page.specs.Spec.{begins}
 
 module _ (x y : ℕ) (xs bs : List ℕ) where
   same-first : x ≡ y → begins (x ∷ xs) (y ∷ bs) ≡ begins xs bs

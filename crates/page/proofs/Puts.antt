@@ -6,9 +6,9 @@ use native.Mathlib.Nat.{add-zero}
 use native.Mathlib.Omega.{arith}
 use lib.ListN.{length, take, drop, length-append, take-append-drop}
 use lib.Seq.{take-length, length-take-le, take-at, drop-at, drop-drop, paste, length-paste}
-use Rattle.page.specs.Page.{Put}
+use Rattle.page.specs.Contracts.{Written-at}
 
-module _ {at : ℕ} {xs page page′ : List ℕ} {next : ℕ} (p : Put at xs page page′ next) where
+module _ {at : ℕ} {xs page page′ : List ℕ} {next : ℕ} (p : Written-at at xs page page′ next) where
   front-length : length (take at page ++ xs) ≡ next
   front-length =
       let e = p .ends in
@@ -27,15 +27,15 @@ module _ {at : ℕ} {xs page page′ : List ℕ} {next : ℕ} (p : Put at xs pag
       ∙ ap (λ (l : List ℕ). drop k l) (ap (drop next) parted ∙ drop-at (take at page ++ xs) (drop next page) next front-length)
       ∙ drop-drop k next page
 
-pub put-none : (at : ℕ) (page : List ℕ) → at ≤ length page → Put at [] page page at
+pub put-none : (at : ℕ) (page : List ℕ) → at ≤ length page → Written-at at [] page page at
 put-none at page h = record { ends = sym (add-zero at); fits = h; long = refl; is = sym (take-append-drop at page) }
 
-pub put-as : {at : ℕ} {xs ys page page′ : List ℕ} {next : ℕ} → xs ≡ ys → Put at xs page page′ next → Put at ys page page′ next
-put-as {at} {page = page} {page′ = page′} {next = next} e = subst (λ (zs : List ℕ). Put at zs page page′ next) e
+pub put-as : {at : ℕ} {xs ys page page′ : List ℕ} {next : ℕ} → xs ≡ ys → Written-at at xs page page′ next → Written-at at ys page page′ next
+put-as {at} {page = page} {page′ = page′} {next = next} e = subst (λ (zs : List ℕ). Written-at at zs page page′ next) e
 
 -- a loop has copied all of them
 pub put-all : (at n : ℕ) (xs page : List ℕ) {page′ : List ℕ} → n ≡ length xs → at + n ≤ length page → page′ ≡ paste page at xs n →
-    Put at xs page page′ (at + n)
+    Written-at at xs page page′ (at + n)
 put-all at n xs page e h p = record {
   ends = ap (λ (k : ℕ). at + k) e;
   fits = h;
@@ -47,7 +47,7 @@ put-all at n xs page e h p = record {
 }
 
 -- one part after another
-pub put-both : {at : ℕ} {xs ys page page₁ page₂ : List ℕ} {n₁ n₂ : ℕ} → Put at xs page page₁ n₁ → Put n₁ ys page₁ page₂ n₂ → Put at (xs ++ ys) page page₂ n₂
+pub put-both : {at : ℕ} {xs ys page page₁ page₂ : List ℕ} {n₁ n₂ : ℕ} → Written-at at xs page page₁ n₁ → Written-at n₁ ys page₁ page₂ n₂ → Written-at at (xs ++ ys) page page₂ n₂
 put-both {at} {xs} {ys} {page} {page₁} {page₂} {n₁} {n₂} p q =
     let e = p .ends in
     let f = q .ends in

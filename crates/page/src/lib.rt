@@ -8,8 +8,8 @@ ghost use Prim.Native.Nat.{_+_, _≤_, _<_};
 ghost use lib.ListN.{length, take, drop};
 ghost use Rattle.paper.specs.Page.{number, ending-number, spaced, line, term-word, answer-lines, answerOf};
 ghost use Rattle.run.specs.Contracts.{ending};
-ghost use Rattle.engine.specs.Spec as R;
-ghost use Rattle.page.specs.Page as P;
+ghost use Rattle.page.specs.Spec as S;
+ghost use Rattle.page.specs.Contracts as C;
 
 // The length that a page has room in.
 pub const PAGE: usize = 8192;
@@ -22,27 +22,21 @@ pub const INPUT: usize = 163848;
 const SCHEDULE: usize = 32768;
 
 // The position behind counted bytes, or that they are cut short.
-enum Place {
-    Cut,
+enum PartEnd {
+    Short,
     At(usize),
 }
 
-// Where the input's parts stand: the positions behind the book and behind the line; or 17.
-enum Frame {
-    Cut,
-    Whole(usize, usize),
+// The positions behind the book and behind the line.
+struct Parts {
+    book: usize,
+    line: usize,
 }
 
-fn wide(x: u8) -> usize
-    ensures { λ r. ⌜ (r ≡ x) × (r < 256) ⌝ }
-{
-    x as usize
-}
-
-fn count(x: u32) -> usize
-    ensures { λ r. ⌜ r ≡ x ⌝ }
-{
-    x as usize
+// Where the input's parts stand, or that 17 refuses it.
+enum InputParts {
+    Refused,
+    At(Parts),
 }
 
 // The input
@@ -52,7 +46,7 @@ fn pair(input: &[u8], at: usize) -> usize
     requires { ⌜ at + 2 ≤ length (now input) ⌝ }
     ensures { λ r. ⌜ (r ≡ number 0 (take 2 (drop at (now (input .entry))))) × (r < 65536) ⌝ }
 {
-    wide(input[at]) * 256 + wide(input[at + 1])
+    casts::index(input[at]) * 256 + casts::index(input[at + 1])
 }
 
 // Four bytes as one number.
@@ -60,50 +54,50 @@ fn quad(input: &[u8], at: usize) -> u32
     requires { ⌜ at + 4 ≤ length (now input) ⌝ }
     ensures { λ r. ⌜ r ≡ number 0 (take 4 (drop at (now (input .entry)))) ⌝ }
 {
-    (pair(input, at) * 65536 + pair(input, at + 2)) as u32
+    casts::word(pair(input, at) * 65536 + pair(input, at + 2))
 }
 
 // The position behind the bytes whose length stands at position at.
-fn counted(input: &[u8], at: usize) -> Place
+fn part_end(input: &[u8], at: usize) -> PartEnd
     requires { ⌜ at ≤ length (now input) ⌝ }
-    ensures { λ r. ⌜ P.Counted (now (input .entry)) at r ⌝ }
+    ensures { λ r. ⌜ C.Part-ends (now (input .entry)) at r ⌝ }
 {
     if input.len() - at < 2 {
-        return Place::Cut;
+        return PartEnd::Short;
     }
     let n = pair(input, at);
     let start = at + 2;
     if input.len() - start < n {
-        return Place::Cut;
+        return PartEnd::Short;
     }
-    Place::At(start + n)
+    PartEnd::At(start + n)
 }
 
 // Where the parts of the input stand.
-fn parts(input: &[u8]) -> Frame
-    ensures { λ r. ⌜ P.Framed (now (input .entry)) r ⌝ }
+fn parts_of(input: &[u8]) -> InputParts
+    ensures { λ r. ⌜ C.Parts-stand (now (input .entry)) r ⌝ }
 {
-    let Place::At(book) = counted(input, 0) else {
-        return Frame::Cut;
+    let PartEnd::At(book) = part_end(input, 0) else {
+        return InputParts::Refused;
     };
-    let Place::At(line) = counted(input, book) else {
-        return Frame::Cut;
+    let PartEnd::At(line) = part_end(input, book) else {
+        return InputParts::Refused;
     };
     let left = input.len() - line;
     if left < 5 {
-        return Frame::Cut;
+        return InputParts::Refused;
     }
     if SCHEDULE < left - 5 {
-        return Frame::Cut;
+        return InputParts::Refused;
     }
-    Frame::Whole(book, line)
+    InputParts::At(Parts { book, line })
 }
 
 // Writing: each function answers the position behind what it wrote.
 
 fn put(bytes: &[u8], page: &mut [u8; 8192], at: usize) -> usize
     requires { ⌜ (length (now page) ≡ 8192) × (at + length (now bytes) ≤ 8192) ⌝ }
-    ensures { λ r. ⌜ P.Put at (now (bytes .entry)) (now (page .entry)) (now (page .exit)) r ⌝ }
+    ensures { λ r. ⌜ C.Written-at at (now (bytes .entry)) (now (page .entry)) (now (page .exit)) r ⌝ }
 {
     let mut i = 0;
     while i < bytes.len() {
@@ -116,26 +110,26 @@ fn put(bytes: &[u8], page: &mut [u8; 8192], at: usize) -> usize
 // The digits of v at the end of d, the last one first; the position of the first digit.
 fn digits(v: usize, d: &mut [u8; 20]) -> usize
     requires { ⌜ length (now d) ≡ 20 ⌝ }
-    ensures { λ r. ⌜ P.Digits v (now (d .exit)) r ⌝ }
+    ensures { λ r. ⌜ C.Digits-from v (now (d .exit)) r ⌝ }
 {
     let mut left = v;
     let mut i = 20;
     while 0 < i {
         i -= 1;
         if left < 10 {
-            d[i] = 48 + left as u8;
+            d[i] = 48 + casts::byte(left);
             return i;
         }
-        d[i] = 48 + (left % 10) as u8;
+        d[i] = 48 + casts::byte(left % 10);
         left = left / 10;
     }
     i
 }
 
 // A decimal field, with a space before it.
-fn field(v: usize, page: &mut [u8; 8192], at: usize) -> usize
+fn decimal_field(v: usize, page: &mut [u8; 8192], at: usize) -> usize
     requires { ⌜ (length (now page) ≡ 8192) × (at + 21 ≤ 8192) ⌝ }
-    ensures { λ r. ⌜ P.Put at (P.field v) (now (page .entry)) (now (page .exit)) r × (r ≤ at + 21) ⌝ }
+    ensures { λ r. ⌜ C.Written-at at (C.decimal-field v) (now (page .entry)) (now (page .exit)) r × (r ≤ at + 21) ⌝ }
 {
     let mut d = [0u8; 20];
     let i = digits(v, &mut d);
@@ -146,22 +140,22 @@ fn field(v: usize, page: &mut [u8; 8192], at: usize) -> usize
 // A line: a word and one field.
 fn line(word: &[u8], v: usize, page: &mut [u8; 8192], at: usize) -> usize
     requires { ⌜ (length (now word) ≤ 8) × (length (now page) ≡ 8192) × (at + 30 ≤ 8192) ⌝ }
-    ensures { λ r. ⌜ P.Put at (line (now (word .entry)) (v ∷ [])) (now (page .entry)) (now (page .exit)) r × (r ≤ at + 30) ⌝ }
+    ensures { λ r. ⌜ C.Written-at at (line (now (word .entry)) (v ∷ [])) (now (page .entry)) (now (page .exit)) r × (r ≤ at + 30) ⌝ }
 {
     let p = put(word, page, at);
-    let q = field(v, page, p);
+    let q = decimal_field(v, page, p);
     put(b"\n", page, q)
 }
 
 // A field for each symbol: at most three digits each.
 fn symbols(term: &[u8], page: &mut [u8; 8192], at: usize) -> usize
     requires { ⌜ (length (now term) ≤ 1024) × (length (now page) ≡ 8192) × (at ≤ 4000) ⌝ }
-    ensures { λ r. ⌜ P.Put at (spaced (now (term .entry))) (now (page .entry)) (now (page .exit)) r × (r ≤ at + 4096) ⌝ }
+    ensures { λ r. ⌜ C.Written-at at (spaced (now (term .entry))) (now (page .entry)) (now (page .exit)) r × (r ≤ at + 4096) ⌝ }
 {
     let mut p = at;
     let mut i = 0;
     while i < term.len() {
-        p = field(wide(term[i]), page, p);
+        p = decimal_field(casts::index(term[i]), page, p);
         i += 1;
     }
     p
@@ -169,7 +163,7 @@ fn symbols(term: &[u8], page: &mut [u8; 8192], at: usize) -> usize
 
 fn term_line(term: &[u8], page: &mut [u8; 8192], at: usize) -> usize
     requires { ⌜ (length (now term) ≤ 1024) × (length (now page) ≡ 8192) × (at ≤ 3000) ⌝ }
-    ensures { λ r. ⌜ P.Put at (line term-word (now (term .entry))) (now (page .entry)) (now (page .exit)) r ⌝ }
+    ensures { λ r. ⌜ C.Written-at at (line term-word (now (term .entry))) (now (page .entry)) (now (page .exit)) r ⌝ }
 {
     let p = put(b"term", page, at);
     let q = symbols(term, page, p);
@@ -177,7 +171,7 @@ fn term_line(term: &[u8], page: &mut [u8; 8192], at: usize) -> usize
 }
 
 // The ending's number.
-fn number_of(e: Ending) -> usize
+fn ending_number(e: Ending) -> usize
     ensures { λ r. ⌜ r ≡ ending-number (ending e) ⌝ }
 {
     match e {
@@ -191,11 +185,11 @@ fn number_of(e: Ending) -> usize
 // The lines of a run and its term.
 fn run_lines(r: Run, term: &[u8], page: &mut [u8; 8192], at: usize) -> usize
     requires { ⌜ (length (now term) ≤ 1024) × (length (now page) ≡ 8192) × (at ≤ 1000) ⌝ }
-    ensures { λ s. ⌜ P.Put at (P.run-lines r (now (term .entry))) (now (page .entry)) (now (page .exit)) s ⌝ }
+    ensures { λ s. ⌜ C.Written-at at (C.run-lines r (now (term .entry))) (now (page .entry)) (now (page .exit)) s ⌝ }
 {
     let ending = r.ending;
-    let a = line(b"end", number_of(ending), page, at);
-    let b = line(b"rewrites", count(r.rewrites), page, a);
+    let a = line(b"end", ending_number(ending), page, at);
+    let b = line(b"rewrites", casts::position(r.rewrites), page, a);
     let c = line(b"entries", r.entries, page, b);
     let d = line(b"granted", r.granted, page, c);
     term_line(term, page, d)
@@ -203,11 +197,11 @@ fn run_lines(r: Run, term: &[u8], page: &mut [u8; 8192], at: usize) -> usize
 
 // The lines of the engine's answer, whose term stands at the front of the output.
 fn answer(a: Answer, output: &[u8], page: &mut [u8; 8192], at: usize) -> usize
-    requires { ⌜ (P.Fits a (now output)) × (length (now page) ≡ 8192) × (at ≤ 1000) ⌝ }
-    ensures { λ r. ⌜ P.Put at (P.lines a (now (output .entry))) (now (page .entry)) (now (page .exit)) r ⌝ }
+    requires { ⌜ (C.Term-fits a (now output)) × (length (now page) ≡ 8192) × (at ≤ 1000) ⌝ }
+    ensures { λ r. ⌜ C.Written-at at (C.lines a (now (output .entry))) (now (page .entry)) (now (page .exit)) r ⌝ }
 {
     match a {
-        Answer::Refused(k) => line(b"refused", wide(k), page, at),
+        Answer::Refused(k) => line(b"refused", casts::index(k), page, at),
         Answer::Ran(r) => {
             let n = r.length;
             run_lines(r, &output[..n], page, at)
@@ -216,12 +210,14 @@ fn answer(a: Answer, output: &[u8], page: &mut [u8; 8192], at: usize) -> usize
 }
 
 // The run of a whole input, and its lines. The buffers that are lent are of just the lengths that are asked for.
-fn run_page(input: &[u8], book: usize, line: usize, page: &mut [u8; 8192], at: usize) -> usize
-    requires { ⌜ (2 ≤ book) × (book + 2 ≤ line) × (line + 5 ≤ length (now input)) × (length (now page) ≡ 8192) × (at ≤ 1000) ⌝ }
-    ensures { λ r. ⌜ P.Put at (answer-lines (answerOf 0 (P.request (now (input .entry)) book line))) (now (page .entry)) (now (page .exit)) r ⌝ }
+fn run_page(input: &[u8], parts: Parts, page: &mut [u8; 8192], at: usize) -> usize
+    requires { ⌜ C.Parts-within (now input) parts × (length (now page) ≡ 8192) × (at ≤ 1000) ⌝ }
+    ensures { λ r. ⌜ C.Written-at at (answer-lines (answerOf 0 (C.request-of (now (input .entry)) parts))) (now (page .entry)) (now (page .exit)) r ⌝ }
 {
     let mut work = [0u8; engine::WORK];
     let mut output = [0u8; engine::OUTPUT];
+    let book = parts.book;
+    let line = parts.line;
     let start = book + 2;
     let schedule = line + 5;
     let budget = quad(input, line + 1);
@@ -240,12 +236,12 @@ fn run_page(input: &[u8], book: usize, line: usize, page: &mut [u8; 8192], at: u
 // The page of a whole standard input, at the front of the buffer; how many bytes it has.
 fn page(input: &[u8], page: &mut [u8; 8192]) -> usize
     requires { ⌜ length (now page) ≡ 8192 ⌝ }
-    ensures { λ r. ⌜ P.Paged (now (input .entry)) (now (page .entry)) (now (page .exit)) r ⌝ }
+    ensures { λ r. ⌜ S.Paged (now (input .entry)) (now (page .entry)) (now (page .exit)) r ⌝ }
 {
     let at = put(b"REDUCE 1\n", page, 0);
-    match parts(input) {
-        Frame::Cut => line(b"refused", 17, page, at),
-        Frame::Whole(book, line) => run_page(input, book, line, page, at),
+    match parts_of(input) {
+        InputParts::Refused => line(b"refused", 17, page, at),
+        InputParts::At(parts) => run_page(input, parts, page, at),
     }
 }
 
@@ -253,7 +249,7 @@ fn page(input: &[u8], page: &mut [u8; 8192]) -> usize
 // at the front of the sheet; how many bytes it has.
 pub fn of_buffer(buffer: &[u8; INPUT], n: usize, sheet: &mut [u8; PAGE]) -> usize
     requires { ⌜ length (now sheet) ≡ 8192 ⌝ }
-    ensures { λ r. ⌜ P.PagedFrom (now (buffer .entry)) n (now (sheet .entry)) (now (sheet .exit)) r ⌝ }
+    ensures { λ r. ⌜ S.PagedFrom (now (buffer .entry)) n (now (sheet .entry)) (now (sheet .exit)) r ⌝ }
 {
     let bytes: &[u8] = buffer;
     if n < bytes.len() {
@@ -264,7 +260,7 @@ pub fn of_buffer(buffer: &[u8; INPUT], n: usize, sheet: &mut [u8; PAGE]) -> usiz
 
 // Do the bytes begin with this line?
 fn begins(line: &[u8], bytes: &[u8]) -> bool
-    ensures { λ r. ⌜ r ≡ P.begins (now (line .entry)) (now (bytes .entry)) ⌝ }
+    ensures { λ r. ⌜ r ≡ S.begins (now (line .entry)) (now (bytes .entry)) ⌝ }
 {
     let mut i = 0;
     while i < line.len() {
@@ -281,7 +277,7 @@ fn begins(line: &[u8], bytes: &[u8]) -> bool
 
 // Are these the bytes of a page, as its first line says?
 pub fn is_page(bytes: &[u8]) -> bool
-    ensures { λ r. ⌜ r ≡ P.begins P.fixed-line (now (bytes .entry)) ⌝ }
+    ensures { λ r. ⌜ r ≡ S.begins S.fixed-line (now (bytes .entry)) ⌝ }
 {
     begins(b"REDUCE 1\n", bytes)
 }

@@ -30,10 +30,11 @@ struct Head {
     output: usize,
 }
 
-fn wide(high: usize, low: usize) -> u32
+// Two numbers of two bytes as one, the most significant first.
+fn long_number(high: usize, low: usize) -> u32
     requires { ⌜ (high < 65536) × (low < 65536) ⌝ }
 {
-    high as u32 * 65536 + low as u32
+    casts::word(high * 65536 + low)
 }
 
 fn head_of(bytes: &[u8; 16]) -> Head
@@ -41,11 +42,11 @@ fn head_of(bytes: &[u8; 16]) -> Head
     ensures { λ r. ⌜ (r .name < 256) × (r .book < 65536) × (r .line < 65536) × (r .schedule < 65536) × (r .work < 65536) × (r .output < 65536) ⌝ }
 {
     Head {
-        name: cases::wide(bytes[0]),
+        name: casts::index(bytes[0]),
         book: cases::number(bytes[1], bytes[2]),
         line: cases::number(bytes[3], bytes[4]),
         units: bytes[5],
-        budget: wide(
+        budget: long_number(
             cases::number(bytes[6], bytes[7]),
             cases::number(bytes[8], bytes[9]),
         ),
@@ -100,7 +101,7 @@ fn say_run(run: Run, output: &[u8])
     say(b"end ");
     say_number(ending_number(ending));
     say(b" rewrites ");
-    say_number(run.rewrites as usize);
+    say_number(casts::position(run.rewrites));
     say(b" entries ");
     say_number(run.entries);
     say(b" granted ");

@@ -7,13 +7,13 @@ use Rattle.kurvneist.proofs.kurvneist_reduce.Tie as tie
 returns : tie.Need-returns
 returns c =
     let q = c .before .before .before in
-    reduced _ (rw (q .k .given .1) at (q .before .before .before .before .before .before .reduce .ensures)) (c .put .ensures)
+    reduced _ (rw (q .k .given .1) at (q .before .before .before .before .before .before .reduce .ensures)) (c .put-numbers .ensures)
 
 returns-2 : tie.Need-returns-2
 returns-2 c =
     let q = c .before .before .before .before .before in
     let a = q .before .before .before .before .before .before in
-    reduced _ (rw (q .run .given .1) at (a .reduce .ensures)) (rw (c .before .before .number .ensures) at (c .put2 .ensures))
+    reduced _ (rw (q .run .given .1) at (a .reduce .ensures)) (rw (c .before .before .ending-number .ensures) at (c .put-numbers2 .ensures))
 
 pub kurvneist-reduce-spec : {M : Type 1} → statement M
 kurvneist-reduce-spec =

@@ -7,7 +7,7 @@ use denote.Ref.{now}
 use lib.Seq.{length-take-le}
 use Rattle.paper.specs.Page.{line, refused-word}
 use Rattle.engine.specs.declared.Answer as A
-use Rattle.page.specs.Page.{lines}
+use Rattle.page.specs.Contracts.{lines}
 use Rattle.page.proofs.Puts.{put-as}
 use borrow.Author.Needs.{needs}
 use Rattle.page.proofs.answer.Statement.{statement}
@@ -31,7 +31,7 @@ returns c =
     let s = c .before .before .before .before .before .before .before .before in
     let r = c .before .before .before .before .before .a .given in
     put-as
-    (ap (λ (k : ℕ). line refused-word (k ∷ [])) (c .before .before .wide .ensures .0)
+    (ap (λ (k : ℕ). line refused-word (k ∷ [])) (c .before .before .index .ensures .0)
     ∙ ap (λ (x : A.Answer). lines x (now (s .args .output))) (sym (r .1)))
     (c .line .ensures .0)
 

@@ -1,6 +1,6 @@
 -- `page::begins` meets its contract. The loop's invariant: the bytes begin with the line if the bytes from i on begin with the line's rest. The
 -- measure is how many bytes of the line are left. Assumes nothing.
-use Rattle.page.specs.Page as P
+use Rattle.page.specs.Spec as S
 use Rattle.page.proofs.Prefix.{begins-all, begins-short, begins-other, begins-more}
 use mathlib.Core.Path.{_≡_, refl, sym, _∙_}
 use Prim.Native.Nat.{_-_, _≤_}
@@ -11,7 +11,7 @@ use Rattle.page.proofs.begins.Statement.{statement}
 use Rattle.page.proofs.begins.Tie as tie
 
 abbrev Inv-loop : tie.InvT-loop
-Inv-loop line bytes i₀ i = (i ≤ length line) × (P.begins line bytes ≡ P.begins (drop i line) (drop i bytes))
+Inv-loop line bytes i₀ i = (i ≤ length line) × (S.begins line bytes ≡ S.begins (drop i line) (drop i bytes))
 
 abbrev μ-loop : tie.MeasureT-loop
 μ-loop line bytes i₀ i = length line - i

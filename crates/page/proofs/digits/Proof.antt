@@ -3,7 +3,7 @@
 use denote.Ref.{now}
 use Rattle.paper.specs.Page as D
 use Rattle.page.proofs.Decimals.{digits-start, digit-last, digit-more, digits-none}
-use mathlib.Core.Path.{_≡_, refl, _∙_}
+use mathlib.Core.Path.{_≡_, _∙_}
 use Prim.Native.Nat.{_-_, _≤_}
 use native.Mathlib.Omega.{arith}
 use lib.ListN.{length, drop, length-set}
@@ -22,18 +22,18 @@ loop-holds c = (omega arith, c .pre, digits-start _ (now (c .args .d)) (c .pre))
 
 returns : tie.Need-returns Inv-loop μ-loop
 returns c =
-    let l = c .before .before .loop in record {
+    let l = c .before .before .before .loop in record {
       long = simp length-set (l .inv .1);
       start = omega arith;
-      are = digit-last (l .i) (l .i - 1) (l .left) (l .d) _ (omega arith) (omega (arith, l .inv .1)) (c .if1 .taken) refl ∙ l .inv .2;
+      are = digit-last (l .i) (l .i - 1) (l .left) (l .d) (omega arith) (omega (arith, l .inv .1)) (c .before .if1 .taken) (c .byte .ensures) ∙ l .inv .2;
     }
 
 loop-again : tie.Need-loop-again Inv-loop μ-loop
 loop-again c =
-    let l = c .before .before .loop in (
+    let l = c .before .before .before .loop in (
       omega arith,
       simp length-set (l .inv .1),
-      digit-more (l .i) (l .i - 1) (l .left) (l .d) _ (omega arith) (omega (arith, l .inv .1)) (c .if1 .left) refl ∙ l .inv .2,
+      digit-more (l .i) (l .i - 1) (l .left) (l .d) (omega arith) (omega (arith, l .inv .1)) (c .before .if1 .left) (c .byte2 .ensures) ∙ l .inv .2,
     )
 
 returns-2 : tie.Need-returns-2 Inv-loop μ-loop
@@ -44,5 +44,5 @@ returns-2 c =
 pub digits-spec : {M : Type 1} → statement M
 digits-spec =
     tie.close
-    (tie.spec Inv-loop μ-loop loop-holds (λ c. search needs) (λ c. search needs) (λ c. search needs) (λ c. search needs) returns
-    (λ c. search needs) (λ c. search needs) (λ c. search needs) (λ c. search needs) loop-again returns-2)
+    (tie.spec Inv-loop μ-loop loop-holds (λ c. search needs) (λ c κs. search needs) (λ c. search needs) (λ c. search needs) returns
+    (λ c κs. search needs) (λ c. search needs) (λ c. search needs) (λ c. search needs) loop-again returns-2)

@@ -9,7 +9,7 @@ use Rattle.page.proofs.line.Tie as tie
 returns : tie.Need-returns
 returns c =
     let p = c .before .before .before .before .before .put .ensures in
-    let f = c .before .before .before .field .ensures in
+    let f = c .before .before .before .decimal-field .ensures in
     let q = c .put2 .ensures in
     (put-as (one-field _ _) (put-both p (put-both (f .0) q)), omega (arith, p .ends, f .1, q .ends))
 

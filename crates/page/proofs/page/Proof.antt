@@ -12,15 +12,15 @@ use Rattle.page.proofs.page.Tie as tie
 run-page-requires : tie.Need-run-page-requires
 run-page-requires c κs =
     let p = c .before .before .before .before .before in
-    let f = rw (c .before .before .book .given .1) at (c .before .before .before .before .parts .ensures) in
-    (f .inside .0, f .inside .1, f .inside .2, p .put .ensures .long ∙ p .before .before .before .before .pre, omega (arith, p .put .ensures .ends))
+    let f = rw (c .before .before .parts .given .1) at (c .before .before .before .before .parts-of .ensures) in
+    (f .within, p .put .ensures .long ∙ p .before .before .before .before .pre, omega (arith, p .put .ensures .ends))
 
 returns : tie.Need-returns
 unfolding line
 returns c =
     let p = c .before .before .before .before .before .before in
     let s = p .before .before .before .before in
-    let f = rw (c .before .before .before .enum-told .given .1) at (c .before .before .before .before .before .parts .ensures) in
+    let f = rw (c .before .before .before .enum-told .given .1) at (c .before .before .before .before .before .parts-of .ensures) in
     paged (put-as (page-cut (now (s .args .input)) (f .is)) (put-both (p .put .ensures) (c .line .ensures .0)))
 
 returns-2 : tie.Need-returns-2
@@ -28,7 +28,7 @@ unfolding line
 returns-2 c =
     let p = c .before .before .before .before .before .before in
     let s = p .before .before .before .before in
-    let f = rw (c .before .before .before .book .given .1) at (c .before .before .before .before .before .parts .ensures) in
+    let f = rw (c .before .before .before .parts .given .1) at (c .before .before .before .before .before .parts-of .ensures) in
     paged (put-as (page-whole (now (s .args .input)) _ (f .is)) (put-both (p .put .ensures) (c .run-page .ensures)))
 
 pub page-spec : {M : Type 1} → statement M

@@ -8,8 +8,8 @@ use Rattle.page.proofs.pair.Tie as tie
 
 returns : tie.Need-returns
 returns c =
-    let v = c .before .before .wide .ensures in
-    let w = c .wide2 .ensures in
+    let v = c .before .before .index .ensures in
+    let w = c .index2 .ensures in
     let s = c .before .before .before .before .before in
     (omega (arith, number-two (now (s .args .input)) (s .args .at) (s .pre), v .0, w .0), omega (arith, v .1, w .1))
 

@@ -8,8 +8,8 @@ use Rattle.page.proofs.quad.Tie as tie
 
 returns : tie.Need-returns
 returns c =
-    let s = c .before .before .before in
-    omega (arith, number-four (now (s .args .input)) (s .args .at) (s .pre), c .pair2 .ensures .0, c .before .pair .ensures .0)
+    let s = c .before .before .before .before in
+    omega (arith, c .word .ensures, number-four (now (s .args .input)) (s .args .at) (s .pre), c .before .pair2 .ensures .0, c .before .before .pair .ensures .0)
 
 pub quad-spec : {M : Type 1} → statement M
 quad-spec =

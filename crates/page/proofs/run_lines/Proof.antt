@@ -23,7 +23,7 @@ returns c =
     line end-word (x ∷ [])
     ++ (line rewrites-word (y ∷ [])
     ++ (line entries-word (s .args .r .entries ∷ [])
-    ++ (line granted-word (s .args .r .granted ∷ []) ++ line term-word (now (s .args .term)))))) (n .number-of .ensures) (k .count .ensures))
+    ++ (line granted-word (s .args .r .granted ∷ []) ++ line term-word (now (s .args .term)))))) (n .ending-number .ensures) (k .position .ensures .0))
     (put-both (g .line .ensures .0)
     (put-both (f .line2 .ensures .0) (put-both (e .line3 .ensures .0) (put-both (d .line4 .ensures .0) (c .term-line .ensures)))))
 

@@ -2,7 +2,7 @@
 -- measure is how many symbols are left. Assumes nothing.
 use mathlib.Core.List.{List}
 use Rattle.paper.specs.Page.{spaced}
-use Rattle.page.specs.Page.{Put}
+use Rattle.page.specs.Contracts.{Written-at}
 use Rattle.page.proofs.Puts.{put-none, put-as, put-both}
 use Rattle.page.proofs.Decimals.{field-short, spaced-more, spaced-end}
 use mathlib.Core.Path.{_≡_, _∙_}
@@ -16,7 +16,7 @@ use Rattle.page.proofs.symbols.Tie as tie
 abbrev Inv-loop : tie.InvT-loop
 Inv-loop term page₀ at p₀ i₀ page p i =
     (i ≤ length term) × (p ≤ at + 4 * i) × (length page ≡ 8192)
-    × ((page′ : List ℕ) (r : ℕ) → Put p (spaced (drop i term)) page page′ r → Put at (spaced term) page₀ page′ r)
+    × ((page′ : List ℕ) (r : ℕ) → Written-at p (spaced (drop i term)) page page′ r → Written-at at (spaced term) page₀ page′ r)
 
 abbrev μ-loop : tie.MeasureT-loop
 μ-loop term page₀ at p₀ i₀ page p i = length term - i
@@ -24,16 +24,16 @@ abbrev μ-loop : tie.MeasureT-loop
 loop-holds : tie.Need-loop-holds Inv-loop μ-loop
 loop-holds c = (omega arith, omega arith, c .before .pre .1, λ page′ r h. h)
 
-field-requires : tie.Need-field-requires Inv-loop μ-loop
-field-requires c κs =
+decimal-field-requires : tie.Need-decimal-field-requires Inv-loop μ-loop
+decimal-field-requires c κs =
     let l = c .before .before .before .before in
     let s = l .before .before in
     (l .loop .inv .2, omega (arith, l .loop .inv .1, s .pre .0, s .pre .2))
 
 loop-again : tie.Need-loop-again Inv-loop μ-loop
 loop-again c =
-    let f = c .field .ensures in
-    let w = c .before .before .wide .ensures in
+    let f = c .decimal-field .ensures in
+    let w = c .before .before .index .ensures in
     let l = c .before .before .before .before .before .loop in (
       omega arith,
       omega (arith, l .inv .1, f .0 .ends, field-short _ (w .1)),
@@ -53,5 +53,5 @@ returns c =
 pub symbols-spec : {M : Type 1} → statement M
 symbols-spec =
     tie.close
-    (tie.spec Inv-loop μ-loop loop-holds (λ c. search needs) (λ c κs. search needs) field-requires (λ c. search needs) (λ c. search needs)
+    (tie.spec Inv-loop μ-loop loop-holds (λ c. search needs) (λ c κs. search needs) decimal-field-requires (λ c. search needs) (λ c. search needs)
     loop-again returns)

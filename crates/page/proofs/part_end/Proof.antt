@@ -1,10 +1,10 @@
--- `page::counted` meets its contract, by the laws of counted bytes. Assumes nothing.
+-- `page::part_end` meets its contract, by the laws of counted bytes. Assumes nothing.
 use mathlib.Core.Path.{refl}
 use native.Mathlib.Omega.{arith}
 use Rattle.page.proofs.Input.{counted-none, counted-few, counted-at}
 use borrow.Author.Needs.{needs}
-use Rattle.page.proofs.counted.Statement.{statement}
-use Rattle.page.proofs.counted.Tie as tie
+use Rattle.page.proofs.part_end.Statement.{statement}
+use Rattle.page.proofs.part_end.Tie as tie
 
 returns : tie.Need-returns
 returns c = let s = c .before .before in record { is = counted-none _ (s .args .at) (omega arith); within = tt }
@@ -19,7 +19,7 @@ returns-3 c =
     let s = c .before .before .before .before in
     record { is = counted-at _ (s .args .at) (omega arith) _ _ (c .before .pair .ensures .0) refl (omega arith); within = (omega arith, omega arith) }
 
-pub counted-spec : {M : Type 1} → statement M
-counted-spec =
+pub part-end-spec : {M : Type 1} → statement M
+part-end-spec =
     tie.close
     (tie.spec (λ c. search needs) returns (λ c κs. search needs) (λ c. search needs) (λ c. search needs) returns-2 (λ c. search needs) returns-3)

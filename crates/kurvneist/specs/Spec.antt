@@ -16,14 +16,14 @@ refusal (refused k) = k
 refusal (accepted v) = 0
 
 -- ending, rewrites, entries, granted, length
-abbrev pub numbers : Result R.Values → List ℕ
-numbers (refused k) = 0 ∷ 0 ∷ 0 ∷ 0 ∷ 0 ∷ []
-numbers (accepted v) = ending-number (v .ending) ∷ v .rewrites ∷ v .entries ∷ v .granted ∷ v .length ∷ []
+abbrev pub value-numbers : Result R.Values → List ℕ
+value-numbers (refused k) = 0 ∷ 0 ∷ 0 ∷ 0 ∷ 0 ∷ []
+value-numbers (accepted v) = ending-number (v .ending) ∷ v .rewrites ∷ v .entries ∷ v .granted ∷ v .length ∷ []
 
-pub record Reduced (book line : List ℕ) (units budget : ℕ) (schedule work output work′ output′ answer′ : List ℕ) (r : ℕ) : Type 0 where
+pub record Reduced-in-numbers (book line : List ℕ) (units budget : ℕ) (schedule work output work′ output′ answer′ : List ℕ) (r : ℕ) : Type 0 where
   -- the definition's number and values
   pub number : r ≡ refusal (R.values-of (R.answered book line units budget schedule work output))
-  pub values : answer′ ≡ numbers (R.values-of (R.answered book line units budget schedule work output))
+  pub values : answer′ ≡ value-numbers (R.values-of (R.answered book line units budget schedule work output))
   -- what becomes of the lent buffers, clause by clause
   pub answer : A.Answer
   pub buffers : R.Reduced book line units budget schedule work output work′ output′ answer
@@ -37,7 +37,7 @@ abbrev pub written-length : W.Written → ℕ
 written-length (W.Written.Refused k) = 0
 written-length (W.Written.Length n) = n
 
-pub record Wrote (book output output′ length′ : List ℕ) (r : ℕ) : Type 0 where
+pub record Wrote-in-numbers (book output output′ length′ : List ℕ) (r : ℕ) : Type 0 where
   pub answer : W.Written
   pub is : Answers book output output′ answer
   pub number : r ≡ written-refusal answer

@@ -1,4 +1,4 @@
--- `page::field` meets its contract: a space, then the digits as they stand. Assumes nothing.
+-- `page::decimal_field` meets its contract: a space, then the digits as they stand. Assumes nothing.
 use mathlib.Core.List.{List, _∷_}
 use lib.ListN.{length, take, drop, length-drop}
 use lib.Seq.{take-all}
@@ -7,8 +7,8 @@ use Prim.Native.Nat.{ℕ, _-_}
 use native.Mathlib.Omega.{arith}
 use Rattle.page.proofs.Puts.{put-as, put-both}
 use borrow.Author.Needs.{needs}
-use Rattle.page.proofs.field.Statement.{statement}
-use Rattle.page.proofs.field.Tie as tie
+use Rattle.page.proofs.decimal_field.Statement.{statement}
+use Rattle.page.proofs.decimal_field.Tie as tie
 
 returns : tie.Need-returns
 returns c =
@@ -20,8 +20,8 @@ returns c =
     let t : take (20 - i) (drop i l) ≡ drop i l = take-all (20 - i) (drop i l) (omega (arith, length-drop i l, d .long)) in
     (put-as (ap (λ (ds : List ℕ). 32 ∷ ds) (t ∙ d .are)) (put-both p q), omega (arith, p .ends, q .ends, ap length t, length-drop i l, d .long))
 
-pub field-spec : {M : Type 1} → statement M
-field-spec =
+pub decimal-field-spec : {M : Type 1} → statement M
+decimal-field-spec =
     tie.close
     (tie.spec (λ c κs. search needs) (λ c. search needs) (λ c κs. search needs) (λ c. search needs) (λ c. search needs) (λ c. search needs)
     (λ c κs. search needs) returns)

@@ -1,0 +1,99 @@
+-- What the functions behind the page ask of each other: where the parts of an input stand, and which bytes are written where. Assumes nothing.
+use mathlib.Core.List.{List, [], _∷_, _++_}
+use mathlib.Core.Path.{_≡_}
+use Prim.Native.Nat.{ℕ, _+_, _-_, _≤_}
+use lib.ListN.{length, getD, take, drop}
+use Rattle.paper.specs.Result.{Result, refused, accepted, Read, Reader, _>>=_}
+use Rattle.paper.specs.Page.{Request, number, read-bytes, read-number, read-request, ending-number, decimal, line, refused-word, end-word, rewrites-word, entries-word, granted-word, term-word}
+use Rattle.run.specs.Contracts.{ending}
+use Rattle.run.specs.declared.Run as D
+use Rattle.engine.specs.declared.Answer as A
+use Rattle.page.specs.declared.PartEnd as E
+use Rattle.page.specs.declared.Parts as P
+use Rattle.page.specs.declared.InputParts as I
+
+-- THE PARTS OF AN INPUT
+
+-- bytes behind their length
+unfoldable pub read-counted : Reader (List ℕ)
+unfolding _>>=_ read-number read-bytes
+read-counted = do
+  n ← read-number 2
+  read-bytes n
+
+-- a request as the program makes it
+abbrev pub asked : List ℕ → List ℕ → ℕ → ℕ → List ℕ → Request
+asked book line units budget schedule =
+    record { book = book; line = line; units = units; budget = budget; schedule = schedule; work = 0; output = 1024 }
+
+module _ (input : List ℕ) where
+  -- what the reading of counted bytes at position at gives, if they end so
+  abbrev pub read-up-to : ℕ → E.PartEnd → Result (Read (List ℕ))
+  read-up-to at E.PartEnd.Short = refused 17
+  read-up-to at (E.PartEnd.At e) = accepted (record { value = take (e - (at + 2)) (drop (at + 2) input); left = drop e input })
+
+  abbrev pub Ends-within : ℕ → E.PartEnd → Type 0
+  Ends-within at E.PartEnd.Short = Unit {0}
+  Ends-within at (E.PartEnd.At e) = (at + 2 ≤ e) × (e ≤ length input)
+
+  pub record Part-ends (at : ℕ) (r : E.PartEnd) : Type 0 where
+    pub is : read-counted (drop at input) ≡ read-up-to at r
+    pub within : Ends-within at r
+
+  -- book and line end where p says; units, budget and schedule follow
+  abbrev pub request-of : P.Parts → Request
+  request-of p =
+      asked (take (p .book - 2) (drop 2 input)) (take (p .line - (p .book + 2)) (drop (p .book + 2) input)) (getD input (p .line) 0)
+      (number 0 (take 4 (drop (p .line + 1) input))) (drop (p .line + 5) input)
+
+  abbrev pub Parts-within : P.Parts → Type 0
+  Parts-within p = (2 ≤ p .book) × (p .book + 2 ≤ p .line) × (p .line + 5 ≤ length input)
+
+  -- what the reading of the request gives, if its parts stand so
+  abbrev pub read-by : I.InputParts → Result (Read Request)
+  read-by I.InputParts.Refused = refused 17
+  read-by (I.InputParts.At p) = accepted (record { value = request-of p; left = [] })
+
+  abbrev pub Stand-within : I.InputParts → Type 0
+  Stand-within I.InputParts.Refused = Unit {0}
+  Stand-within (I.InputParts.At p) = Parts-within p
+
+  pub record Parts-stand (r : I.InputParts) : Type 0 where
+    pub is : read-request input ≡ read-by r
+    pub within : Stand-within r
+
+-- WRITING
+
+-- the bytes xs at position at: all before them and behind them stays
+pub record Written-at (at : ℕ) (xs page page′ : List ℕ) (next : ℕ) : Type 0 where
+  pub ends : next ≡ at + length xs
+  pub fits : next ≤ length page
+  pub long : length page′ ≡ length page
+  pub is : page′ ≡ take at page ++ (xs ++ drop next page)
+
+-- the digits of v stand from r on
+pub record Digits-from (v : ℕ) (d : List ℕ) (r : ℕ) : Type 0 where
+  pub long : length d ≡ 20
+  pub start : r ≤ 20
+  pub are : drop r d ≡ decimal v
+
+-- a decimal field with the space before it
+abbrev pub decimal-field : ℕ → List ℕ
+decimal-field v = 32 ∷ decimal v
+
+-- the lines of a run's values and its term
+abbrev pub run-lines : D.Run → List ℕ → List ℕ
+run-lines r term =
+    line end-word (ending-number (ending (r .ending)) ∷ [])
+    ++ (line rewrites-word (r .rewrites ∷ [])
+    ++ (line entries-word (r .entries ∷ []) ++ (line granted-word (r .granted ∷ []) ++ line term-word term)))
+
+-- the lines of the engine's answer, its term standing at the front of the output
+abbrev pub lines : A.Answer → List ℕ → List ℕ
+lines (A.Answer.Refused k) output = line refused-word (k ∷ [])
+lines (A.Answer.Ran r) output = run-lines r (take (r .length) output)
+
+-- the answer's term fits the output and the page
+abbrev pub Term-fits : A.Answer → List ℕ → Type 0
+Term-fits (A.Answer.Refused k) output = Unit {0}
+Term-fits (A.Answer.Ran r) output = (r .length ≤ length output) × (length output ≤ 1024)
