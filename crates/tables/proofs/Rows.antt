@@ -8,7 +8,7 @@ use native.Mathlib.Omega.{arith}
 use native.Mathlib.Decide.{decLt}
 use lib.ListN.{length, getD, take, drop, replicate, length-append, length-map, length-replicate, getD-replicate, drop-of-length-le, List·getD-append, List·getD-map}
 use lib.Seq.{take-at, drop-cons, getD-take, getD-drop, getD-append-add}
-use borrow.Author.Tests.{lt-ltb, le-ltb}
+use borrow.Author.Tests.{ne-eqb, lt-ltb, le-ltb}
 use Rattle.paper.specs.Strategy.{Step}
 use Rattle.bits.specs.Field.{splice}
 use Rattle.bits.proofs.Splice.{splice-here, splice-before, splice-behind}
@@ -59,13 +59,14 @@ pub step-code : (s : Step) → Few s → step-of (code s) ≡ some s
 unfolding code step-of
 step-code (Step.visit i) h =
     let e : 8 + i - 8 ≡ i = omega arith in
-    simp (le-ltb (8 + i) 8 (omega arith), lt-ltb (8 + i) 16 (omega arith), e)
+    simp (ne-eqb (8 + i) 0 (λ z. omega arith), le-ltb (8 + i) 8 (omega arith), lt-ltb (8 + i) 16 (omega arith), e)
 step-code (Step.fork i) h =
     let e : 16 + i - 16 ≡ i = omega arith in
-    simp (le-ltb (16 + i) 8 (omega arith), le-ltb (16 + i) 16 (omega arith), lt-ltb (16 + i) 24 (omega arith), e)
+    simp (ne-eqb (16 + i) 0 (λ z. omega arith), le-ltb (16 + i) 8 (omega arith), le-ltb (16 + i) 16 (omega arith), lt-ltb (16 + i) 24 (omega arith), e)
 step-code (Step.join c) h =
     let e : 24 + c - 24 ≡ c = omega arith in
     simp (
+      ne-eqb (24 + c) 0 (λ z. omega arith),
       le-ltb (24 + c) 8 (omega arith),
       le-ltb (24 + c) 16 (omega arith),
       le-ltb (24 + c) 24 (omega arith),

@@ -23,8 +23,9 @@ code (Step.join c) = 24 + c
 -- the step that a code stands for; 0 stands for none
 unfoldable pub step-of : ℕ → Option Step
 step-of c =
-    if (ltb c 8) (if (eqb c 0) none (some Step.whole))
-    (if (ltb c 16) (some (Step.visit (c - 8))) (if (ltb c 24) (some (Step.fork (c - 16))) (some (Step.join (c - 24)))))
+    if (eqb c 0) none
+    (if (ltb c 8) (some Step.whole)
+    (if (ltb c 16) (some (Step.visit (c - 8))) (if (ltb c 24) (some (Step.fork (c - 16))) (some (Step.join (c - 24))))))
 
 -- the codes of steps, 0 behind the last
 unfoldable pub row : List Step → List ℕ

@@ -37,10 +37,10 @@ pub fn put_arity(operators: &mut [u8; 4352], o: usize, arity: u8)
 fn step_of(code: u8) -> Step
     ensures { λ r. ⌜ L.step r ≡ L.step-of code ⌝ }
 {
+    if code == 0 {
+        return Step::None;
+    }
     if code < 8 {
-        if code == 0 {
-            return Step::None;
-        }
         return Step::Whole;
     }
     if code < 16 {
