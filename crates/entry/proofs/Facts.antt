@@ -2,12 +2,14 @@
 -- Assumes nothing.
 use mathlib.Core.Path.{_≡_, refl, sym, ap, ap₂, subst, _∙_}
 use mathlib.Core.Bool.{true, false}
-use mathlib.Core.List.{List, _∷_}
-use mathlib.Core.Logic.{inl}
+use mathlib.Core.List.{List, [], _∷_}
+use mathlib.Core.Logic.{inl, inr}
 use mathlib.Core.Option.{none, some}
 use Prim.Native.Nat.{ℕ, zero, suc, _+_, _*_, _-_, _≤_, _<_}
 use native.Mathlib.Omega.{arith}
 use lib.ListN.{length, getD, take, drop, length-drop}
+use types.Run.{OneOf}
+use denote.Enum.Declared.{tagOf}
 use lib.Seq.{length-take-le, getD-take}
 use Rattle.paper.specs.Strategy.{Step}
 use Rattle.paper.specs.Book.{Book, arity, steps}
@@ -22,8 +24,10 @@ use Rattle.flat.proofs.Rules as reached
 use Rattle.flat.proofs.Inside.{room-next}
 use Rattle.flat.proofs.Run.{reached-inv}
 use Rattle.flat.proofs.Tops.{stack-some}
-use Rattle.tables.specs.Layout.{step-of, code-in, steps-in, Rowed}
+use Rattle.tables.specs.Layout.{step, step-of, code-in, steps-in, Rowed}
 use Rattle.tables.specs.Tables.{book-of}
+use Rattle.tables.specs.declared.Step as D
+use Rattle.tables.proofs.Step.{the-type}
 use Rattle.tables.proofs.Rows.{here-is}
 use Rattle.tables.proofs.Laws.{all-at, steps-at, rowed-at}
 use Rattle.units.specs.Stacks.{store, height-in, busy-in, unit-in}
@@ -160,11 +164,20 @@ module _ {bytes operators rules symbols scratch work units : List ℕ} {u : ℕ}
     }
 
     -- there is a step for its next order
-    pub step-there : 1 ≤ x .next → none ≡ step-of (code-in operators o (x .next - 1)) → ⊥
+    step-there : 1 ≤ x .next → none ≡ step-of (code-in operators o (x .next - 1)) → ⊥
     step-there one e =
         let d = here-is rowed (x .next - 1) (omega (arith, next-most)) none e in
         let n = subst (λ (q : ℕ). x .next ≤ length (steps B q)) operator-is (rules-hold .nexts u (x .offset) (x .next) (x .count) job-in) in
         omega (arith, ap length d, length-drop (x .next - 1) (steps-in operators o), ap length steps-are)
+
+    -- where the answer is none of VISIT, FORK and JOIN, it is WHOLE
+    pub whole-there : 1 ≤ x .next → (y : D.Step) → step y ≡ step-of (code-in operators o (x .next - 1)) → OneOf (0 ∷ 1 ∷ []) (tagOf the-type y) →
+        some Step.whole ≡ step-of (code-in operators o (x .next - 1))
+    whole-there one D.Step.None e q = absurd (step-there one e)
+    whole-there one D.Step.Whole e q = e
+    whole-there one (D.Step.Visit i) e q = elim q [ inl d ↦ absurd (omega arith) | inr d ↦ absurd (omega arith) ]
+    whole-there one (D.Step.Fork i) e q = elim q [ inl d ↦ absurd (omega arith) | inr d ↦ absurd (omega arith) ]
+    whole-there one (D.Step.Join i) e q = elim q [ inl d ↦ absurd (omega arith) | inr d ↦ absurd (omega arith) ]
 
     -- its next order, if that is a step: the one that the table has there
     module _ {y : Step} (one : 1 ≤ x .next) (e : some y ≡ step-of (code-in operators o (x .next - 1))) where

@@ -133,20 +133,6 @@ fn step(
     let job = task.job;
     let o = symbols[casts::offset(job.offset)];
     match tables::step_at(operators, o, job.next - 1) {
-        // A job with no step left is not kept on a stack.
-        Step::None => Entry::Going(p),
-        Step::Whole => rewrite(
-            book,
-            operators,
-            rules,
-            symbols,
-            scratch,
-            work,
-            units,
-            task,
-            p,
-            l,
-        ),
         Step::Visit(i) => {
             orders::visit_argument(operators, symbols, p.length, work, units, u, o, job, i);
             Entry::Going(p)
@@ -170,6 +156,19 @@ fn step(
             orders::join(operators, work, units, u, o, job);
             Entry::Going(p)
         }
+        // WHOLE: a job with no step left is not kept on a stack.
+        _ => rewrite(
+            book,
+            operators,
+            rules,
+            symbols,
+            scratch,
+            work,
+            units,
+            task,
+            p,
+            l,
+        ),
     }
 }
 

@@ -1,7 +1,7 @@
 -- `entry::step` meets its contract: the step that the table has says which order it is. Assumes nothing.
 use native.Mathlib.Omega.{arith}
 use borrow.Author.Needs.{needs}
-use Rattle.entry.proofs.Facts.{next-most, rowed, can-proceed, step-there}
+use Rattle.entry.proofs.Facts.{next-most, rowed, can-proceed, whole-there}
 use Rattle.entry.proofs.Orders.{visit-place, visit-argument-asks, visited-argument, joined}
 use Rattle.entry.proofs.Forking.{fork-place, fork-asks, fork-entered}
 use Rattle.entry.proofs.step.Statement.{statement}
@@ -20,21 +20,6 @@ step-at-requires : tie.Need-step-at-requires
 step-at-requires c κs =
     let t = c .before .before .before .before .before .before .pre .1 .0 in
     omega (arith, next-most (c .before .before .before .before .before .before .pre .0) (t .0) (t .1) (t .2))
-
-enum-told : tie.Need-enum-told
-enum-told c = search needs
-
-enum-told-2 : tie.Need-enum-told-2
-enum-told-2 c = search needs
-
-rewrite-requires : tie.Need-rewrite-requires
-rewrite-requires c κs =
-    let m = c .before .before .before .before in
-    let k = m .before .before in
-    let a = k .before .before .before in
-    let q = a .before .before .before .before .pre in
-    let e = rw (m .enum-told2 .given .1, a .offset .ensures .0) at (k .step-at .ensures) in
-    (q .0, (q .1 .0, record { one = q .1 .1; is = e }))
 
 enum-known-i : tie.Need-enum-known-i
 enum-known-i c = search needs
@@ -67,8 +52,8 @@ fork-requires c κs =
 forked-requires : tie.Need-forked-requires
 forked-requires c κs = search needs
 
-enum-told-3 : tie.Need-enum-told-3
-enum-told-3 c = search needs
+enum-told : tie.Need-enum-told
+enum-told c = search needs
 
 join-requires : tie.Need-join-requires
 join-requires c κs =
@@ -78,25 +63,21 @@ join-requires c κs =
     let t = q .1 .0 in
     rw (a .offset .ensures .0) (rowed (q .0) (t .0) (t .1) (t .2), can-proceed (q .0) (t .0) (t .1) (t .2))
 
-returns : tie.Need-returns
-returns c =
-    let k = c .before .before in
+rewrite-requires : tie.Need-rewrite-requires
+rewrite-requires c κs =
+    let m = c .before .before .before .before in
+    let k = m .before in
     let a = k .before .before .before in
     let q = a .before .before .before .before .pre in
     let t = q .1 .0 in
-    absurd (step-there (q .0) (t .0) (t .1) (t .2) (q .1 .1) (rw (c .enum-told .given .1, a .offset .ensures .0) at (k .step-at .ensures)))
+    let e = rw (a .offset .ensures .0) at (k .step-at .ensures) in
+    (q .0, (t, record { one = q .1 .1; is = whole-there (q .0) (t .0) (t .1) (t .2) (q .1 .1) (k .step-at .result) e (m .match .keys4) }))
 
 same-length : tie.Need-same-length
 same-length c = search needs
 
-returns-2 : tie.Need-returns-2
-returns-2 c = search needs
-
-same-length-2 : tie.Need-same-length-2
-same-length-2 c = search needs
-
-returns-3 : tie.Need-returns-3
-returns-3 c =
+returns : tie.Need-returns
+returns c =
     let v = c .before .before in
     let m = v .before .before .before .before .before in
     let k = m .before .before in
@@ -106,11 +87,11 @@ returns-3 c =
     let e = rw (m .i .given .1, a .offset .ensures .0) at (k .step-at .ensures) in
     visited-argument (q .0) (t .0) (t .1) (t .2) (q .1 .1) e (rw (a .offset .ensures .0) at (v .visit-argument .ensures))
 
-same-length-3 : tie.Need-same-length-3
-same-length-3 c = search needs
+same-length-2 : tie.Need-same-length-2
+same-length-2 c = search needs
 
-returns-4 : tie.Need-returns-4
-returns-4 c =
+returns-2 : tie.Need-returns-2
+returns-2 c =
     let v = c .before .before .before in
     let m = v .before .before .before .before .before in
     let k = m .before .before in
@@ -120,19 +101,25 @@ returns-4 c =
     let e = rw (m .i2 .given .1, a .offset .ensures .0) at (k .step-at .ensures) in
     fork-entered (q .0) (t .0) (t .1) (t .2) (q .1 .1) e (rw (a .offset .ensures .0) at (v .fork .ensures)) _ (c .forked .ensures)
 
-same-length-4 : tie.Need-same-length-4
-same-length-4 c = search needs
+same-length-3 : tie.Need-same-length-3
+same-length-3 c = search needs
 
-returns-5 : tie.Need-returns-5
-returns-5 c =
+returns-3 : tie.Need-returns-3
+returns-3 c =
     let v = c .before .before in
     let m = v .before .before .before in
     let k = m .before .before in
     let a = k .before .before .before in
     let q = a .before .before .before .before .pre in
     let t = q .1 .0 in
-    joined (q .0) (t .0) (t .1) (t .2) (q .1 .1) (rw (m .enum-told3 .given .1, a .offset .ensures .0) at (k .step-at .ensures))
+    joined (q .0) (t .0) (t .1) (t .2) (q .1 .1) (rw (m .enum-told .given .1, a .offset .ensures .0) at (k .step-at .ensures))
     (rw (a .offset .ensures .0) at (v .join .ensures))
+
+same-length-4 : tie.Need-same-length-4
+same-length-4 c = search needs
+
+returns-4 : tie.Need-returns-4
+returns-4 c = search needs
 
 pub step-spec : {M : Type 1} → statement M
 step-spec =
@@ -142,22 +129,19 @@ step-spec =
     element-copy-out-o
     sub-step-at
     step-at-requires
-    enum-told
-    enum-told-2
-    rewrite-requires
     enum-known-i
     visit-argument-requires
     enum-known-i-2
     fork-requires
     forked-requires
-    enum-told-3
+    enum-told
     join-requires
-    returns
+    rewrite-requires
     same-length
-    returns-2
+    returns
     same-length-2
-    returns-3
+    returns-2
     same-length-3
-    returns-4
+    returns-3
     same-length-4
-    returns-5)
+    returns-4)
