@@ -18,7 +18,7 @@ use Rattle.paper.specs.Line.{readLine}
 use Rattle.paper.specs.Match.{rewrite}
 use Rattle.paper.specs.Machine.{Order, unit-state, Event, Ending}
 use Rattle.paper.specs.Run.{Answer, run, Moment, moments, events}
-use Rattle.paper.specs.Page.{answerOf, pageOf, writtenOf}
+use Rattle.paper.specs.Page.{answerBy, answerOf, pageOf, writtenOf}
 use Rattle.paper.proofs.Starred.{ascii, P-bytes, input-on, input, one-of, two-of, x, y, P-operators, P, end, tick, both, Q, dup, limits}
 
 -- Pages and answers
@@ -54,7 +54,7 @@ published = 24624
 
 -- the library's answer for the line 0 and no entry, by book, units, and the lengths of work area and output
 unfoldable pub library : List ℕ → ℕ → ℕ → ℕ → Result Answer
-unfolding answerOf
+unfolding answerBy
 library book units work output =
     answerOf published (record { book = book; line = 0 ∷ []; units = units; budget = 9; schedule = []; work = work; output = output })
 

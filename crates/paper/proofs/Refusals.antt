@@ -14,7 +14,7 @@ use Rattle.paper.specs.Book.{Term, Book, arity}
 use Rattle.paper.specs.Reader.{readBook}
 use Rattle.paper.specs.Line.{symbol-limit, line-fault, unless-fault, readLine}
 use Rattle.paper.specs.Run.{Answer}
-use Rattle.paper.specs.Page.{Request, all-below, frame-fault, unless, run-checked, answerOf}
+use Rattle.paper.specs.Page.{Request, all-below, frame-fault, unless, run-checked, answerBy, answerOf}
 use Rattle.paper.proofs.Tests.{either, ltb-cases}
 use Rattle.paper.proofs.Lengths.{book-refused-by}
 
@@ -102,7 +102,7 @@ module _ (published : ℕ) (q : Request) where
   ]
 
   pub request-refused-by : (k : ℕ) → answerOf published q ≡ refused k → RefusedBy k
-  unfolding answerOf
+  unfolding answerBy
   request-refused-by k e =
       let told : Told (answerOf published q) =
       unless-told (frame-fault published q) _ frame-told

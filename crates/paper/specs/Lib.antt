@@ -6,6 +6,7 @@ pub mod Book
 pub mod Reader
 pub mod Writer
 pub mod Line
+pub mod Text
 pub mod Match
 pub mod Sound
 pub mod WellFormed

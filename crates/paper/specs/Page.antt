@@ -12,6 +12,7 @@ use Rattle.paper.specs.Book.{Term, Book}
 use Rattle.paper.specs.Reader.{readBook}
 use Rattle.paper.specs.Writer.{writeBook}
 use Rattle.paper.specs.Line.{symbol-limit, readLine}
+use Rattle.paper.specs.Text.{readText}
 use Rattle.paper.specs.Machine.{Ending, Limits}
 use Rattle.paper.specs.Run.{Answer, run}
 
@@ -48,11 +49,21 @@ run-checked q B t =
       | false ↦ refused 14
     ]
 
--- the places of the table from top to bottom: the run's frame, the book, the term, the schedule
-unfoldable pub answerOf : ℕ → Request → Result Answer
-unfolding frame-fault unless then readBook readLine run-checked
-answerOf published q =
-    unless (frame-fault published q) (then (readBook (q .book)) (λ B. then (readLine B (q .line)) (λ t. run-checked q B t)))
+-- how what stands where the term stands is read, by a book: as a term, or as a payee's text
+abbrev pub LineReader : Type 0
+LineReader = Book → List ℕ → Result Term
+
+-- the places of the table from top to bottom: the run's frame, the book, the term or text, the schedule
+unfoldable pub answerBy : LineReader → ℕ → Request → Result Answer
+unfolding frame-fault unless then readBook run-checked
+answerBy read published q =
+    unless (frame-fault published q) (then (readBook (q .book)) (λ B. then (read B (q .line)) (λ t. run-checked q B t)))
+
+abbrev pub answerOf : ℕ → Request → Result Answer
+answerOf = answerBy readLine
+
+abbrev pub payeeOf : ℕ → Request → Result Answer
+payeeOf = answerBy readText
 
 -- The program's input
 
@@ -150,9 +161,18 @@ answer-lines (accepted a) =
     ++ (line entries-word (a .entries ∷ []) ++ (line granted-word (a .granted ∷ []) ++ line term-word (preorder (a .term)))))
 
 -- the whole page for a whole standard input
+unfoldable pub pageBy : LineReader → List ℕ → List ℕ
+unfolding then read-request answerBy line answer-lines
+pageBy read input = line reduce-word (1 ∷ []) ++ answer-lines (then (read-request input) (λ r. answerBy read 0 (r .value)))
+
+-- of the first program, and of the second
 unfoldable pub pageOf : List ℕ → List ℕ
-unfolding then read-request answerOf line answer-lines
-pageOf input = line reduce-word (1 ∷ []) ++ answer-lines (then (read-request input) (λ r. answerOf 0 (r .value)))
+unfolding pageBy readLine
+pageOf input = pageBy readLine input
+
+unfoldable pub payeePageOf : List ℕ → List ℕ
+unfolding pageBy readText
+payeePageOf input = pageBy readText input
 
 -- the writer, given a book's bytes: the book's own faults, or the written book
 unfoldable pub writtenOf : List ℕ → Result (List ℕ)
