@@ -1,0 +1,41 @@
+-- What the functions of a payee's text ensure (document 02, Change 1). Assumes nothing.
+use mathlib.Core.Bool.{Bool, true, false}
+use mathlib.Core.List.{List, [], _∷_, _++_}
+use mathlib.Core.Option.{none, some}
+use mathlib.Core.Path.{_≡_}
+use Prim.Native.Nat.{ℕ, zero, suc, _+_, _≤_, _<_}
+use lib.ListN.{length, take, drop}
+use Rattle.paper.specs.Text.{Before, parted, squeezed, text-fault}
+use Rattle.text.specs.declared.Text as D
+
+-- what stands before a byte, behind k symbols: separators if there is a gap
+abbrev pub before : Bool → ℕ → Before
+before true k = Before.separators
+before false zero = Before.nothing
+before false (suc k) = Before.letter
+
+-- the symbols that a letter or digit of class c adds to k of them: they are there, or they are too many
+pub record Put (k : ℕ) (b : Before) (c : ℕ) (symbols symbols′ : List ℕ) (r : ℕ) : Type 0 where
+  pub long : length symbols′ ≡ 1024
+  pub fits : r < 1024 → (r ≡ k + length (parted b (c ∷ []))) × (symbols′ ≡ (take k symbols ++ parted b (c ∷ [])) ++ drop r symbols)
+  pub over : 1024 ≤ r → 1024 ≤ k + length (parted b (c ∷ []))
+
+-- the text's squeezed classes: they are there, or they are too many
+pub record Filled (text symbols symbols′ : List ℕ) (r : ℕ) : Type 0 where
+  pub long : length symbols′ ≡ 1024
+  pub fits : r < 1024 → (r ≡ length (squeezed text)) × (symbols′ ≡ squeezed text ++ drop r symbols)
+  pub over : 1024 ≤ r → 1024 ≤ length (squeezed text)
+
+-- the text's symbols are there, `end` last, the others as they were
+pub record Taken (n : ℕ) (arity : ℕ → ℕ) (text symbols symbols′ : List ℕ) (m : ℕ) : Type 0 where
+  pub sound : text-fault n arity text ≡ none
+  pub count : m ≡ suc (length (squeezed text))
+  pub symbols-are : symbols′ ≡ (squeezed text ++ (0 ∷ [])) ++ drop m symbols
+
+abbrev pub Answered : ℕ → (ℕ → ℕ) → List ℕ → List ℕ → List ℕ → D.Text → Type 0
+Answered n arity text symbols symbols′ (D.Text.Read m) = Taken n arity text symbols symbols′ m
+Answered n arity text symbols symbols′ (D.Text.Refused k) = text-fault n arity text ≡ some k
+
+pub record Text-read (n : ℕ) (arity : ℕ → ℕ) (text symbols symbols′ : List ℕ) (r : D.Text) : Type 0 where
+  pub answered : Answered n arity text symbols symbols′ r
+  pub long : length symbols′ ≡ 1024
