@@ -5,6 +5,7 @@ use line::Line;
 use run::Run;
 use text::Text;
 use whole::Limits;
+ghost use mathlib.Core.Bool.{true};
 ghost use mathlib.Core.List.{_++_};
 ghost use mathlib.Core.Path.{_≡_};
 ghost use Prim.Native.Nat.{ℕ, _≤_, _<_};

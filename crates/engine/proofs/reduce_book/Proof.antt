@@ -1,6 +1,7 @@
 -- `engine::reduce_book` meets its contract, by the laws of Answers. Assumes nothing.
 use borrow.Author.Needs.{needs}
 use mathlib.Core.Path.{refl, sym}
+use Rattle.engine.proofs.Frame.{framed}
 use Rattle.engine.proofs.Answers.{by-book, refuses}
 use Rattle.engine.proofs.reduce_book.Statement.{statement}
 use Rattle.engine.proofs.reduce_book.Tie as tie
@@ -8,41 +9,29 @@ use Rattle.engine.proofs.reduce_book.Tie as tie
 read-book-requires : tie.Need-read-book-requires
 read-book-requires c κs = (c .before .before .before .before .before .before .before .pre .short, refl)
 
-enum-known-k : tie.Need-enum-known-k
-enum-known-k c = search needs
-
-enum-known-n : tie.Need-enum-known-n
-enum-known-n c = search needs
-
 reduce-line-requires : tie.Need-reduce-line-requires
 reduce-line-requires c κs =
-    let b = c .before .before .before .before .before .before .before in
-    let is = rw (c .before .before .before .before .before .n .given .1) at (b .read-book .ensures .is) in
+    let n = c .before .before .before .before .before .before .before in
+    let b = n .before .before in
+    let is = rw (n .n .given .1) at (b .read-book .ensures .is) in
     (b .before .before .before .before .before .before .before .before .pre, record { tables = is .0; count = sym (is .1) })
 
 returns : tie.Need-returns
 returns c =
     let b = c .before .before .before in
-    refuses _ (by-book _ (b .before .before .before .before .before .before .before .before .pre .faultless) _ (rw (c .before .k .given .1) at (b .read-book .ensures .is)))
-
-same-length : tie.Need-same-length
-same-length c = search needs
-
-same-length-2 : tie.Need-same-length-2
-same-length-2 c = search needs
+    let f = b .before .before .before .before .before .before .before .before .pre .faultless in
+    refuses _ (by-book _ _ (framed _ f) _ (rw (c .before .k .given .1) at (b .read-book .ensures .is)))
 
 returns-2 : tie.Need-returns-2
-returns-2 c = search needs
+returns-2 c =
+    let r = c .before .before .before .before in
+    rw (r .before .before .before .before .before .enum-told .given .1) (r .reduce-line .ensures)
+
+returns-3 : tie.Need-returns-3
+returns-3 c = ?
 
 pub reduce-book-spec : {M : Type 1} → statement M
 reduce-book-spec =
     tie.close
-    (tie.spec
-    read-book-requires
-    enum-known-k
-    enum-known-n
-    reduce-line-requires
-    returns
-    same-length
-    same-length-2
-    returns-2)
+    (tie.spec read-book-requires (λ c. search needs) (λ c. search needs) (λ c. search needs) reduce-line-requires (λ c. search needs) returns
+    (λ c. search needs) (λ c. search needs) returns-2 returns-3)
