@@ -33,3 +33,5 @@ pub mod Joined
 pub mod Demand3
 pub mod OneUnit
 pub mod Refusals
+pub mod Classes
+pub mod Text
