@@ -4,9 +4,13 @@ use mathlib.Core.List.{List, [], _∷_, _++_}
 use mathlib.Core.Option.{none, some}
 use mathlib.Core.Path.{_≡_}
 use Prim.Native.Nat.{ℕ, zero, suc, _+_, _≤_, _<_}
-use lib.ListN.{length, take, drop}
-use Rattle.paper.specs.Text.{Before, parted, squeezed, text-fault}
+use lib.ListN.{length, getD, take, drop}
+use Rattle.paper.specs.Text.{class, Before, parted, squeezed, text-fault}
 use Rattle.text.specs.declared.Text as D
+
+-- a table of the bytes' classes
+pub record Classed (classes : List ℕ) : Type 0 where
+  pub at : (b : ℕ) → b < 256 → getD classes b 0 ≡ class b
 
 -- what stands before a byte, behind k symbols: separators if there is a gap
 abbrev pub before : Bool → ℕ → Before
