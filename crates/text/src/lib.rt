@@ -4,7 +4,7 @@ ghost use Prim.Native.Nat.{_<_};
 ghost use lib.ListN.{length};
 ghost use Rattle.paper.specs.Text as T;
 ghost use Rattle.tables.specs.Layout.{arity-in};
-ghost use Rattle.text.specs.Contracts.{Classed, before, Put, Filled, Text-read};
+ghost use Rattle.text.specs.Contracts.{Classed, Put, Filled, Text-read};
 
 // The class of each byte, in rows of 20 (hexadecimal), so that a small letter stands below its capital; 0 separates.
 const CLASSES: [u8; 256] = *b"\
@@ -60,7 +60,7 @@ fn has_classes(n: usize, operators: &[u8; 4352]) -> bool
 // A letter or digit of class c, and a gap in front of it, behind k symbols. Answers how many there are then; 1,024 if these were more than 1,023.
 fn put(symbols: &mut [u8; 1024], k: usize, gap: bool, c: u8) -> usize
     requires { ⌜ (length (now symbols) ≡ 1024) × (k < 1024) ⌝ }
-    ensures { λ r. ⌜ Put k (before gap k) c (now (symbols .entry)) (now (symbols .exit)) r ⌝ }
+    ensures { λ r. ⌜ Put k gap c (now (symbols .entry)) (now (symbols .exit)) r ⌝ }
 {
     if gap {
         if 1021 < k {
