@@ -3,30 +3,35 @@ use mathlib.Core.Bool.{Bool, true, false}
 use mathlib.Core.List.{List, [], _∷_, _++_}
 use mathlib.Core.Option.{none, some}
 use mathlib.Core.Path.{_≡_}
-use Prim.Native.Nat.{ℕ, zero, suc, _+_, _≤_, _<_}
-use lib.ListN.{length, take, drop}
-use Rattle.paper.specs.Text.{Before, parted, squeezed, text-fault}
+use Prim.Native.Nat.{ℕ, suc, _+_, _≤_, _<_}
+use lib.ListN.{length, getD, drop}
+use lib.Seq.{sets}
+use Rattle.paper.specs.Text as T
+use Rattle.paper.specs.Text.{class, squeezed, text-fault}
 use Rattle.text.specs.declared.Text as D
 
--- what stands before a byte, behind k symbols: separators if there is a gap
-abbrev pub before : Bool → ℕ → Before
-before true k = Before.separators
-before false zero = Before.nothing
-before false (suc k) = Before.letter
+-- a table of the bytes' classes
+pub record Classed (classes : List ℕ) : Type 0 where
+  pub at : (b : ℕ) → b < 256 → getD classes b 0 ≡ class b
 
--- the symbols that a letter or digit of class c adds to k of them: they are there, or they are too many
-pub record Put (k : ℕ) (b : Before) (c : ℕ) (symbols symbols′ : List ℕ) (r : ℕ) : Type 0 where
+-- a letter or digit of class c, with a gap in front of it or without
+abbrev pub added : Bool → ℕ → List ℕ
+added true c = T.gap ∷ c ∷ []
+added false c = c ∷ []
+
+-- it is put behind k symbols, or there would be too many
+pub record Put (k : ℕ) (gap : Bool) (c : ℕ) (symbols symbols′ : List ℕ) (r : ℕ) : Type 0 where
   pub long : length symbols′ ≡ 1024
-  pub fits : r < 1024 → (r ≡ k + length (parted b (c ∷ []))) × (symbols′ ≡ (take k symbols ++ parted b (c ∷ [])) ++ drop r symbols)
-  pub over : 1024 ≤ r → 1024 ≤ k + length (parted b (c ∷ []))
+  pub fits : r < 1024 → (r ≡ k + length (added gap c)) × (symbols′ ≡ sets symbols k (added gap c))
+  pub over : 1024 ≤ r → 1024 ≤ k + length (added gap c)
 
--- the text's squeezed classes: they are there, or they are too many
+-- the text's squeezed classes are put, the other symbols as they were, or there would be too many
 pub record Filled (text symbols symbols′ : List ℕ) (r : ℕ) : Type 0 where
   pub long : length symbols′ ≡ 1024
   pub fits : r < 1024 → (r ≡ length (squeezed text)) × (symbols′ ≡ squeezed text ++ drop r symbols)
   pub over : 1024 ≤ r → 1024 ≤ length (squeezed text)
 
--- the text's symbols are there, `end` last, the others as they were
+-- a text without fault is m symbols, `end` last; the others are as they were
 pub record Taken (n : ℕ) (arity : ℕ → ℕ) (text symbols symbols′ : List ℕ) (m : ℕ) : Type 0 where
   pub sound : text-fault n arity text ≡ none
   pub count : m ≡ suc (length (squeezed text))

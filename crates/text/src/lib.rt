@@ -4,267 +4,18 @@ ghost use Prim.Native.Nat.{_<_};
 ghost use lib.ListN.{length};
 ghost use Rattle.paper.specs.Text as T;
 ghost use Rattle.tables.specs.Layout.{arity-in};
-ghost use Rattle.text.specs.Contracts.{before, Put, Filled, Text-read};
+ghost use Rattle.text.specs.Contracts.{Classed, Put, Filled, Text-read};
 
-// The class of each byte; 0 separates.
-const CLASSES: [u8; 256] = [
-    0,
-    0,
-    0,
-    0,
-    0,
-    0,
-    0,
-    0,
-    0,
-    0,
-    0,
-    0,
-    0,
-    0,
-    0,
-    0,
-    0,
-    0,
-    0,
-    0,
-    0,
-    0,
-    0,
-    0,
-    0,
-    0,
-    0,
-    0,
-    0,
-    0,
-    0,
-    0,
-    0,
-    0,
-    0,
-    0,
-    0,
-    0,
-    0,
-    0,
-    0,
-    0,
-    0,
-    0,
-    0,
-    0,
-    0,
-    0,
-    32,
-    33,
-    34,
-    35,
-    36,
-    37,
-    38,
-    39,
-    40,
-    41,
-    0,
-    0,
-    0,
-    0,
-    0,
-    0,
-    0,
-    1,
-    2,
-    3,
-    4,
-    5,
-    6,
-    7,
-    8,
-    9,
-    10,
-    11,
-    12,
-    13,
-    14,
-    15,
-    16,
-    17,
-    18,
-    19,
-    20,
-    21,
-    22,
-    23,
-    24,
-    25,
-    26,
-    0,
-    0,
-    0,
-    0,
-    0,
-    0,
-    1,
-    2,
-    3,
-    4,
-    5,
-    6,
-    7,
-    8,
-    9,
-    10,
-    11,
-    12,
-    13,
-    14,
-    15,
-    16,
-    17,
-    18,
-    19,
-    20,
-    21,
-    22,
-    23,
-    24,
-    25,
-    26,
-    0,
-    0,
-    0,
-    0,
-    0,
-    0,
-    0,
-    0,
-    0,
-    0,
-    0,
-    0,
-    0,
-    0,
-    0,
-    0,
-    0,
-    0,
-    0,
-    0,
-    0,
-    0,
-    0,
-    0,
-    0,
-    0,
-    0,
-    0,
-    0,
-    0,
-    0,
-    0,
-    0,
-    0,
-    0,
-    0,
-    0,
-    0,
-    0,
-    0,
-    0,
-    0,
-    0,
-    0,
-    0,
-    0,
-    0,
-    0,
-    0,
-    0,
-    0,
-    0,
-    0,
-    0,
-    0,
-    0,
-    0,
-    0,
-    0,
-    0,
-    0,
-    0,
-    0,
-    0,
-    0,
-    0,
-    0,
-    0,
-    0,
-    1,
-    1,
-    1,
-    1,
-    1,
-    1,
-    27,
-    3,
-    5,
-    5,
-    5,
-    5,
-    9,
-    9,
-    9,
-    9,
-    28,
-    14,
-    15,
-    15,
-    15,
-    15,
-    15,
-    0,
-    29,
-    21,
-    21,
-    21,
-    21,
-    25,
-    30,
-    31,
-    1,
-    1,
-    1,
-    1,
-    1,
-    1,
-    27,
-    3,
-    5,
-    5,
-    5,
-    5,
-    9,
-    9,
-    9,
-    9,
-    28,
-    14,
-    15,
-    15,
-    15,
-    15,
-    15,
-    0,
-    29,
-    21,
-    21,
-    21,
-    21,
-    25,
-    30,
-    25,
-];
+// The class of each byte, in rows of 20 (hexadecimal), so that a small letter stands below its capital; 0 separates.
+const CLASSES: [u8; 256] = *b"\
+    \x00\x00\x00\x00\x00\x00\x00\x00\x00\x00\x00\x00\x00\x00\x00\x00\x00\x00\x00\x00\x00\x00\x00\x00\x00\x00\x00\x00\x00\x00\x00\x00\
+    \x00\x00\x00\x00\x00\x00\x00\x00\x00\x00\x00\x00\x00\x00\x00\x00\x20\x21\x22\x23\x24\x25\x26\x27\x28\x29\x00\x00\x00\x00\x00\x00\
+    \x00\x01\x02\x03\x04\x05\x06\x07\x08\x09\x0a\x0b\x0c\x0d\x0e\x0f\x10\x11\x12\x13\x14\x15\x16\x17\x18\x19\x1a\x00\x00\x00\x00\x00\
+    \x00\x01\x02\x03\x04\x05\x06\x07\x08\x09\x0a\x0b\x0c\x0d\x0e\x0f\x10\x11\x12\x13\x14\x15\x16\x17\x18\x19\x1a\x00\x00\x00\x00\x00\
+    \x00\x00\x00\x00\x00\x00\x00\x00\x00\x00\x00\x00\x00\x00\x00\x00\x00\x00\x00\x00\x00\x00\x00\x00\x00\x00\x00\x00\x00\x00\x00\x00\
+    \x00\x00\x00\x00\x00\x00\x00\x00\x00\x00\x00\x00\x00\x00\x00\x00\x00\x00\x00\x00\x00\x00\x00\x00\x00\x00\x00\x00\x00\x00\x00\x00\
+    \x01\x01\x01\x01\x01\x01\x1b\x03\x05\x05\x05\x05\x09\x09\x09\x09\x1c\x0e\x0f\x0f\x0f\x0f\x0f\x00\x1d\x15\x15\x15\x15\x19\x1e\x1f\
+    \x01\x01\x01\x01\x01\x01\x1b\x03\x05\x05\x05\x05\x09\x09\x09\x09\x1c\x0e\x0f\x0f\x0f\x0f\x0f\x00\x1d\x15\x15\x15\x15\x19\x1e\x19";
 
 // A text is read as so many symbols, or is refused by number.
 pub enum Text {
@@ -272,10 +23,18 @@ pub enum Text {
     Refused(u8),
 }
 
-fn class(b: u8) -> u8
+// The table, made once for a text.
+fn classes() -> [u8; 256]
+    ensures { λ r. ⌜ Classed r ⌝ }
+{
+    CLASSES
+}
+
+fn class(classes: &[u8; 256], b: u8) -> u8
+    requires { ⌜ Classed (now classes) ⌝ }
     ensures { λ r. ⌜ r ≡ T.class b ⌝ }
 {
-    CLASSES[casts::index(b)]
+    classes[casts::index(b)]
 }
 
 // Are operators 0 to 42 there, `end` without argument, the classes with one?
@@ -301,7 +60,7 @@ fn has_classes(n: usize, operators: &[u8; 4352]) -> bool
 // A letter or digit of class c, and a gap in front of it, behind k symbols. Answers how many there are then; 1,024 if these were more than 1,023.
 fn put(symbols: &mut [u8; 1024], k: usize, gap: bool, c: u8) -> usize
     requires { ⌜ (length (now symbols) ≡ 1024) × (k < 1024) ⌝ }
-    ensures { λ r. ⌜ Put k (before gap k) c (now (symbols .entry)) (now (symbols .exit)) r ⌝ }
+    ensures { λ r. ⌜ Put k gap c (now (symbols .entry)) (now (symbols .exit)) r ⌝ }
 {
     if gap {
         if 1021 < k {
@@ -320,15 +79,15 @@ fn put(symbols: &mut [u8; 1024], k: usize, gap: bool, c: u8) -> usize
 }
 
 // The classes of the text, squeezed. Answers how many they are; 1,024 if they are more than 1,023.
-fn fill(text: &[u8], symbols: &mut [u8; 1024]) -> usize
-    requires { ⌜ length (now symbols) ≡ 1024 ⌝ }
+fn fill(text: &[u8], classes: &[u8; 256], symbols: &mut [u8; 1024]) -> usize
+    requires { ⌜ Classed (now classes) × (length (now symbols) ≡ 1024) ⌝ }
     ensures { λ r. ⌜ Filled (now (text .entry)) (now (symbols .entry)) (now (symbols .exit)) r ⌝ }
 {
     let mut k = 0;
     let mut gap = false;
     let mut i = 0;
     while i < text.len() {
-        let c = class(text[i]);
+        let c = class(classes, text[i]);
         i += 1;
         if c == 0 {
             gap = 0 < k;
@@ -349,7 +108,8 @@ pub fn read_text(text: &[u8], n: usize, operators: &[u8; 4352], symbols: &mut [u
     ensures { λ r. ⌜ Text-read n (arity-in (now (operators .entry))) (now (text .entry)) (now (symbols .entry)) (now (symbols .exit)) r ⌝ }
 {
     if has_classes(n, operators) {
-        let m = fill(text, symbols);
+        let table = classes();
+        let m = fill(text, &table, symbols);
         if 1023 < m {
             return Text::Refused(18);
         }
