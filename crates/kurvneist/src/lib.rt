@@ -9,7 +9,7 @@ ghost use mathlib.Core.List.{_∷_, []};
 ghost use lib.ListN.{length};
 ghost use Rattle.paper.specs.Page.{ending-number};
 ghost use Rattle.run.specs.Contracts.{ending};
-ghost use Rattle.engine.specs.Spec.{published};
+ghost use Rattle.engine.specs.Spec.{published, values};
 ghost use Rattle.kurvneist.specs.Spec as X;
 
 // The bytes of a work area.
@@ -60,7 +60,7 @@ fn put_numbers(
 // The refusal's number, or 0. The numbers are ending, rewrites, entries, granted and length, or zeros.
 fn put_answer(a: Answer, answer: &mut [u64; 5]) -> u8
     requires { ⌜ length (now answer) ≡ 5 ⌝ }
-    ensures { λ r. ⌜ X.In-numbers (R.values a) (now (answer .exit)) r ⌝ }
+    ensures { λ r. ⌜ (r ≡ X.refusal (values a)) × (now (answer .exit) ≡ X.value-numbers (values a)) ⌝ }
 {
     match a {
         Answer::Refused(k) => {
@@ -115,7 +115,7 @@ pub extern "C" fn kurvneist_payee(
     answer: &mut [u64; 5],
 ) -> u8
     requires { ⌜ length (now answer) ≡ 5 ⌝ }
-    ensures { λ r. ⌜ X.Payee-reduced-in-numbers (now (book .entry)) (now (text .entry)) units budget (now (schedule .entry)) (now (work .entry))
+    ensures { λ r. ⌜ X.Payee-in-numbers (now (book .entry)) (now (text .entry)) units budget (now (schedule .entry)) (now (work .entry))
         (now (output .entry)) (now (work .exit)) (now (output .exit)) (now (answer .exit)) r ⌝ }
 {
     let a = engine::payee(book, text, units, budget, schedule, work, output);
