@@ -1,31 +1,20 @@
--- What is answered, place by place of document 01's table, by either reader; what a refusal leaves; a term that two readers take. Assumes nothing.
+-- What is answered, place by place of document 01's table, by either reader; what a refusal leaves. Assumes nothing.
 use mathlib.Core.Bool.{true, false}
-use mathlib.Core.List.{List, _++_}
+use mathlib.Core.List.{List}
 use mathlib.Core.Option.{Option, none, some}
 use mathlib.Core.Path.{_≡_, refl, sym, ap, _∙_}
 use Prim.Native.Nat.{ℕ, _≤_}
-use native.Mathlib.Omega.{arith}
-use lib.ListN.{length, take, drop, length-append, length-drop}
-use lib.Seq.{take-at}
+use lib.ListN.{length, take}
 use Rattle.paper.specs.Result.{Result, refused, accepted, then}
 use Rattle.paper.specs.Book.{Term, Book}
 use Rattle.paper.specs.Reader.{readBook}
-use Rattle.paper.specs.Line.{readLine}
 use Rattle.paper.specs.Run.{Answer, run}
 use Rattle.paper.specs.Page.{Request, all-below, frame-fault, unless, run-checked, LineReader, answerBy}
-use Rattle.paper.proofs.Readers.{accepted-injective, refused-accepted}
-use Rattle.paper.proofs.Line.{line-correct}
+use Rattle.paper.proofs.Readers.{refused-accepted}
 use Rattle.paper.proofs.Prefix.{read-prefix}
-use Rattle.tables.specs.Layout.{arity-in}
-use Rattle.tables.specs.Tables.{book-of, TablesOf}
-use Rattle.line.specs.Line.{judgement}
-use Rattle.line.specs.declared.Line as L
-use Rattle.line.proofs.Checking.{sound-accepted, refused-refused}
 use Rattle.entry.specs.State.{limited}
-use Rattle.engine.specs.Spec.{published, values-of, request, answeredBy, RunBy, ReducedBy, answered, RunOf, Reduced}
-use Rattle.engine.specs.Contracts.{Framed, Opened}
+use Rattle.engine.specs.Spec.{published, values-of, request, answeredBy, RunBy, ReducedBy}
 use Rattle.engine.specs.declared.Answer as D
-use Rattle.engine.proofs.Frame.{framed}
 
 module _ (read : LineReader) (q : Request) where
   -- what is answered for a reading of the line, and for one of the book
@@ -63,7 +52,7 @@ module _ (read : LineReader) (q : Request) where
       by-line k e = of-line (refused k) e
 
       module _ (t : Term) (l : read B (q .line) ≡ accepted t) where
-        of-run : answerBy read published q ≡ run-checked q B t
+        pub of-run : answerBy read published q ≡ run-checked q B t
         unfolding then
         of-run = of-line (accepted t) l
 
@@ -88,18 +77,6 @@ refuses k e = record {
   written = λ A h. absurd (refused-accepted (sym e ∙ h));
   run-of = λ A h. absurd (refused-accepted (sym e ∙ h));
 }
-
--- THE LINE, by the check's judgement
-
-module _ {book operators rules : List ℕ} {n : ℕ} (o : Opened book operators rules n) (line : List ℕ) where
-  pub line-refused : (k : ℕ) → judgement n (arity-in operators) line ≡ L.Line.Refused k → readLine (book-of book) line ≡ refused k
-  line-refused k e = refused-refused (book-of book) (o .count) (o .tables .tables .operators-in) line k e
-
-  pub line-accepted : judgement n (arity-in operators) line ≡ L.Line.Sound → (t : Term) × (readLine (book-of book) line ≡ accepted t)
-  line-accepted e = sound-accepted (book-of book) (o .count) (o .tables .tables .operators-in) line e
-
-  pub line-short : judgement n (arity-in operators) line ≡ L.Line.Sound → length line ≤ 1024
-  line-short e = let (t, r) = line-accepted e in line-correct (book-of book) line t r .2
 
 -- WHAT STANDS BEHIND a book's first 65,536 bytes is not looked at
 
@@ -137,54 +114,3 @@ reduced-prefix {read} {book} {line} {units} {budget} {schedule} {work} {output} 
       written = λ A x. h .written A (e ∙ x);
       run-of = λ A x. same-run read book line units budget schedule work output long A (h .run-of A (e ∙ x));
     }
-
--- A TERM THAT BOTH READERS TAKE: a line that is read as the same term is answered alike
-
-module _ (read : LineReader) (line xs : List ℕ) (budget : ℕ) (schedule : List ℕ) {book operators rules work output : List ℕ} {units : ℕ}
-    (f : Framed book units work output) (tables : TablesOf book operators rules) (t : Term) (l : read (book-of book) line ≡ accepted t) (x : readLine (book-of book) xs ≡ accepted t) where
-  same-term : answeredBy read book line units budget schedule work output ≡ answered book xs units budget schedule work output
-  unfolding run-checked
-  same-term =
-      of-run read (request book line units budget schedule work output) (framed _ (f .faultless)) (book-of book) (tables .read) t l
-      ∙ sym (of-run readLine (request book xs units budget schedule work output) (framed _ (f .faultless)) (book-of book) (tables .read) t x)
-
-  run-alike : (A : Answer) → RunOf book xs units budget schedule work output A → RunBy read book line units budget schedule work output A
-  run-alike A r =
-      let e : book-of book ≡ r .rules = accepted-injective (sym (tables .read) ∙ r .book-read) in
-      record {
-        rules = r .rules;
-        term = r .term;
-        book-read = r .book-read;
-        line-read =
-            ap (λ (B : Book). read B line) (sym e)
-            ∙ l ∙ sym x ∙ ap (λ (B : Book). readLine B xs) e ∙ r .line-read;
-        units-named = r .units-named;
-        is = r .is;
-        demand-3 = r .demand-3;
-        posting = r .posting;
-        grants = r .grants;
-        allowed = r .allowed;
-        used = r .used;
-        fits = r .fits;
-      }
-
-  pub reduced-alike : {work′ output′ : List ℕ} {r : D.Answer} → Reduced book xs units budget schedule work output work′ output′ r →
-      ReducedBy read book line units budget schedule work output work′ output′ r
-  reduced-alike h =
-      let e = same-term in
-      record {
-        answer = h .answer ∙ ap values-of (sym e);
-        unchanged = λ k y. h .unchanged k (sym e ∙ y);
-        cleared = λ A y. h .cleared A (sym e ∙ y);
-        written = λ A y. h .written A (sym e ∙ y);
-        run-of = λ A y. run-alike A (h .run-of A (sym e ∙ y));
-      }
-
--- symbols that were put in front: where they are a line, that is read there
-module _ (xs base : List ℕ) {symbols : List ℕ} where
-  pub front-long : length xs ≤ 1024 → length base ≡ 1024 → symbols ≡ xs ++ drop (length xs) base → length symbols ≡ 1024
-  front-long h l s = ap length s ∙ length-append xs (drop (length xs) base) ∙ rw length-drop (omega (arith, l))
-
-  pub front-term : (B : Book) {t : Term} {n : ℕ} → readLine B xs ≡ accepted t → n ≡ length xs → symbols ≡ xs ++ drop n base →
-      readLine B (take n symbols) ≡ accepted t
-  front-term B {n = n} r e s = ap (λ (l : List ℕ). readLine B l) (ap (take n) s ∙ take-at xs (drop n base) n (sym e)) ∙ r

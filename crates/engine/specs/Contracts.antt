@@ -4,11 +4,12 @@ use mathlib.Core.Option.{Option, none, some}
 use mathlib.Core.Path.{_≡_}
 use Prim.Native.Nat.{ℕ, _≤_}
 use lib.ListN.{length, take}
-use Rattle.paper.specs.Result.{accepted}
-use Rattle.paper.specs.Book.{Term}
+use Rattle.paper.specs.Result.{refused, accepted}
+use Rattle.paper.specs.Book.{Term, Book}
 use Rattle.paper.specs.Line.{readLine}
-use Rattle.paper.specs.Page.{frame-fault}
-use Rattle.tables.specs.Tables.{book-of, TablesOf}
+use Rattle.paper.specs.Page.{LineReader, frame-fault}
+use Rattle.tables.specs.Tables.{book-of, Operators, TablesOf}
+use Rattle.text.specs.declared.Text as T
 use Rattle.engine.specs.Spec.{published}
 
 -- the number of the frame's refusal, by the numbers that are looked at, or 0
@@ -25,11 +26,6 @@ pub record Framed (book : List ℕ) (units : ℕ) (work output : List ℕ) : Typ
   pub faultless : fault units (length work) (length output) ≡ 0
   pub short : length book ≤ 65536
 
--- the book is read, these are its tables, and it has n operators
-pub record Opened (book operators rules : List ℕ) (n : ℕ) : Type 0 where
-  pub tables : TablesOf book operators rules
-  pub count : length (book-of book .operators) ≡ n
-
 -- these are the book's tables, and the first n symbols are a term by it
 pub record Loaded (book operators rules symbols : List ℕ) (n : ℕ) : Type 0 where
   pub tables : TablesOf book operators rules
@@ -37,3 +33,19 @@ pub record Loaded (book operators rules symbols : List ℕ) (n : ℕ) : Type 0 w
   pub most : n ≤ 1024
   pub term : Term
   pub term-read : readLine (book-of book) (take n symbols) ≡ accepted term
+
+-- the line is read as a term, which the first n symbols are
+pub record Taken (read : LineReader) (B : Book) (line symbols : List ℕ) (n : ℕ) : Type 0 where
+  pub long : length symbols ≡ 1024
+  pub most : n ≤ 1024
+  pub term : Term
+  pub line-read : read B line ≡ accepted term
+  pub term-read : readLine B (take n symbols) ≡ accepted term
+
+abbrev pub Read-as : LineReader → Book → List ℕ → List ℕ → T.Text → Type 0
+Read-as read B line symbols (T.Text.Read n) = Taken read B line symbols n
+Read-as read B line symbols (T.Text.Refused k) = read B line ≡ refused k
+
+-- by every book of n operators with these arities
+pub record Term-read (read : LineReader) (n : ℕ) (operators line symbols : List ℕ) (r : T.Text) : Type 0 where
+  pub is : (B : Book) → length (B .operators) ≡ n → Operators (B .operators) operators → Read-as read B line symbols r

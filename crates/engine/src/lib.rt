@@ -154,82 +154,30 @@ fn run_checked(
     ))
 }
 
-// A line, by the tables of a book of n operators.
-fn reduce_line(
-    book: &[u8],
-    operators: &[u8; 4352],
-    rules: &[u32; 1024],
-    n: usize,
+// What stands where the term stands, by the table of a book of n operators, as the symbols of a term in front.
+fn read_term(
+    form: Form,
     line: &[u8],
-    units: u8,
-    budget: u32,
-    schedule: &[u8],
-    work: &mut [u8],
-    output: &mut [u8],
-) -> Answer
-    requires { ⌜ C.Framed (now book) units (now work) (now output) ⌝ }
-    requires { ⌜ C.Opened (now book) (now operators) (now rules) n ⌝ }
-    ensures { λ r. ⌜ R.Reduced (now (book .entry)) (now (line .entry)) units budget (now (schedule .entry)) (now (work .entry)) (now (output .entry))
-        (now (work .exit)) (now (output .exit)) r ⌝ }
-{
-    match line::check_line(line, n, operators) {
-        Line::Refused(k) => Answer::Refused(k),
-        Line::Sound => {
-            let mut symbols = [0; 1024];
-            load(&mut symbols, line);
-            run_checked(
-                book,
-                operators,
-                rules,
-                &mut symbols,
-                line.len(),
-                units,
-                budget,
-                schedule,
-                work,
-                output,
-            )
-        }
-    }
-}
-
-// A payee's text, by the tables of a book of n operators.
-fn reduce_text(
-    book: &[u8],
-    operators: &[u8; 4352],
-    rules: &[u32; 1024],
     n: usize,
-    text: &[u8],
-    units: u8,
-    budget: u32,
-    schedule: &[u8],
-    work: &mut [u8],
-    output: &mut [u8],
-) -> Answer
-    requires { ⌜ C.Framed (now book) units (now work) (now output) ⌝ }
-    requires { ⌜ C.Opened (now book) (now operators) (now rules) n ⌝ }
-    ensures { λ r. ⌜ R.PayeeReduced (now (book .entry)) (now (text .entry)) units budget (now (schedule .entry)) (now (work .entry)) (now (output .entry))
-        (now (work .exit)) (now (output .exit)) r ⌝ }
+    operators: &[u8; 4352],
+    symbols: &mut [u8; 1024],
+) -> Text
+    requires { ⌜ length (now symbols) ≡ 1024 ⌝ }
+    ensures { λ r. ⌜ C.Term-read (R.reader form) n (now (operators .entry)) (now (line .entry)) (now (symbols .exit)) r ⌝ }
 {
-    let mut symbols = [0; 1024];
-    match text::read_text(text, n, operators, &mut symbols) {
-        Text::Refused(k) => Answer::Refused(k),
-        Text::Read(length) => run_checked(
-            book,
-            operators,
-            rules,
-            &mut symbols,
-            length,
-            units,
-            budget,
-            schedule,
-            work,
-            output,
-        ),
+    match form {
+        Form::Term => match line::check_line(line, n, operators) {
+            Line::Refused(k) => Text::Refused(k),
+            Line::Sound => {
+                load(symbols, line);
+                Text::Read(line.len())
+            }
+        },
+        Form::Text => text::read_text(line, n, operators, symbols),
     }
 }
 
-// A book of at most 65,536 bytes, and a line or a text.
+// A book of at most 65,536 bytes.
 fn reduce_book(
     form: Form,
     book: &[u8],
@@ -246,27 +194,17 @@ fn reduce_book(
 {
     let mut operators = [0u8; tables::OPERATORS];
     let mut rules = [0u32; tables::RULES];
+    let mut symbols = [0u8; 1024];
     match book::read_book(book, &mut operators, &mut rules) {
         Book::Refused(k) => Answer::Refused(k),
-        Book::Read(n) => match form {
-            Form::Term => reduce_line(
+        Book::Read(n) => match read_term(form, line, n, &operators, &mut symbols) {
+            Text::Refused(k) => Answer::Refused(k),
+            Text::Read(length) => run_checked(
                 book,
                 &operators,
                 &rules,
-                n,
-                line,
-                units,
-                budget,
-                schedule,
-                work,
-                output,
-            ),
-            Form::Text => reduce_text(
-                book,
-                &operators,
-                &rules,
-                n,
-                line,
+                &mut symbols,
+                length,
                 units,
                 budget,
                 schedule,
