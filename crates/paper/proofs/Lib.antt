@@ -6,6 +6,9 @@ pub mod Settling
 pub mod Operators
 pub mod Trees
 pub mod Line
+pub mod Classes
+pub mod Squeezed
+pub mod Text
 pub mod Rules
 pub mod Bytes
 pub mod Lengths
@@ -33,5 +36,3 @@ pub mod Joined
 pub mod Demand3
 pub mod OneUnit
 pub mod Refusals
-pub mod Classes
-pub mod Text
