@@ -27,6 +27,7 @@ pub mod Invariant
 pub mod Local
 pub mod Starred
 pub mod Examples
+pub mod Payees
 pub mod Fork
 pub mod Exit
 pub mod Entry
