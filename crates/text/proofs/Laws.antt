@@ -48,16 +48,16 @@ module _ (B : Book) {n : ℕ} {operators : List ℕ} (count : length (B .operato
       ∙ ap (λ (m : ℕ). text-fault m (arity B) text) (sym count)
 
   module _ {text symbols symbols′ : List ℕ} where
-    pub refused-refused : {k : ℕ} → Text-read n (arity-in operators) text symbols symbols′ (Refused k) → readText B text ≡ refused k
+    pub text-refused : {k : ℕ} → Text-read n (arity-in operators) text symbols symbols′ (Refused k) → readText B text ≡ refused k
     unfolding readText
-    refused-refused r = rw (sym (text-fault-paper text) ∙ r .answered)
+    text-refused r = rw (sym (text-fault-paper text) ∙ r .answered)
 
-    pub read-accepted : {m : ℕ} → Text-read n (arity-in operators) text symbols symbols′ (Read m) →
+    pub text-accepted : {m : ℕ} → Text-read n (arity-in operators) text symbols symbols′ (Read m) →
         (readText B text ≡ accepted (chain (squeezed text)))
         × (m ≡ length (preorder (chain (squeezed text))))
         × (take m symbols′ ≡ preorder (chain (squeezed text)))
     unfolding readText
-    read-accepted {m} r =
+    text-accepted {m} r =
         let a = r .answered in
         let e : m ≡ length (preorder (chain (squeezed text))) = a .count ∙ sym (length-chain (squeezed text)) in (
           rw (sym (text-fault-paper text) ∙ a .sound),

@@ -28,7 +28,7 @@ added-some : (gap : Bool) (c : ℕ) → 0 < length (added gap c)
 added-some true c = omega arith
 added-some false c = omega arith
 
-module _ {k : ℕ} {gap : Bool} {c : ℕ} {symbols symbols′ : List ℕ} {r : ℕ} (long : length symbols ≡ 1024) (q : Put k gap c symbols symbols′ r) (l : r < 1024) where
+module _ {k c r : ℕ} {gap : Bool} {symbols symbols′ : List ℕ} (long : length symbols ≡ 1024) (q : Put k gap c symbols symbols′ r) (l : r < 1024) where
   put-count : length (take k symbols ++ added gap c) ≡ r
   put-count =
       let f = q .fits l .0 in
