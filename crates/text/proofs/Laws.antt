@@ -1,7 +1,7 @@
 -- What the code answers of a text is what the paper's reader answers, for any book with these operators and arities. Assumes nothing.
 use mathlib.Core.List.{List, _++_}
 use mathlib.Core.Logic.{inl, inr}
-use mathlib.Core.Path.{_≡_, refl, sym, ap, _∙_}
+use mathlib.Core.Path.{_≡_, refl, sym, ap, _∙_, subst}
 use Prim.Native.Nat.{ℕ, zero, suc, _+_, _≤_, _<_}
 use native.Mathlib.Omega.{arith}
 use lib.ListN.{length, take, drop}
@@ -14,8 +14,9 @@ use Rattle.paper.proofs.Tests.{ltb-cases, eqb-cases}
 use Rattle.paper.proofs.Text.{preorder-chain, length-chain}
 use Rattle.tables.specs.Layout.{arity-in}
 use Rattle.tables.specs.Tables.{Operators}
+use Rattle.text.specs.declared.Text as D
 use Rattle.text.specs.declared.Text.the-variants.{Read, Refused}
-use Rattle.text.specs.Contracts.{Text-read}
+use Rattle.text.specs.Contracts.{Answered, Text-read}
 use Rattle.text.proofs.Operators.{few, end-other, end-none}
 
 -- the fault depends on the book only through the number of operators and their arities
@@ -47,21 +48,23 @@ module _ (B : Book) {n : ℕ} {operators : List ℕ} (count : length (B .operato
       text-fault-alike n (arity-in operators) (arity B) (λ o h. t .each o (omega arith) .arity-is) text
       ∙ ap (λ (m : ℕ). text-fault m (arity B) text) (sym count)
 
-  module _ {text symbols symbols′ : List ℕ} where
-    pub text-refused : {k : ℕ} → Text-read n (arity-in operators) text symbols symbols′ (Refused k) → readText B text ≡ refused k
+  module _ {text symbols symbols′ : List ℕ} {r : D.Text} (told : Text-read n (arity-in operators) text symbols symbols′ r) where
+    pub text-refused : {k : ℕ} → r ≡ Refused k → readText B text ≡ refused k
     unfolding readText
-    text-refused r = rw (sym (text-fault-paper text) ∙ r .answered)
+    text-refused e =
+        let f = subst (Answered n (arity-in operators) text symbols symbols′) e (told .answered) in
+        rw (sym (text-fault-paper text) ∙ f)
 
-    pub text-accepted : {m : ℕ} → Text-read n (arity-in operators) text symbols symbols′ (Read m) →
+    pub text-accepted : {m : ℕ} → r ≡ Read m →
         (readText B text ≡ accepted (chain (squeezed text)))
         × (m ≡ length (preorder (chain (squeezed text))))
         × (take m symbols′ ≡ preorder (chain (squeezed text)))
     unfolding readText
-    text-accepted {m} r =
-        let a = r .answered in
-        let e : m ≡ length (preorder (chain (squeezed text))) = a .count ∙ sym (length-chain (squeezed text)) in (
+    text-accepted {m} e =
+        let a = subst (Answered n (arity-in operators) text symbols symbols′) e (told .answered) in
+        let l : m ≡ length (preorder (chain (squeezed text))) = a .count ∙ sym (length-chain (squeezed text)) in (
           rw (sym (text-fault-paper text) ∙ a .sound),
-          e,
+          l,
           ap (take m) (a .symbols-are ∙ ap (λ (s : List ℕ). s ++ drop m symbols) (sym (preorder-chain (squeezed text))))
-              ∙ take-at (preorder (chain (squeezed text))) (drop m symbols) m (sym e),
+              ∙ take-at (preorder (chain (squeezed text))) (drop m symbols) m (sym l),
         )
