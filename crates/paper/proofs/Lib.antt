@@ -6,6 +6,9 @@ pub mod Settling
 pub mod Operators
 pub mod Trees
 pub mod Line
+pub mod Classes
+pub mod Squeezed
+pub mod Text
 pub mod Rules
 pub mod Bytes
 pub mod Lengths
@@ -24,6 +27,7 @@ pub mod Invariant
 pub mod Local
 pub mod Starred
 pub mod Examples
+pub mod Payees
 pub mod Fork
 pub mod Exit
 pub mod Entry
@@ -33,5 +37,3 @@ pub mod Joined
 pub mod Demand3
 pub mod OneUnit
 pub mod Refusals
-pub mod Classes
-pub mod Text

@@ -1,91 +1,30 @@
--- Laws of a text's term (document 02, Change 1). Assumes nothing.
-use mathlib.Core.Bool.{true, false}
-use mathlib.Core.List.{List, [], _∷_, _++_, map, append-nil}
-use mathlib.Core.Logic.{_⊎_, inl, inr, _≢_}
+-- Laws of a text's term and of the text's reader (document 02, Change 1): two texts give one term exactly if their squeezed classes agree; the line's
+-- reader accepts the term; exactly when 19 and 18 are told. Assumes nothing.
+use mathlib.Core.Bool.{true, false, true≢false}
+use mathlib.Core.List.{List, [], _∷_, _++_, append-nil, append-cancel-right}
+use mathlib.Core.Logic.{_⊎_, inl, inr, _≢_, _↔_}
 use mathlib.Core.Path.{_≡_, refl, sym, ap, _∙_, subst}
 use Prim.Native.Nat.{ℕ, zero, suc, _+_, _≤_, _<_}
 use native.Mathlib.Omega.{arith}
 use lib.ListN.{length, length-append}
-use Rattle.paper.specs.Result.{refused, accepted}
+use Rattle.paper.specs.Result.{Result, refused, accepted}
 use Rattle.paper.specs.Tree.{node, nil, cons, count, preorder, size, Correct}
 use Rattle.paper.specs.Book.{Term, Book, arity}
-use Rattle.paper.specs.Line.{symbol-limit, readLine}
-use Rattle.paper.specs.Text.{class, gap, Before, squeeze, squeezed, chain, one-argument, has-classes, readText}
+use Rattle.paper.specs.Line.{symbol-limit, unless-fault, readLine}
+use Rattle.paper.specs.Text.{class, squeezed, chain, one-argument, has-classes, text-fault, readText}
 use Rattle.paper.specs.Sound.{All}
 use Rattle.paper.proofs.Tests.{ltb-cases, eqb-cases, ltb-true, ltb-false}
 use Rattle.paper.proofs.Lists.{all-map, all-append}
-use Rattle.paper.proofs.Readers.{accepted-injective, refused-accepted}
+use Rattle.paper.proofs.Readers.{accepted-injective, refused-injective, refused-accepted}
 use Rattle.paper.proofs.Trees.{size-preorder}
 use Rattle.paper.proofs.Line.{line-read}
-use Rattle.paper.proofs.Classes.{class-below}
-
--- SQUEEZED CLASSES
-
--- the class of a letter or digit
-abbrev pub Letter : ℕ → Type 0
-Letter c = (0 < c) × (c < gap)
-
--- what stands behind a letter or digit: nothing, another one, or a gap and another one
-pub data Behind : List ℕ → Type 0 where
-  over : Behind []
-  next : {c : ℕ} {cs : List ℕ} → Letter c → Behind cs → Behind (c ∷ cs)
-  parted : {c : ℕ} {cs : List ℕ} → Letter c → Behind cs → Behind (gap ∷ c ∷ cs)
-
--- so no gap is first or last, and no two are adjacent
-pub data Squeezed : List ℕ → Type 0 where
-  empty : Squeezed []
-  begun : {c : ℕ} {cs : List ℕ} → Letter c → Behind cs → Squeezed (c ∷ cs)
-
-squeeze-letter : (cs : List ℕ) → All (λ c. c < gap) cs → Behind (squeeze Before.letter cs) × Behind (squeeze Before.separators cs)
-unfolding squeeze
-squeeze-letter [] a = (over, over)
-squeeze-letter (zero ∷ cs) (h, a) = let (l, s) = squeeze-letter cs a in (s, s)
-squeeze-letter (suc c ∷ cs) (h, a) =
-    let (l, s) = squeeze-letter cs a in
-    let p : Letter (suc c) = (omega arith, h) in
-    (next p l, parted p l)
-
-squeeze-nothing : (cs : List ℕ) → All (λ c. c < gap) cs → Squeezed (squeeze Before.nothing cs)
-unfolding squeeze
-squeeze-nothing [] a = empty
-squeeze-nothing (zero ∷ cs) (h, a) = squeeze-nothing cs a
-squeeze-nothing (suc c ∷ cs) (h, a) = begun {c = suc c} (omega arith, h) (squeeze-letter cs a .0)
-
-classes-below : (text : List ℕ) → All (λ c. c < gap) (map class text)
-classes-below [] = tt
-classes-below (b ∷ bs) = (class-below b, classes-below bs)
-
-pub squeezed-squeezed : (text : List ℕ) → Squeezed (squeezed text)
-unfolding squeezed
-squeezed-squeezed text = squeeze-nothing (map class text) (classes-below text)
-
--- the symbols are 1 to 42
-abbrev pub Symbols : List ℕ → Type 0
-Symbols cs = All (λ c. (0 < c) × (c ≤ gap)) cs
-
-behind-symbols : {cs : List ℕ} → Behind cs → Symbols cs
-behind-symbols over = tt
-behind-symbols (next p b) = ((omega arith, omega arith), behind-symbols b)
-behind-symbols (parted p b) = ((omega arith, omega arith), ((omega arith, omega arith), behind-symbols b))
-
-pub squeezed-symbols : (text : List ℕ) → Symbols (squeezed text)
-squeezed-symbols text = go (squeezed-squeezed text)
-  where
-    go : {cs : List ℕ} → Squeezed cs → Symbols cs
-    go empty = tt
-    go (begun p b) = ((omega arith, omega arith), behind-symbols b)
-
--- separators alone, or no byte at all: nothing, and the term `end`
-pub separators-nothing : (text : List ℕ) → All (λ b. class b ≡ 0) text → squeezed text ≡ []
-unfolding squeezed
-separators-nothing [] a = refl
-separators-nothing (b ∷ bs) (h, a) = rw h (separators-nothing bs a)
+use Rattle.paper.proofs.Squeezed.{squeezed-symbols, separators-empty}
 
 -- THE TERM
 
 pub separators-end : (text : List ℕ) → All (λ b. class b ≡ 0) text → chain (squeezed text) ≡ node 0 nil
 unfolding chain
-separators-end text a = ap chain (separators-nothing text a)
+separators-end text a = ap chain (separators-empty text a)
 
 pub preorder-chain : (cs : List ℕ) → preorder (chain cs) ≡ cs ++ (0 ∷ [])
 unfolding preorder chain
@@ -94,6 +33,13 @@ preorder-chain (c ∷ cs) = ap (λ (os : List ℕ). c ∷ os) (append-nil (preor
 
 pub length-chain : (cs : List ℕ) → length (preorder (chain cs)) ≡ suc (length cs)
 length-chain cs = ap length (preorder-chain cs) ∙ length-append cs (0 ∷ []) ∙ omega arith
+
+pub chain-injective : (cs ds : List ℕ) → chain cs ≡ chain ds → cs ≡ ds
+chain-injective cs ds e = append-cancel-right cs ds (0 ∷ []) (sym (preorder-chain cs) ∙ ap preorder e ∙ preorder-chain ds)
+
+-- two texts give one term exactly if their squeezed classes agree
+pub one-term : (text text′ : List ℕ) → (chain (squeezed text) ≡ chain (squeezed text′)) ↔ (squeezed text ≡ squeezed text′)
+one-term text text′ = (chain-injective (squeezed text) (squeezed text′), ap chain)
 
 -- a chain of symbols of one argument each over an `end` without
 pub chain-correct : (arity′ : ℕ → ℕ) → arity′ 0 ≡ 0 → (cs : List ℕ) → All (λ c. arity′ c ≡ 1) cs → Correct arity′ (chain cs)
@@ -149,6 +95,13 @@ module _ (n : ℕ) (arity′ : ℕ → ℕ) where
   classes-lack c (inl h) = let e = c .enough in absurd (omega arith)
   classes-lack c (inr (inl d)) = d (c .end-none)
   classes-lack c (inr (inr (o, l, h, d))) = d (c .class-one o l h)
+
+  -- 19's own test
+  pub lacks-classes : (has-classes n arity′ ≡ false) ↔ Lack
+  lacks-classes = elim classes-cases [
+    | inl p ↦ (λ e. absurd (true≢false (sym (p .0) ∙ e)), λ l. absurd (classes-lack (p .1) l))
+    | inr p ↦ (λ e. p .1, λ l. p .0)
+  ]
 
 -- THE READER
 
@@ -211,3 +164,41 @@ module _ (B : Book) (text : List ℕ) where
       let q = ap length p ∙ length-append (squeezed text) (0 ∷ []) in
       let k : size t ≤ 1024 = omega (arith, size-preorder t) in
       line-read B t c k (rw p a)
+
+  -- REFUSALS
+
+  pub refused-19 : (readText B text ≡ refused 19) ↔ (has-classes n (arity B) ≡ false)
+  refused-19 = (
+    λ e. elim text-cases [
+      | inl p ↦ p .1
+      | inr (inl p) ↦ let d = refused-injective (sym e ∙ p .0) in absurd (omega arith)
+      | inr (inr p) ↦ absurd (refused-accepted (sym e ∙ p .0))
+    ],
+    text-19,
+  )
+
+  pub refused-18 : (readText B text ≡ refused 18) ↔ ((has-classes n (arity B) ≡ true) × (1024 < suc (length (squeezed text))))
+  refused-18 = (
+    λ e. elim text-cases [
+      | inl p ↦ let d = refused-injective (sym e ∙ p .0) in absurd (omega arith)
+      | inr (inl p) ↦ (p .1, p .2)
+      | inr (inr p) ↦ absurd (refused-accepted (sym e ∙ p .0))
+    ],
+    λ p. text-18 (p .0) (p .1),
+  )
+
+  pub text-refused-by : (k : ℕ) → readText B text ≡ refused k → (k ≡ 18) ⊎ (k ≡ 19)
+  text-refused-by k e = elim text-cases [
+    | inl p ↦ inr (refused-injective (sym e ∙ p .0))
+    | inr (inl p) ↦ inl (refused-injective (sym e ∙ p .0))
+    | inr (inr p) ↦ absurd (refused-accepted (sym e ∙ p .0))
+  ]
+
+-- a text gives what an accepted one gives exactly if their squeezed classes agree
+pub read-alike : (B : Book) (text text′ : List ℕ) (t : Term) → readText B text ≡ accepted t →
+    (readText B text ≡ readText B text′) ↔ (squeezed text ≡ squeezed text′)
+unfolding readText
+read-alike B text text′ t e = (
+  λ p. chain-injective (squeezed text) (squeezed text′) (text-chain B text t e .0 ∙ sym (text-chain B text′ t (sym p ∙ e) .0)),
+  λ p. rw p,
+)

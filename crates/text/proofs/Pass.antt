@@ -24,6 +24,32 @@ module _ (k c : ℕ) (symbols : List ℕ) (long : length symbols ≡ 1024) where
   put-fits gap symbols′ r l e s =
       record { long = ap length s ∙ length-sets symbols k (added gap c) ∙ long; fits = λ _. (e, s); over = λ h. absurd (omega arith) }
 
+added-some : (gap : Bool) (c : ℕ) → 0 < length (added gap c)
+added-some true c = omega arith
+added-some false c = omega arith
+
+module _ {k c r : ℕ} {gap : Bool} {symbols symbols′ : List ℕ} (long : length symbols ≡ 1024) (q : Put k gap c symbols symbols′ r) (l : r < 1024) where
+  put-count : length (take k symbols ++ added gap c) ≡ r
+  put-count =
+      let f = q .fits l .0 in
+      length-append (take k symbols) (added gap c) ∙ ap (λ (n : ℕ). n + length (added gap c)) (length-take-le k symbols (omega arith)) ∙ sym f
+
+  put-split : symbols′ ≡ (take k symbols ++ added gap c) ++ drop r symbols
+  put-split =
+      let (f, s) = q .fits l in
+      s ∙ sets-eq (added gap c) symbols k (omega arith) ∙ ap (λ (n : ℕ). (take k symbols ++ added gap c) ++ drop n symbols) (sym f)
+
+  put-front : take r symbols′ ≡ take k symbols ++ added gap c
+  put-front = ap (take r) put-split ∙ take-at (take k symbols ++ added gap c) (drop r symbols) r put-count
+
+  put-others : (symbols₀ : List ℕ) → drop k symbols ≡ drop k symbols₀ → drop r symbols′ ≡ drop r symbols₀
+  put-others symbols₀ e =
+      ap (drop r) put-split ∙ drop-at (take k symbols ++ added gap c) (drop r symbols) r put-count
+      ∙ further symbols ∙ ap (drop (length (added gap c))) e ∙ sym (further symbols₀)
+    where
+      further : (s : List ℕ) → drop r s ≡ drop (length (added gap c)) (drop k s)
+      further s = ap (λ (n : ℕ). drop n s) (q .fits l .0) ∙ sym (drop-drop (length (added gap c)) k s)
+
 -- THE PASS
 
 -- what stands before a byte, behind k symbols: separators if there is a gap
@@ -60,10 +86,6 @@ squeeze-letter k gap zero cs z = absurd (z refl)
 squeeze-letter k true (suc c) cs z = refl
 squeeze-letter zero false (suc c) cs z = refl
 squeeze-letter (suc k) false (suc c) cs z = refl
-
-added-some : (gap : Bool) (c : ℕ) → 0 < length (added gap c)
-added-some true c = omega arith
-added-some false c = omega arith
 
 before-letter : (r : ℕ) → 0 < r → before false r ≡ Before.letter
 before-letter zero h = absurd (omega arith)
@@ -108,47 +130,28 @@ module _ (text symbols₀ symbols : List ℕ) (k : ℕ) (gap : Bool) (i : ℕ) (
           ∙ ap (λ (s : List ℕ). take k symbols ++ s) (squeeze-letter k gap c (map class (drop (suc i) text)) z)
           ∙ sym (append-assoc (take k symbols) (added gap c) (squeeze Before.letter (map class (drop (suc i) text))))
 
-      count : length (take k symbols ++ added gap c) ≡ k + length (added gap c)
-      count = length-append (take k symbols) (added gap c) ∙ ap (λ (n : ℕ). n + length (added gap c)) (length-take-le k symbols (omega arith))
-
       pub passed-over : 1024 ≤ r → Filled text symbols₀ symbols′ r
-      passed-over o = record {
-        long = q .long;
-        fits = λ l. absurd (omega arith);
-        over = λ l.
-            let u = q .over o in
-            let v = ap length letter ∙ length-append (take k symbols ++ added gap c) (squeeze Before.letter (map class (drop (suc i) text))) in
-            omega (arith, count);
-      }
+      passed-over o =
+          let n = length-append (take k symbols ++ added gap c) (squeeze Before.letter (map class (drop (suc i) text))) in
+          let m = length-append (take k symbols) (added gap c) in
+          let t = length-take-le k symbols (omega arith) in
+          let u = q .over o in
+          record { long = q .long; fits = λ l. absurd (omega arith); over = λ _. omega (arith, ap length letter) }
 
       pub passed-letter : r < 1024 → Passed text symbols₀ symbols′ r false (i + 1)
-      passed-letter l = go (q .fits l .0) (q .fits l .1)
-        where
-          go : r ≡ k + length (added gap c) → symbols′ ≡ sets symbols k (added gap c) → Passed text symbols₀ symbols′ r false (i + 1)
-          go f s =
-              let m = p .long in
-              let split : symbols′ ≡ (take k symbols ++ added gap c) ++ drop r symbols =
-                s ∙ sets-eq (added gap c) symbols k (omega arith) ∙ ap (λ (n : ℕ). (take k symbols ++ added gap c) ++ drop n symbols) (sym f)
-              in
-              let some = added-some gap c in
-              record {
-                long = q .long;
-                room = l;
-                within = omega arith;
-                none-first = λ _. refl;
-                symbols-are =
-                  letter
-                      ∙ ap (λ (s : List ℕ). s ++ squeeze Before.letter (map class (drop (suc i) text)))
-                          (sym (ap (λ (s : List ℕ). take r s) split ∙ take-at (take k symbols ++ added gap c) (drop r symbols) r (count ∙ sym f)))
-                      ∙ ap (λ (b : Before). take r symbols′ ++ squeeze b (map class (drop (suc i) text))) (sym (before-letter r (omega arith)))
-                      ∙ rw add-one;
-                others =
-                  ap (λ (s : List ℕ). drop r s) split ∙ drop-at (take k symbols ++ added gap c) (drop r symbols) r (count ∙ sym f)
-                      ∙ further symbols ∙ ap (λ (s : List ℕ). drop (length (added gap c)) s) (p .others) ∙ sym (further symbols₀);
-              }
-            where
-              further : (s : List ℕ) → drop r s ≡ drop (length (added gap c)) (drop k s)
-              further s = ap (λ (n : ℕ). drop n s) f ∙ sym (drop-drop (length (added gap c)) k s)
+      passed-letter l =
+          let f = q .fits l .0 in
+          let some = added-some gap c in
+          record {
+            long = q .long;
+            room = l;
+            within = omega arith;
+            none-first = λ _. refl;
+            symbols-are =
+                letter ∙ ap (λ (s : List ℕ). s ++ squeeze Before.letter (map class (drop (suc i) text))) (sym (put-front (p .long) q l))
+                ∙ ap (λ (b : Before). take r symbols′ ++ squeeze b (map class (drop (suc i) text))) (sym (before-letter r (omega arith))) ∙ rw add-one;
+            others = put-others (p .long) q l symbols₀ (p .others);
+          }
 
 -- THE ANSWER
 
@@ -165,7 +168,7 @@ module _ (n : ℕ) (arity : ℕ → ℕ) (text symbols : List ℕ) (long : lengt
     closed : m < 1024 → set symbols′ m 0 ≡ (squeezed text ++ (0 ∷ [])) ++ drop (m + 1) symbols
     closed h =
         ap (λ (s : List ℕ). set s m 0)
-            (f .fits h .1 ∙ ap (λ (s : List ℕ). squeezed text ++ s) (drop-cons symbols m 0 (omega arith)))
+        (f .fits h .1 ∙ ap (λ (s : List ℕ). squeezed text ++ s) (drop-cons symbols m 0 (omega arith)))
         ∙ set-at (squeezed text) (getD symbols m 0) (drop (suc m) symbols) 0 m (sym (f .fits h .0))
         ∙ sym (append-snoc (squeezed text) 0 (drop (suc m) symbols)) ∙ rw add-one
 

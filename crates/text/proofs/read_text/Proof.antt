@@ -5,16 +5,11 @@ use borrow.Author.Needs.{needs}
 use Rattle.text.proofs.Pass.{told-19, told-18, told-read}
 use Rattle.text.proofs.read_text.Statement.{statement}
 use Rattle.text.proofs.read_text.Tie as tie
-use Rattle.text.proofs.read_text.Reads as reads
-use Rattle.text.proofs.read_text.Lts as lts
-use Rattle.text.proofs.classes.Reads as classes-reads
-use Rattle.text.proofs.fill.Reads as fill-reads
-use Rattle.text.proofs.has_classes.Reads as has-classes-reads
 
 returns : tie.Need-returns
 returns c =
     let at-if = c .before .before .before .before .before in
-    told-18 _ _ _ _ (search needs) _ _ (sym (at-if .before .has-classes .ensures) ∙ at-if .if1 .taken) (c .before .fill .ensures) (c .if2 .taken)
+    told-18 _ _ _ _ (search needs) _ _ (sym (at-if .before .has-classes .ensures) ∙ at-if .if1 .taken) (c .before .fill .ensures) (omega arith)
 
 returns-2 : tie.Need-returns-2
 returns-2 c =
@@ -27,4 +22,5 @@ returns-3 c = told-19 _ _ _ _ (search needs) (sym (c .before .has-classes .ensur
 pub read-text-spec : {M : Type 1} → statement M
 read-text-spec =
     tie.close
-    (tie.spec (λ c κs. search needs) (λ c κs. search needs) (λ c κs. search needs) returns (λ c. search needs) (λ c. search needs) returns-2 returns-3)
+    (tie.spec (λ c κs. search needs) (λ c κs. search needs) (λ c κs. search needs) returns (λ c. search needs) (λ c. search needs) returns-2
+    returns-3)
