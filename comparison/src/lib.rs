@@ -9,6 +9,7 @@
 //! - `broken`: the model with one slip, to show that slips are found.
 //! - `library`: the static library as a subject, under the feature `library`.
 //! - `program`: the pages of the programs `reduce` and `payee`.
+//! - `vectors`: pages from outside.
 
 pub mod books;
 pub mod broken;
@@ -24,3 +25,4 @@ pub mod random;
 pub mod shrink;
 pub mod subject;
 pub mod texts;
+pub mod vectors;
