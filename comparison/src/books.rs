@@ -41,7 +41,7 @@ fn any_draft(random: &mut Random) -> Draft {
 // ---------------------------------------------------------------------------
 // Operators and strategies
 
-fn operators(random: &mut Random) -> Vec<OperatorDraft> {
+pub fn operators(random: &mut Random) -> Vec<OperatorDraft> {
     let count = match random.below(60) {
         0 => 255,
         _ => random.from_ranges(&[(1, 4), (2, 6), (3, 8), (3, 8), (8, 40)]),
@@ -71,7 +71,7 @@ fn arity(random: &mut Random, widest: usize) -> usize {
     }
 }
 
-fn strategy(random: &mut Random, arity: u8) -> Option<Vec<u8>> {
+pub fn strategy(random: &mut Random, arity: u8) -> Option<Vec<u8>> {
     match random.below(30) {
         0..=6 => None,
         7..=21 => Some(full_group(random, arity)),
@@ -133,14 +133,14 @@ enum Style {
     Copying,
 }
 
-struct RuleHabits {
+pub struct RuleHabits {
     styles: Vec<Style>,
     left_limit: usize,
     right_limit: usize,
 }
 
 impl RuleHabits {
-    fn new(random: &mut Random) -> RuleHabits {
+    pub fn new(random: &mut Random) -> RuleHabits {
         let ending = [Style::Shrinking, Style::Descending, Style::Recursive];
         let styles = match random.below(6) {
             0 => vec![Style::Free],
@@ -179,10 +179,14 @@ fn rule_roots(random: &mut Random, draft: &Draft) -> Vec<u8> {
     roots
 }
 
-fn rule(random: &mut Random, draft: &Draft, root: u8, habits: &RuleHabits) -> Option<RuleDraft> {
+pub fn rule(
+    random: &mut Random,
+    draft: &Draft,
+    root: u8,
+    habits: &RuleHabits,
+) -> Option<RuleDraft> {
     let left = left_side(random, draft, root, habits.left_limit)?;
-    let style = *random.pick(&habits.styles);
-    let right = right_side(random, draft, root, &left, style, habits.right_limit)?;
+    let right = right_side(random, draft, root, &left, habits)?;
     Some(RuleDraft { left, right })
 }
 
@@ -205,14 +209,14 @@ fn left_side(random: &mut Random, draft: &Draft, root: u8, limit: usize) -> Opti
     Some(symbols)
 }
 
-fn right_side(
+pub fn right_side(
     random: &mut Random,
     draft: &Draft,
     root: u8,
     left: &[Symbol],
-    style: Style,
-    limit: usize,
+    habits: &RuleHabits,
 ) -> Option<Vec<Symbol>> {
+    let style = *random.pick(&habits.styles);
     let (branches, mut leaves) = split_operators(draft, |operator| match style {
         Style::Shrinking | Style::Free | Style::Copying => true,
         Style::Descending => operator < root,
@@ -226,7 +230,7 @@ fn right_side(
     }
     leaves.extend(&variables);
     let mut grower = Grower::new(random, branches, leaves);
-    let mut limit = limit;
+    let mut limit = habits.right_limit;
     match style {
         Style::Shrinking => {
             grower.linear = true;

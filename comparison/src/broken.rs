@@ -3,7 +3,9 @@
 //! Slips are put in from outside, so that the model itself stays plain. Those
 //! of runs are the document's own list of where hands slip.
 
-use crate::model::{self, Answer, Book, Filling, Item, Machine, Order, Pattern};
+use crate::model::{
+    self, Answer, Book, Filling, Form, Item, Machine, Operator, Order, Pattern, Term, GAP,
+};
 use crate::subject::{hand_over, ModelSubject, Question, Subject, Told, Written, MODEL_PUBLISHED};
 
 #[derive(Clone, Copy, Debug, PartialEq, Eq)]
@@ -30,9 +32,25 @@ pub enum Slip {
     Padding,
     /// Lists are written as they were given.
     Given,
+    /// C7 has the class of D.
+    Cedilla,
+    /// DF separates.
+    Sharp,
+    /// FF separates.
+    Diaeresis,
+    /// A run of separators at the text's end is kept.
+    Tail,
+    /// A run of separators at the text's front is kept.
+    Front,
+    /// 18 is told one symbol late.
+    Late,
+    /// 18 is told before 19.
+    Swapped,
+    /// Only the operators that the text names are looked at.
+    Named,
 }
 
-pub const SLIPS: [(&str, Slip); 11] = [
+pub const SLIPS: [(&str, Slip); 19] = [
     ("join", Slip::Join),
     ("list", Slip::List),
     ("zeros", Slip::Zeros),
@@ -44,6 +62,14 @@ pub const SLIPS: [(&str, Slip); 11] = [
     ("trace", Slip::Trace),
     ("padding", Slip::Padding),
     ("given", Slip::Given),
+    ("cedilla", Slip::Cedilla),
+    ("sharp", Slip::Sharp),
+    ("diaeresis", Slip::Diaeresis),
+    ("tail", Slip::Tail),
+    ("front", Slip::Front),
+    ("late", Slip::Late),
+    ("swapped", Slip::Swapped),
+    ("named", Slip::Named),
 ];
 
 pub struct BrokenModel {
@@ -93,7 +119,10 @@ impl BrokenModel {
         if self.slip == Slip::Order {
             model::check_schedule(question.schedule, question.units)?;
         }
-        let line = model::read_line(&book, question.line)?;
+        let line = match question.form {
+            Form::Line => model::read_line(&book, question.line)?,
+            Form::Text => self.broken_text(&book, question.line)?,
+        };
         model::check_schedule(question.schedule, question.units)?;
         let mut machine = Machine::new(&book, line, question.units, question.budget);
         let ending = self.run(&mut machine, question.schedule);
@@ -116,6 +145,41 @@ impl BrokenModel {
         Ok(book)
     }
 
+    fn broken_text(&self, book: &Book, text: &[u8]) -> Result<Term, u8> {
+        let classes = self.broken_classes(text);
+        let length = match self.slip {
+            Slip::Late => model::check_text_length(&classes[..classes.len().saturating_sub(1)]),
+            _ => model::check_text_length(&classes),
+        };
+        if self.slip == Slip::Swapped {
+            length?;
+        }
+        match self.slip {
+            Slip::Named => model::check_class_operators(&without_unnamed(book, &classes))?,
+            _ => model::check_class_operators(book)?,
+        }
+        length?;
+        Ok(model::text_term(&classes))
+    }
+
+    fn broken_classes(&self, text: &[u8]) -> Vec<u8> {
+        let read_as = |wrong: u8, other: u8| {
+            let byte = |&byte: &u8| if byte == wrong { other } else { byte };
+            model::squeezed(&text.iter().map(byte).collect::<Vec<u8>>())
+        };
+        let separates = |byte: &u8| model::class(*byte).is_none();
+        let mut classes = model::squeezed(text);
+        match self.slip {
+            Slip::Cedilla => return read_as(0xC7, b'D'),
+            Slip::Sharp => return read_as(0xDF, b' '),
+            Slip::Diaeresis => return read_as(0xFF, b' '),
+            Slip::Tail if text.last().is_some_and(separates) => classes.push(GAP),
+            Slip::Front if text.first().is_some_and(separates) => classes.insert(0, GAP),
+            _ => {}
+        }
+        classes
+    }
+
     fn run(&self, machine: &mut Machine, schedule: &[u8]) -> u8 {
         for &unit in schedule {
             let unit = usize::from(unit);
@@ -132,6 +196,25 @@ impl BrokenModel {
         }
         model::ending::CUT
     }
+}
+
+/// The book with sound class operators wherever the classes don't name them.
+fn without_unnamed(book: &Book, classes: &[u8]) -> Book {
+    let mut book = book.clone();
+    let plain = Operator {
+        arity: 1,
+        given: None,
+        strategy: model::default_strategy(1),
+    };
+    for class in (1..=GAP).filter(|class| !classes.contains(class)) {
+        let place = usize::from(class);
+        if place < book.operators.len() {
+            book.operators[place] = plain.clone();
+        } else if place == book.operators.len() {
+            book.operators.push(plain.clone());
+        }
+    }
+    book
 }
 
 fn settle_zeros_first(book: &mut Book) {

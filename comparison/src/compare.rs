@@ -1,22 +1,29 @@
 //! Compares a subject with the model on random cases.
 
 use std::fmt::{self, Display, Formatter};
-use std::ops::Range;
+use std::ops::{Range, RangeInclusive};
 
 use crate::draft::Case;
-use crate::model::{self, Answer};
-use crate::random::{self, Random};
+use crate::model::{self, Answer, Form};
+use crate::random;
 use crate::shrink::shrink;
 use crate::subject::{Question, Subject, Told, Written};
+
+/// The numbers of the book's own refusals.
+const BOOK: RangeInclusive<usize> = 1..=9;
 
 /// How often each ending and each refusal number was due.
 #[derive(Clone, Debug, Default, PartialEq, Eq)]
 pub struct Tally {
     pub cases: u64,
     pub endings: [u64; 4],
-    pub refusals: [u64; 18],
+    pub refusals: [u64; 20],
+    /// Those of the above that were texts.
+    pub texts: u64,
+    pub text_endings: [u64; 4],
+    pub text_refusals: [u64; 20],
     pub books_written: u64,
-    pub writer_refusals: [u64; 18],
+    pub writer_refusals: [u64; 20],
 }
 
 impl Tally {
@@ -27,21 +34,32 @@ impl Tally {
             let numbers = numbers.iter().filter(|&&number| counts[number] == 0);
             numbers.map(|number| format!("{name} {number}")).collect()
         };
-        let all: Vec<usize> = (1..=16).collect();
+        let all: Vec<usize> = (1..=16).chain([18, 19]).collect();
+        let of_text: Vec<usize> = BOOK.chain([13, 14, 15, 16, 18, 19]).collect();
         [
             unmet("ending", &[0, 1, 2, 3], &self.endings),
             unmet("refusal", &all, &self.refusals),
+            unmet("a text's ending", &[0, 1, 2, 3], &self.text_endings),
+            unmet("a text's refusal", &of_text, &self.text_refusals),
             unmet("writer's refusal", &all[..9], &self.writer_refusals),
             unmet("writer's refusal", &[16], &self.writer_refusals),
         ]
         .concat()
     }
 
-    fn count_run(&mut self, expected: &Result<Answer, u8>) {
+    fn count_run(&mut self, form: Form, expected: &Result<Answer, u8>) {
+        let text = u64::from(form == Form::Text);
         self.cases += 1;
+        self.texts += text;
         match expected {
-            Ok(answer) => self.endings[usize::from(answer.ending)] += 1,
-            Err(number) => self.refusals[usize::from(*number)] += 1,
+            Ok(answer) => {
+                self.endings[usize::from(answer.ending)] += 1;
+                self.text_endings[usize::from(answer.ending)] += text;
+            }
+            Err(number) => {
+                self.refusals[usize::from(*number)] += 1;
+                self.text_refusals[usize::from(*number)] += text;
+            }
         }
     }
 
@@ -70,16 +88,32 @@ pub fn compare(
 ) -> (Tally, Option<Difference>) {
     let mut comparison = Comparison::new(subject);
     for number in numbers {
-        let mut random = Random::for_case(seed, number);
-        let mut case = random::case(&mut random);
-        case.junk = random.draw();
+        let case = random::numbered(seed, number);
         if comparison.check(&case).is_some() {
             // What is asked to make the case small is not counted.
             let tally = comparison.tally.clone();
-            return (tally, Some(comparison.make_small(number, case)));
+            let difference = made_small(number, case, &mut |case| comparison.check(case));
+            return (tally, Some(difference));
         }
     }
     (comparison.tally, None)
+}
+
+/// `check` answers what differs in a case, if anything does.
+pub fn made_small(
+    number: u64,
+    met: Case,
+    check: &mut dyn FnMut(&Case) -> Option<String>,
+) -> Difference {
+    let small = shrink(met.clone(), &mut |case| check(case).is_some());
+    let what = check(&small)
+        .unwrap_or_else(|| "the subject answered differently when asked again".to_string());
+    Difference {
+        number,
+        met,
+        small,
+        what,
+    }
 }
 
 /// Lends a subject the same buffers for case after case.
@@ -108,40 +142,12 @@ impl<'a> Comparison<'a> {
         run.or(writer)
     }
 
-    fn make_small(&mut self, number: u64, met: Case) -> Difference {
-        let small = shrink(met.clone(), &mut |case| self.check(case).is_some());
-        let what = self
-            .check(&small)
-            .unwrap_or_else(|| "the subject answered differently when asked again".to_string());
-        Difference {
-            number,
-            met,
-            small,
-            what,
-        }
-    }
-
     fn check_run(&mut self, case: &Case, book: &[u8]) -> Option<String> {
         let published = self.subject.published();
         let work_len = case.work_len(published);
-        let expected = model::answer(
-            book,
-            &case.line,
-            case.units,
-            case.budget,
-            &case.schedule,
-            work_len,
-            case.output_len,
-            published,
-        );
-        self.tally.count_run(&expected);
-        let question = Question {
-            book,
-            line: &case.line,
-            units: case.units,
-            budget: case.budget,
-            schedule: &case.schedule,
-        };
+        let question = Question::of(case, book);
+        let expected = question.answer(work_len, case.output_len, published);
+        self.tally.count_run(case.form, &expected);
         let work = self.work.lend(work_len, case.junk);
         let output = self.output.lend(case.output_len, !case.junk);
         let found = self.subject.answer(&question, work, output);
@@ -244,12 +250,20 @@ impl Display for Difference {
     }
 }
 
+fn form_name(case: &Case) -> &'static str {
+    match case.form {
+        Form::Line => "line",
+        Form::Text => "text",
+    }
+}
+
 fn sizes(case: &Case) -> String {
     format!(
-        "{} operators, {} rules, {} book bytes, line of {}, {} units, schedule of {}",
+        "{} operators, {} rules, {} book bytes, {} of {}, {} units, schedule of {}",
         case.draft.operators.len(),
         case.draft.rules.len(),
         case.book().len(),
+        form_name(case),
         case.line.len(),
         case.units,
         case.schedule.len()
@@ -258,7 +272,7 @@ fn sizes(case: &Case) -> String {
 
 fn write_case(text: &mut Formatter, case: &Case) -> fmt::Result {
     writeln!(text, "book     {}", hexadecimal(&case.book()))?;
-    writeln!(text, "line     {}", hexadecimal(&case.line))?;
+    writeln!(text, "{}     {}", form_name(case), hexadecimal(&case.line))?;
     writeln!(text, "units    {}", case.units)?;
     writeln!(text, "budget   {}", case.budget)?;
     writeln!(text, "schedule {}", hexadecimal(&case.schedule))?;
@@ -278,12 +292,14 @@ fn write_case(text: &mut Formatter, case: &Case) -> fmt::Result {
 
 impl Display for Tally {
     fn fmt(&self, text: &mut Formatter) -> fmt::Result {
-        writeln!(text, "cases    {}", self.cases)?;
+        writeln!(text, "cases    {}, texts {}", self.cases, self.texts)?;
         for (ending, count) in self.endings.iter().enumerate() {
-            writeln!(text, "ending {ending:2}   {count}")?;
+            let texts = self.text_endings[ending];
+            writeln!(text, "ending {ending:2}   {count}, texts {texts}")?;
         }
-        for (number, count) in self.refusals.iter().enumerate().take(17).skip(1) {
-            writeln!(text, "refused {number:2}  {count}")?;
+        for number in (1..=16).chain([18, 19]) {
+            let (count, texts) = (self.refusals[number], self.text_refusals[number]);
+            writeln!(text, "refused {number:2}  {count}, texts {texts}")?;
         }
         writeln!(text, "books written {}", self.books_written)?;
         for (number, count) in self.writer_refusals.iter().enumerate() {

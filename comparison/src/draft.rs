@@ -1,7 +1,7 @@
 //! Books and whole cases as drafts: fields that may break any rule, so that
 //! they can be spoiled on purpose, encoded as they are, and shrunk.
 
-use crate::model::{Packer, OUTPUT_LEN};
+use crate::model::{Form, Packer, OUTPUT_LEN};
 
 #[derive(Clone, Copy, Debug, PartialEq, Eq)]
 pub enum Symbol {
@@ -131,6 +131,8 @@ impl Damage {
 pub struct Case {
     pub draft: Draft,
     pub damage: Vec<Damage>,
+    pub form: Form,
+    /// A term or a text, as the form says.
     pub line: Vec<u8>,
     pub units: u8,
     pub budget: u32,
@@ -143,14 +145,17 @@ pub struct Case {
     pub writer_offset: isize,
     /// Seeds what the lent buffers hold before.
     pub junk: u64,
+    /// How many bytes of the program's input are cut off at its end.
+    pub cut: usize,
 }
 
 impl Case {
-    /// A case without fault in its frame.
+    /// A line that is a term, without fault in its frame.
     pub fn new(draft: Draft, line: Vec<u8>, units: u8, budget: u32, schedule: Vec<u8>) -> Case {
         Case {
             draft,
             damage: Vec::new(),
+            form: Form::Line,
             line,
             units,
             budget,
@@ -159,6 +164,7 @@ impl Case {
             output_len: OUTPUT_LEN,
             writer_offset: 0,
             junk: 0,
+            cut: 0,
         }
     }
 
@@ -185,6 +191,7 @@ impl Case {
         input.push(self.units);
         input.extend(self.budget.to_be_bytes());
         input.extend(&self.schedule);
+        input.truncate(input.len().saturating_sub(self.cut));
         Some(input)
     }
 }

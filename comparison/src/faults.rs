@@ -2,8 +2,9 @@
 
 use crate::draft::{Case, Damage, Draft, RuleDraft, Symbol};
 use crate::grow::split_operators;
-use crate::model::{OUTPUT_LEN, SIDE_LIMIT, TERM_LIMIT};
+use crate::model::{squeezed, Form, OUTPUT_LEN, SIDE_LIMIT, TERM_LIMIT};
 use crate::random::Random;
+use crate::texts;
 
 /// Puts in one fault; by chance it may change nothing that is refused.
 pub fn spoil(random: &mut Random, case: &mut Case) {
@@ -12,7 +13,10 @@ pub fn spoil(random: &mut Random, case: &mut Case) {
         1 => spoil_work(random, case),
         2 => spoil_output(random, case),
         3 | 4 => spoil_schedule(random, case),
-        5..=7 => spoil_line(random, case),
+        5..=7 => match case.form {
+            Form::Line => spoil_line(random, case),
+            Form::Text => spoil_text(random, &mut case.line),
+        },
         8 | 9 => spoil_operators(random, &mut case.draft),
         10..=13 => spoil_rules(random, &mut case.draft),
         _ => {
@@ -57,6 +61,32 @@ fn spoil_line(random: &mut Random, case: &mut Case) {
             line.resize(random.between(TERM_LIMIT, TERM_LIMIT + 2), filler);
         }
         _ => *line = random.bytes(2),
+    }
+}
+
+/// A text is refused for its length only, and only once it is squeezed.
+fn spoil_text(random: &mut Random, text: &mut Vec<u8>) {
+    match random.below(6) {
+        0 => text.clear(),
+        1 => text.push(random.byte()),
+        2 => {
+            let more = random.between(1000, 5000);
+            text.extend(random.bytes(more));
+        }
+        _ => {
+            let symbols = random.between(TERM_LIMIT, TERM_LIMIT + 2);
+            lengthen(random, text, symbols);
+        }
+    }
+}
+
+/// Letters behind the text, up to so many symbols of its term. Where it ends
+/// in separators, these become a symbol too.
+fn lengthen(random: &mut Random, text: &mut Vec<u8>, symbols: usize) {
+    while squeezed(text).len() + 1 < symbols {
+        let lacking = symbols - squeezed(text).len() - 1;
+        let classes = texts::classes(random, &[1], &[], lacking.div_ceil(2));
+        text.extend(texts::typed(random, &classes));
     }
 }
 

@@ -3,11 +3,13 @@
 //!
 //! - `model`: the definitions, written for reading.
 //! - `draft`: books and cases as fields that may break any rule.
-//! - `random`, `books`, `grow`, `faults`: random cases.
+//! - `random`, `books`, `texts`, `grow`, `faults`: random cases.
 //! - `subject`: what an implementation under comparison must offer.
 //! - `compare`, `shrink`: the comparison, and how a difference is made small.
 //! - `broken`: the model with one slip, to show that slips are found.
 //! - `library`: the static library as a subject, under the feature `library`.
+//! - `program`: the pages of the programs `reduce` and `payee`.
+//! - `vectors`: pages from outside.
 
 pub mod books;
 pub mod broken;
@@ -18,6 +20,9 @@ pub mod grow;
 #[cfg(feature = "library")]
 pub mod library;
 pub mod model;
+pub mod program;
 pub mod random;
 pub mod shrink;
 pub mod subject;
+pub mod texts;
+pub mod vectors;

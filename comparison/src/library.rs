@@ -2,6 +2,7 @@
 
 use kurvneist::{raw, Request};
 
+use crate::model::Form;
 use crate::subject::{Question, Subject, Told, Written};
 
 /// What a value holds before the call, so that a zero that is due must be written.
@@ -22,8 +23,12 @@ impl Subject for Library {
             budget: question.budget,
             schedule: question.schedule,
         };
+        let call = match question.form {
+            Form::Line => raw::reduce,
+            Form::Text => raw::payee,
+        };
         let mut values = [JUNK; 5];
-        let refusal = raw::reduce(&request, work, output, &mut values);
+        let refusal = call(&request, work, output, &mut values);
         let [ending, rewrites, entries, granted, length] = values;
         Told {
             refusal,

@@ -1,8 +1,9 @@
-//! The model: rule books, terms, and the units that reduce them.
+//! The model: rule books, terms, texts, and the units that reduce them.
 //!
-//! Each part follows the wording of the scope document. Terms are trees and
-//! orders stand in plain lists, so that a step can be held against its
-//! sentence there; nothing is arranged for speed.
+//! Each part follows the wording of the scope document, and of the change
+//! requests that have landed. Terms are trees and orders stand in plain lists,
+//! so that a step can be held against its sentence there; nothing is arranged
+//! for speed.
 
 use std::fmt::Write;
 
@@ -30,6 +31,8 @@ pub mod refusal {
     pub const WORK_AREA: u8 = 15;
     pub const OUTPUT: u8 = 16;
     pub const INPUT: u8 = 17;
+    pub const TEXT_TOO_LONG: u8 = 18;
+    pub const CLASS_OPERATORS: u8 = 19;
 }
 
 /// The four endings of a run.
@@ -547,6 +550,108 @@ fn read_term(book: &Book, rest: &mut std::slice::Iter<u8>) -> Result<Term, u8> {
 }
 
 // ---------------------------------------------------------------------------
+// The text's reader
+
+/// The operator at the bottom of a text's term.
+pub const END: u8 = 0;
+
+/// The class of a run of separators between letters or digits, and the last
+/// of the class operators.
+pub const GAP: u8 = 42;
+
+/// The class of a byte of ISO 8859-1, or `None` if it separates.
+pub fn class(byte: u8) -> Option<u8> {
+    match byte {
+        b'A'..=b'Z' => Some(byte - b'A' + 1),
+        b'a'..=b'z' => Some(byte - b'a' + 1),
+        0xC0..=0xC5 | 0xE0..=0xE5 => class(b'A'),
+        0xC7 | 0xE7 => class(b'C'),
+        0xC8..=0xCB | 0xE8..=0xEB => class(b'E'),
+        0xCC..=0xCF | 0xEC..=0xEF => class(b'I'),
+        0xD1 | 0xF1 => class(b'N'),
+        0xD2..=0xD6 | 0xF2..=0xF6 => class(b'O'),
+        0xD9..=0xDC | 0xF9..=0xFC => class(b'U'),
+        0xDD | 0xFD | 0xFF => class(b'Y'),
+        0xC6 | 0xE6 => Some(27),
+        0xD0 | 0xF0 => Some(28),
+        0xD8 | 0xF8 => Some(29),
+        0xDE | 0xFE => Some(30),
+        0xDF => Some(31),
+        b'0'..=b'9' => Some(byte - b'0' + 32),
+        _ => None,
+    }
+}
+
+/// The classes of a text, with one `GAP` between words and none at the ends.
+pub fn squeezed(text: &[u8]) -> Vec<u8> {
+    let words: Vec<Vec<u8>> = text
+        .split(|&byte| class(byte).is_none())
+        .filter(|word| !word.is_empty())
+        .map(|word| word.iter().filter_map(|&byte| class(byte)).collect())
+        .collect();
+    words.join(&GAP)
+}
+
+pub fn read_text(book: &Book, text: &[u8]) -> Result<Term, u8> {
+    check_class_operators(book)?;
+    let classes = squeezed(text);
+    check_text_length(&classes)?;
+    Ok(text_term(&classes))
+}
+
+/// Operator 0 is a constant, and each of 1 to 42 has one argument.
+pub fn check_class_operators(book: &Book) -> Result<(), u8> {
+    let has_arity = |number: u8, due: u8| {
+        let operator = book.operators.get(usize::from(number));
+        operator.is_some_and(|operator| operator.arity == due)
+    };
+    if has_arity(END, 0) && (1..=GAP).all(|class| has_arity(class, 1)) {
+        Ok(())
+    } else {
+        Err(refusal::CLASS_OPERATORS)
+    }
+}
+
+/// The term has a symbol for each class, and `END`.
+pub fn check_text_length(classes: &[u8]) -> Result<(), u8> {
+    if classes.len() + 1 > TERM_LIMIT {
+        return Err(refusal::TEXT_TOO_LONG);
+    }
+    Ok(())
+}
+
+/// The first class is at the root.
+pub fn text_term(classes: &[u8]) -> Term {
+    let end = Term {
+        operator: END,
+        arguments: Vec::new(),
+    };
+    classes.iter().rfold(end, |rest, &operator| Term {
+        operator,
+        arguments: vec![rest],
+    })
+}
+
+/// What stands where a run takes its term from.
+#[derive(Clone, Copy, Debug, Default, PartialEq, Eq)]
+pub enum Form {
+    /// The term itself.
+    #[default]
+    Line,
+    /// A payee's text.
+    Text,
+}
+
+impl Form {
+    pub fn read(self, book: &Book, bytes: &[u8]) -> Result<Term, u8> {
+        match self {
+            Form::Line => read_line(book, bytes),
+            Form::Text => read_text(book, bytes),
+        }
+    }
+}
+
+// ---------------------------------------------------------------------------
 // Reduction one after the other
 
 /// The reduced term and its rewrites, or `None` if it needs over `most`.
@@ -842,6 +947,7 @@ pub struct Answer {
     pub term: Vec<u8>,
 }
 
+/// The answer to a line that is a term.
 #[allow(clippy::too_many_arguments)]
 pub fn answer(
     book: &[u8],
@@ -853,9 +959,34 @@ pub fn answer(
     output_len: usize,
     published: usize,
 ) -> Result<Answer, u8> {
+    answer_to(
+        Form::Line,
+        book,
+        line,
+        units,
+        budget,
+        schedule,
+        work_len,
+        output_len,
+        published,
+    )
+}
+
+#[allow(clippy::too_many_arguments)]
+pub fn answer_to(
+    form: Form,
+    book: &[u8],
+    line: &[u8],
+    units: u8,
+    budget: u32,
+    schedule: &[u8],
+    work_len: usize,
+    output_len: usize,
+    published: usize,
+) -> Result<Answer, u8> {
     check_frame(units, work_len, output_len, published)?;
     let book = read_book(book)?;
-    let line = read_line(&book, line)?;
+    let line = form.read(&book, line)?;
     check_schedule(schedule, units)?;
     let mut machine = Machine::new(&book, line, units, budget);
     let ending = machine.run(schedule);
@@ -890,9 +1021,15 @@ pub fn check_schedule(schedule: &[u8], units: u8) -> Result<(), u8> {
 // ---------------------------------------------------------------------------
 // The program's input and page
 
+/// The page of the program for lines that are terms.
 pub fn page(input: &[u8]) -> Vec<u8> {
+    page_of(Form::Line, input)
+}
+
+/// Both programs have the same layout of their input, and the same page.
+pub fn page_of(form: Form, input: &[u8]) -> Vec<u8> {
     let mut text = String::from("REDUCE 1\n");
-    match page_answer(input) {
+    match page_answer(form, input) {
         Ok(answer) => write_answer(&mut text, &answer),
         Err(number) => write_line(&mut text, "refused", number),
     }
@@ -900,7 +1037,7 @@ pub fn page(input: &[u8]) -> Vec<u8> {
 }
 
 /// The program lends buffers of its own that are always long enough.
-fn page_answer(input: &[u8]) -> Result<Answer, u8> {
+fn page_answer(form: Form, input: &[u8]) -> Result<Answer, u8> {
     let mut rest = input;
     let book = take_announced(&mut rest)?;
     let line = take_announced(&mut rest)?;
@@ -909,7 +1046,7 @@ fn page_answer(input: &[u8]) -> Result<Answer, u8> {
     if rest.len() > SCHEDULE_LIMIT {
         return Err(refusal::INPUT);
     }
-    answer(book, line, units, budget, rest, 0, OUTPUT_LEN, 0)
+    answer_to(form, book, line, units, budget, rest, 0, OUTPUT_LEN, 0)
 }
 
 fn take_announced<'a>(rest: &mut &'a [u8]) -> Result<&'a [u8], u8> {

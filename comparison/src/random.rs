@@ -4,10 +4,12 @@
 //! to three faults, so that the order in which faults are told is met too.
 
 use crate::books::draft;
-use crate::draft::Case;
+use crate::draft::{Case, Draft};
 use crate::faults::spoil;
 use crate::grow::line;
-use crate::model::{self, OUTPUT_LEN, SCHEDULE_LIMIT};
+use crate::model::{Form, OUTPUT_LEN, SCHEDULE_LIMIT};
+use crate::subject::Question;
+use crate::texts;
 
 /// SplitMix64.
 pub struct Random {
@@ -70,13 +72,41 @@ impl Random {
     }
 }
 
+/// The numbered case of a seed. Every third one is a text; the others are
+/// those that a seed had when all were lines.
+pub fn numbered(seed: u64, number: u64) -> Case {
+    let mut random = Random::for_case(seed, number);
+    let mut case = match number % 3 {
+        2 => text_case(&mut random),
+        _ => case(&mut random),
+    };
+    case.junk = random.draw();
+    if random.one_in(10) {
+        case.cut = cut(&mut random, &case);
+    }
+    case
+}
+
+/// A line that is a term.
 pub fn case(random: &mut Random) -> Case {
     let draft = draft(random);
     let line = line(random, &draft);
+    completed(random, draft, Form::Line, line)
+}
+
+pub fn text_case(random: &mut Random) -> Case {
+    let alphabet = texts::alphabet(random);
+    let draft = texts::draft(random, &alphabet);
+    let text = texts::text(random, &alphabet, &draft);
+    completed(random, draft, Form::Text, text)
+}
+
+fn completed(random: &mut Random, draft: Draft, form: Form, line: Vec<u8>) -> Case {
     let units = random.between(1, 8) as u8;
     let schedule = schedule(random, units);
     let budget = budget(random);
     let mut case = Case::new(draft, line, units, budget, schedule);
+    case.form = form;
     case.writer_offset = *random.pick(&[-1, 0, 0, 7]);
     if random.one_in(4) {
         sharpen(random, &mut case);
@@ -140,16 +170,8 @@ fn budget(random: &mut Random) -> u32 {
 
 /// Moves the budget or the schedule's end to where the run's ending turns.
 fn sharpen(random: &mut Random, case: &mut Case) {
-    let Ok(answer) = model::answer(
-        &case.book(),
-        &case.line,
-        case.units,
-        case.budget,
-        &case.schedule,
-        0,
-        OUTPUT_LEN,
-        0,
-    ) else {
+    let book = case.book();
+    let Ok(answer) = Question::of(case, &book).answer(0, OUTPUT_LEN, 0) else {
         return;
     };
     let less = random.below(2);
@@ -158,5 +180,18 @@ fn sharpen(random: &mut Random, case: &mut Case) {
     } else {
         case.schedule
             .truncate((answer.entries as usize).saturating_sub(less));
+    }
+}
+
+/// Mostly into what stands before the schedule, where the input is cut short.
+fn cut(random: &mut Random, case: &Case) -> usize {
+    let before = case.book().len() + case.line.len() + 9;
+    let cut_short = match random.below(3) {
+        0 => random.between(1, 12),
+        _ => random.between(1, before),
+    };
+    match random.below(4) {
+        0 => random.below(case.schedule.len() + 1),
+        _ => case.schedule.len() + cut_short,
     }
 }

@@ -1,7 +1,7 @@
 //! Makes a case small while it still shows a difference.
 
 use crate::draft::{Case, Draft, RuleDraft, Symbol};
-use crate::model::OUTPUT_LEN;
+use crate::model::{squeezed, Form, END, OUTPUT_LEN};
 
 /// Enough for any case met so far, and an end for the slowest subject.
 const MOST_TRIES: usize = 200_000;
@@ -31,13 +31,18 @@ impl Shrinker<'_> {
         self.thin(|case| &mut case.schedule);
         self.fewer_units();
         self.thin(|case| &mut case.draft.rules);
-        self.smaller_line();
+        self.text_to_line();
+        match self.case.form {
+            Form::Line => self.smaller_line(),
+            Form::Text => self.smaller_text(),
+        }
         self.smaller_sides();
         self.simpler_strategies();
         self.merge_operators();
         self.fewer_operators();
         self.simpler_frame();
         self.smaller_budget();
+        self.smaller_cut();
         self.case != before && self.tries > 0
     }
 
@@ -97,6 +102,28 @@ impl Shrinker<'_> {
             case.units = units;
             change(&mut case.schedule);
         })
+    }
+
+    /// A difference that a text's term shows too is none of texts.
+    fn text_to_line(&mut self) {
+        if self.case.form == Form::Text {
+            self.try_change(|case| {
+                case.form = Form::Line;
+                case.line = [squeezed(&case.line), vec![END]].concat();
+            });
+        }
+    }
+
+    /// Fewer bytes, then plainer ones.
+    fn smaller_text(&mut self) {
+        self.thin(|case| &mut case.line);
+        for plain in [b' ', b'A'] {
+            for place in 0..self.case.line.len() {
+                if !b" A".contains(&self.case.line[place]) {
+                    self.try_change(|case| case.line[place] = plain);
+                }
+            }
+        }
     }
 
     fn smaller_line(&mut self) {
@@ -196,6 +223,12 @@ impl Shrinker<'_> {
         while self.try_change(|case| case.budget /= 2) {}
         while self.try_change(|case| case.budget = case.budget.saturating_sub(1)) {}
     }
+
+    fn smaller_cut(&mut self) {
+        self.try_change(|case| case.cut = 0);
+        while self.try_change(|case| case.cut /= 2) {}
+        while self.try_change(|case| case.cut = case.cut.saturating_sub(1)) {}
+    }
 }
 
 fn left(rule: &mut RuleDraft) -> &mut Vec<Symbol> {
@@ -253,9 +286,11 @@ fn unused_operators(case: &Case) -> Vec<u8> {
         .collect()
 }
 
+/// The bytes of a text name no operators; whether those of its term may go is
+/// seen when it is tried.
 fn is_used(case: &Case, operator: u8) -> bool {
     let symbol = Symbol::Operator(operator);
-    case.line.contains(&operator)
+    case.form == Form::Line && case.line.contains(&operator)
         || case
             .draft
             .rules
@@ -264,9 +299,18 @@ fn is_used(case: &Case, operator: u8) -> bool {
 }
 
 fn rename_in_line(case: &mut Case, from: u8, to: u8) {
-    for number in case.line.iter_mut().filter(|number| **number == from) {
+    for number in line_symbols(case).filter(|number| **number == from) {
         *number = to;
     }
+}
+
+/// A text has none.
+fn line_symbols(case: &mut Case) -> impl Iterator<Item = &mut u8> {
+    let symbols = match case.form {
+        Form::Line => &mut case.line[..],
+        Form::Text => &mut [],
+    };
+    symbols.iter_mut()
 }
 
 fn rename_in_rules(case: &mut Case, from: u8, to: u8) {
@@ -283,7 +327,7 @@ fn rule_symbols(case: &mut Case) -> impl Iterator<Item = &mut Symbol> {
 /// Drops an unused operator; those after it move down.
 fn remove_operator(case: &mut Case, operator: u8) {
     case.draft.operators.remove(operator.into());
-    for number in &mut case.line {
+    for number in line_symbols(case) {
         *number -= u8::from(*number > operator);
     }
     for symbol in rule_symbols(case) {

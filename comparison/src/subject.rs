@@ -1,15 +1,52 @@
 //! What an implementation under comparison offers.
 
-use crate::model::{self, Answer};
+use crate::draft::Case;
+use crate::model::{self, Answer, Form};
 
 /// The parts of a run that are not lent buffers to write to.
 #[derive(Clone, Copy, Debug)]
 pub struct Question<'a> {
+    pub form: Form,
     pub book: &'a [u8],
+    /// A term or a text, as the form says.
     pub line: &'a [u8],
     pub units: u8,
     pub budget: u32,
     pub schedule: &'a [u8],
+}
+
+impl<'a> Question<'a> {
+    /// The question of a case, whose book has these bytes.
+    pub fn of(case: &'a Case, book: &'a [u8]) -> Question<'a> {
+        Question {
+            form: case.form,
+            book,
+            line: &case.line,
+            units: case.units,
+            budget: case.budget,
+            schedule: &case.schedule,
+        }
+    }
+
+    /// What the model answers if buffers of these lengths are lent.
+    pub fn answer(
+        &self,
+        work_len: usize,
+        output_len: usize,
+        published: usize,
+    ) -> Result<Answer, u8> {
+        model::answer_to(
+            self.form,
+            self.book,
+            self.line,
+            self.units,
+            self.budget,
+            self.schedule,
+            work_len,
+            output_len,
+            published,
+        )
+    }
 }
 
 /// The values of an answer. After a refusal all but its number are 0.
@@ -81,16 +118,7 @@ impl Subject for ModelSubject {
     }
 
     fn answer(&mut self, question: &Question, work: &mut [u8], output: &mut [u8]) -> Told {
-        let answer = model::answer(
-            question.book,
-            question.line,
-            question.units,
-            question.budget,
-            question.schedule,
-            work.len(),
-            output.len(),
-            MODEL_PUBLISHED,
-        );
+        let answer = question.answer(work.len(), output.len(), MODEL_PUBLISHED);
         hand_over(answer, work, output)
     }
 

@@ -2,6 +2,7 @@
 
 use comparison::broken::{BrokenModel, Slip, SLIPS};
 use comparison::compare::{compare, Comparison};
+use comparison::model::Form;
 use comparison::subject::{ModelSubject, Question, Subject, Told, Written};
 
 #[test]
@@ -24,13 +25,33 @@ fn every_slip_is_found_and_made_small() {
             Comparison::new(&mut subject).check(small).is_some(),
             "{name}"
         );
+        // What isn't about texts is shown by a line, also where a text met it.
+        assert_eq!(small.form, form_of(slip), "{name}: {difference}");
+        let operator_limit = match small.form {
+            Form::Line => 8,
+            Form::Text => 43,
+        };
         assert!(small.draft.rules.len() <= 3, "{name}: {difference}");
-        assert!(small.draft.operators.len() <= 8, "{name}: {difference}");
+        assert!(
+            small.draft.operators.len() <= operator_limit,
+            "{name}: {difference}"
+        );
         assert!(small.units <= 5, "{name}: {difference}");
-        // Copies matter only near the symbol limit.
-        let line_limit = if slip == Slip::Copies { 1024 } else { 30 };
+        // Copies matter only near the symbol limit, and so does what is told at it.
+        let line_limit = match slip {
+            Slip::Copies | Slip::Late | Slip::Swapped => 1024,
+            _ => 30,
+        };
         assert!(small.line.len() <= line_limit, "{name}: {difference}");
         assert!(small.schedule.len() <= 80, "{name}: {difference}");
+    }
+}
+
+fn form_of(slip: Slip) -> Form {
+    match slip {
+        Slip::Cedilla | Slip::Sharp | Slip::Diaeresis | Slip::Tail | Slip::Front => Form::Text,
+        Slip::Late | Slip::Swapped | Slip::Named => Form::Text,
+        _ => Form::Line,
     }
 }
 
@@ -63,10 +84,14 @@ fn a_subject_may_leave_kept_out() {
 #[test]
 fn what_was_not_met_is_named() {
     let (tally, _) = compare(&mut ModelSubject, 31, 0..0);
-    assert_eq!(tally.missing().len(), 4 + 16 + 10);
+    assert_eq!(tally.missing().len(), 4 + 18 + 4 + 15 + 10);
     assert_eq!(
         tally.missing()[..5].join(", "),
         "ending 0, ending 1, ending 2, ending 3, refusal 1"
+    );
+    assert_eq!(
+        tally.missing()[20..24].join(", "),
+        "refusal 18, refusal 19, a text's ending 0, a text's ending 1"
     );
     let (tally, _) = compare(&mut ModelSubject, 31, 0..2000);
     assert!(tally.missing().is_empty(), "{tally}");

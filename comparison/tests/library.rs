@@ -7,6 +7,7 @@ use common::*;
 use comparison::compare::{compare, Comparison};
 use comparison::draft::{Case, Damage, Draft, OperatorDraft};
 use comparison::library::Library;
+use comparison::model::Form;
 
 #[test]
 fn random_cases() {
@@ -22,7 +23,7 @@ fn refusal(case: &Case) -> Option<usize> {
     let mut library = Library;
     let mut comparison = Comparison::new(&mut library);
     assert_eq!(comparison.check(case), None);
-    (1..=17).find(|&number| comparison.tally.refusals[number] > 0)
+    (1..=19).find(|&number| comparison.tally.refusals[number] > 0)
 }
 
 fn page(draft: Draft) -> Case {
@@ -87,4 +88,47 @@ fn schedules_longer_than_the_program_takes() {
     assert_eq!(refusal(&case), None);
     case.schedule = [idle, vec![8]].concat();
     assert_eq!(refusal(&case), Some(14));
+}
+
+/// A text for a book of class operators, cut at once.
+fn text(text: Vec<u8>) -> Case {
+    let operators = [vec![operator(0)], vec![operator(1); 42]].concat();
+    let rules = Vec::new();
+    let mut case = Case::new(Draft { operators, rules }, text, 1, 9, Vec::new());
+    case.form = Form::Text;
+    case
+}
+
+#[test]
+fn every_byte_as_a_text() {
+    for byte in 0..=255 {
+        assert_eq!(refusal(&text(vec![byte])), None);
+        assert_eq!(refusal(&text(vec![b'a', byte, b'b'])), None);
+    }
+    assert_eq!(refusal(&text((0..=255).collect())), None);
+}
+
+#[test]
+fn texts_longer_than_the_program_takes() {
+    for length in [65_535, 65_536, 65_536 + 5, 200_000] {
+        assert_eq!(refusal(&text(vec![b'-'; length])), None);
+        assert_eq!(refusal(&text(vec![b'x'; length])), Some(18));
+        let mut spread = vec![b' '; length];
+        spread[0] = b'a';
+        spread[length - 1] = b'b';
+        assert_eq!(refusal(&text(spread)), None);
+    }
+}
+
+/// Separators behind the last letter that fits, and then another letter.
+#[test]
+fn texts_at_the_limit_with_separators_behind() {
+    let full = |more: &[u8]| text([&[b'x'; 1023][..], more].concat());
+    assert_eq!(refusal(&full(b"")), None);
+    assert_eq!(refusal(&full(&b" ".repeat(5000))), None);
+    assert_eq!(refusal(&full(b"x")), Some(18));
+    assert_eq!(
+        refusal(&full(&[&b" ".repeat(5000)[..], b"x"].concat())),
+        Some(18)
+    );
 }

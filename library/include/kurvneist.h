@@ -2,7 +2,7 @@
  * Kurvneist: reduces lines by rule books on one to eight simulated units.
  *
  * The functions of libkurvneist.a (x86-64), which `rt staticlib kurvneist` writes. What a book, a line, a schedule, a
- * refusal and an ending are is said in document 01.
+ * refusal and an ending are is said in document 01, and what a text is in document 02, change 1.
  *
  * Buffers. Each is lent as a pointer and its length in bytes. A pointer is never null, not even for a length of 0. What
  * is written to (work, output, answer, length) overlaps nothing else that is lent. Any bytes, lengths and numbers are
@@ -46,7 +46,8 @@ enum kurvneist_ending {
 };
 
 /*
- * The refusals. Places are checked in this order: 13, 15, 16; the book, 1 to 9; the line, 12, 11, 10; the schedule, 14.
+ * The refusals. Places are checked in this order: 13, 15, 16; the book, 1 to 9; the line, 12, 11, 10, or the text, 19, 18;
+ * the schedule, 14.
  *
  *    1  the book's bits run out
  *    2  the book has no operator
@@ -65,6 +66,9 @@ enum kurvneist_ending {
  *   14  a schedule entry names a unit that is not there
  *   15  the work area is shorter than kurvneist_work_length()
  *   16  the output is shorter than kurvneist_output_length() or, of the writer, than the written book
+ *   18  the text's term would have over 1,024 symbols
+ *   19  the book lacks the operators of texts: it has fewer than 43, operator 0 has an argument, or one of 1 to 42 has not
+ *       exactly one
  */
 
 /* KURVNEIST_WORK_LENGTH. */
@@ -90,6 +94,28 @@ uint8_t kurvneist_reduce(const uint8_t *book, size_t book_length,
                          uint8_t *work, size_t work_length,
                          uint8_t *output, size_t output_length,
                          uint64_t *answer);
+
+/*
+ * Reduces a payee's text, in ISO 8859-1 and of any length, where kurvneist_reduce takes a term; all else is the same.
+ *
+ * The text's term has a one-argument operator for each letter and digit, 42 for each run of other bytes between them, none
+ * at the ends, and 0, a constant, last:
+ *
+ *    1 to 26  A to Z, small letters alike, accented letters as their base letters
+ *   27 to 30  AE, eth, O with a stroke and thorn (hexadecimal C6, D0, D8, DE; small E6, F0, F8, FE)
+ *         31  sharp s (DF)
+ *   32 to 41  0 to 9
+ *
+ * An empty text, and one without letters and digits, is the term 0. The refusals 10, 11 and 12 never come, 18 and 19 only
+ * here.
+ */
+uint8_t kurvneist_payee(const uint8_t *book, size_t book_length,
+                        const uint8_t *text, size_t text_length,
+                        uint8_t units, uint32_t budget,
+                        const uint8_t *schedule, size_t schedule_length,
+                        uint8_t *work, size_t work_length,
+                        uint8_t *output, size_t output_length,
+                        uint64_t *answer);
 
 /*
  * Writes a book with its strategies settled to the front of `output`; the output's other bytes are as they were. A

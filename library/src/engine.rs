@@ -1,6 +1,6 @@
 //! An engine with buffers of its own.
 
-use crate::{reduce, Answer, Refusal, Request, OUTPUT_LENGTH, WORK_LENGTH};
+use crate::{payee, reduce, Answer, Refusal, Request, OUTPUT_LENGTH, WORK_LENGTH};
 
 /// Owns one work area and one output and lends them to every run, so that posting allocates nothing.
 ///
@@ -30,11 +30,21 @@ impl Engine {
         }
     }
 
-    /// Carries out one run; the refusals 15 and 16 can't come.
+    /// Carries out one run whose line is a term; the refusals 15 and 16 can't come.
     pub fn post(&mut self, request: &Request) -> Result<Posting<'_>, Refusal> {
         let answer = reduce(request, &mut self.work, &mut self.output)?;
+        Ok(self.posting(answer))
+    }
+
+    /// Carries out one run whose line is a payee's text; the refusals 15 and 16 can't come.
+    pub fn post_payee(&mut self, request: &Request) -> Result<Posting<'_>, Refusal> {
+        let answer = payee(request, &mut self.work, &mut self.output)?;
+        Ok(self.posting(answer))
+    }
+
+    fn posting(&self, answer: Answer) -> Posting<'_> {
         let term = &self.output[..answer.length];
-        Ok(Posting { answer, term })
+        Posting { answer, term }
     }
 }
 

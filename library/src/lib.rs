@@ -1,7 +1,8 @@
 //! Reduces lines by rule books, on one to eight simulated units that share the work under a schedule.
 //!
 //! A safe face of the proved static library `libkurvneist.a`: this crate lends it buffers, gives its numbers names, and
-//! decides nothing. What a book, a line, a schedule, a refusal and an ending are is said in document 01.
+//! decides nothing. What a book, a line, a schedule, a refusal and an ending are is said in document 01, and what a text
+//! is in document 02, change 1.
 //!
 //! ```
 //! use kurvneist::{round_robin, Ending, Engine, Request};
@@ -20,6 +21,23 @@
 //! assert_eq!(posting.answer.ending, Ending::Finished);
 //! assert_eq!(posting.answer.rewrites, 2);
 //! assert_eq!(posting.term, [1, 1, 0]); // tick(tick(end))
+//! # Ok::<(), kurvneist::Refusal>(())
+//! ```
+//!
+//! A payee comes in as it is typed, in ISO 8859-1. Its book begins with operator 0, the constant `end`, and 42 operators
+//! of one argument: a letter or digit each, and 42 for what separates words. Small letters are as capitals, and accented
+//! letters as their base letters.
+//!
+//! ```
+//! # use kurvneist::{Engine, Request};
+//! let book = [&[43, 0x02][..], &[0x22; 20], &[0x20, 0x00]].concat(); // 43 operators, no rules
+//! let mut engine = Engine::new();
+//! let mut term = |text| {
+//!     let request = Request { book: &book, line: text, units: 1, budget: 0, schedule: &[] };
+//!     engine.post_payee(&request).map(|posting| posting.term.to_vec())
+//! };
+//! assert_eq!(term(b"Caf\xE9 7")?, [3, 1, 6, 5, 42, 39, 0]);
+//! assert_eq!(term(b"Caf\xE9 7"), term(b" CAFE - 7."));
 //! # Ok::<(), kurvneist::Refusal>(())
 //! ```
 //!
@@ -63,7 +81,8 @@ pub const LONGEST_BOOK: usize = {
 pub struct Request<'a> {
     /// The rule book, packed.
     pub book: &'a [u8],
-    /// The term to reduce, one byte a symbol, in preorder.
+    /// What is reduced. For [`reduce`] and [`Engine::post`] the term, one byte a symbol, in preorder; for [`payee`] and
+    /// [`Engine::post_payee`] a payee's text in ISO 8859-1.
     pub line: &'a [u8],
     /// How many units there are, 1 to 8.
     pub units: u8,
@@ -91,6 +110,29 @@ pub struct Request<'a> {
 pub fn reduce(request: &Request, work: &mut [u8], output: &mut [u8]) -> Result<Answer, Refusal> {
     let mut values = [0; 5];
     Refusal::check(raw::reduce(request, work, output, &mut values))?;
+    Ok(Answer::of(values))
+}
+
+/// Carries out one run whose line is a payee's text in ISO 8859-1, of any length: its term has an operator for each
+/// letter and digit, 42 for each run of other bytes between them, and 0 last. All else is as for [`reduce`].
+///
+/// After the book's own refusals comes 19, if it lacks the operators for the classes, and then 18, if the term would have
+/// over 1,024 symbols; 10, 11 and 12 never come.
+///
+/// ```
+/// use kurvneist::{payee, Request, OUTPUT_LENGTH, WORK_LENGTH};
+///
+/// let book = [&[43, 0x02][..], &[0x22; 20], &[0x20, 0x00]].concat(); // 43 operators, no rules
+/// let request = Request { book: &book, line: b"Wei\xDF", units: 1, budget: 0, schedule: &[0; 20] };
+/// let (mut work, mut output) = (vec![7; WORK_LENGTH], [7; OUTPUT_LENGTH]);
+/// let answer = payee(&request, &mut work, &mut output)?;
+/// assert_eq!((answer.entries, answer.length), (11, 5));
+/// assert_eq!(output[..6], [23, 5, 9, 31, 0, 7]);
+/// # Ok::<(), kurvneist::Refusal>(())
+/// ```
+pub fn payee(request: &Request, work: &mut [u8], output: &mut [u8]) -> Result<Answer, Refusal> {
+    let mut values = [0; 5];
+    Refusal::check(raw::payee(request, work, output, &mut values))?;
     Ok(Answer::of(values))
 }
 

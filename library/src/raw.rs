@@ -1,5 +1,5 @@
-//! The C functions, with slices in the place of pointers. Their values come back as they are; [`crate::reduce`] and
-//! [`crate::write_book`] give them names.
+//! The C functions, with slices in the place of pointers. Their values come back as they are; [`crate::reduce`],
+//! [`crate::payee`] and [`crate::write_book`] give them names.
 //!
 //! This is the only module with `unsafe`. For each call it suffices that
 //! - the functions are proved safe for any bytes, lengths and numbers, and use a pointer only for the bytes that they
@@ -21,6 +21,21 @@ mod c {
             book_length: usize,
             line: *const u8,
             line_length: usize,
+            units: u8,
+            budget: u32,
+            schedule: *const u8,
+            schedule_length: usize,
+            work: *mut u8,
+            work_length: usize,
+            output: *mut u8,
+            output_length: usize,
+            answer: *mut u64,
+        ) -> u8;
+        pub fn kurvneist_payee(
+            book: *const u8,
+            book_length: usize,
+            text: *const u8,
+            text_length: usize,
             units: u8,
             budget: u32,
             schedule: *const u8,
@@ -59,6 +74,28 @@ pub fn reduce(request: &Request, work: &mut [u8], output: &mut [u8], answer: &mu
     // SAFETY: every pointer and length are those of one slice, and `answer` has the five elements that are written.
     unsafe {
         c::kurvneist_reduce(
+            request.book.as_ptr(),
+            request.book.len(),
+            request.line.as_ptr(),
+            request.line.len(),
+            request.units,
+            request.budget,
+            request.schedule.as_ptr(),
+            request.schedule.len(),
+            work.as_mut_ptr(),
+            work.len(),
+            output.as_mut_ptr(),
+            output.len(),
+            answer.as_mut_ptr(),
+        )
+    }
+}
+
+/// The same where the request's line is a text.
+pub fn payee(request: &Request, work: &mut [u8], output: &mut [u8], answer: &mut [u64; 5]) -> u8 {
+    // SAFETY: as for `reduce`, whose parameters these are.
+    unsafe {
+        c::kurvneist_payee(
             request.book.as_ptr(),
             request.book.len(),
             request.line.as_ptr(),

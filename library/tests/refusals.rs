@@ -165,8 +165,8 @@ fn places_from_top_to_bottom() {
 
 #[test]
 fn refusals_in_words() {
-    for number in 1..=17 {
-        let refusal = Refusal::new(number).expect("1 to 17 are refusals");
+    for number in 1..=19 {
+        let refusal = Refusal::new(number).expect("1 to 19 are refusals");
         assert_eq!(refusal.number(), number);
         assert_eq!(
             refusal.to_string(),
@@ -178,7 +178,7 @@ fn refusals_in_words() {
         }
     }
     assert_eq!(
-        [0, 18, 255].map(Refusal::new),
+        [0, 20, 255].map(Refusal::new),
         [None; 3],
         "other numbers are none"
     );

@@ -5,9 +5,12 @@ use std::fmt;
 use std::io::{self, Write};
 use std::time::{Duration, Instant};
 
+use comparison::model::Form;
 use kurvneist::{Answer, Ending, Engine, Request};
 
+use crate::letters;
 use crate::line;
+use crate::mistake::Mistake;
 use crate::progress::Progress;
 use crate::text::check::Named;
 use crate::text::lexer::is_blank;
@@ -88,9 +91,20 @@ impl fmt::Display for Summary {
     }
 }
 
-/// Posts every line of `input`, and writes what became of it as that line of
-/// the output.
+/// Posts every line of `input`, a term by names, and writes what became of it
+/// as that line of the output.
 pub fn run(
+    input: &[u8],
+    settings: &Settings,
+    output: &mut dyn Write,
+    progress: &mut Progress,
+) -> io::Result<Summary> {
+    run_form(Form::Line, input, settings, output, progress)
+}
+
+/// The same where each line is a payee's text, or a term by names, as said.
+pub fn run_form(
+    form: Form,
     input: &[u8],
     settings: &Settings,
     output: &mut dyn Write,
@@ -103,7 +117,7 @@ pub fn run(
     for line in &lines {
         let text = decoded(line, settings.latin1);
         let told = match &text {
-            Ok(text) => told(text, settings, &mut engine, &mut summary),
+            Ok(text) => told(form, text, settings, &mut engine, &mut summary),
             Err(reason) => mistaken(reason, &mut summary),
         };
         writeln!(output, "{told}")?;
@@ -142,17 +156,32 @@ fn decoded(line: &[u8], latin1: bool) -> Result<String, String> {
     })
 }
 
-fn told(text: &str, settings: &Settings, engine: &mut Engine, summary: &mut Summary) -> String {
+fn told(
+    form: Form,
+    text: &str,
+    settings: &Settings,
+    engine: &mut Engine,
+    summary: &mut Summary,
+) -> String {
     if is_blank(text) {
         summary.empty += 1;
         return text.to_owned();
     }
-    match line::read(text, &settings.named.names) {
-        Ok(line) => posted(&line, settings, engine, summary),
+    match read(form, text, settings) {
+        Ok(line) => posted(form, &line, settings, engine, summary),
         Err(mistake) => {
             let (_, column) = mistake.place(text);
             mistaken(&format!("column {column}: {}", mistake.message()), summary)
         }
+    }
+}
+
+/// Editors on Windows begin a file with the mark U+FEFF, which is no character
+/// of a payee.
+fn read(form: Form, text: &str, settings: &Settings) -> Result<Vec<u8>, Mistake> {
+    match form {
+        Form::Line => line::read(text, &settings.named.names),
+        Form::Text => line::read_payee(text.strip_prefix('\u{feff}').unwrap_or(text)),
     }
 }
 
@@ -161,7 +190,13 @@ fn mistaken(reason: &str, summary: &mut Summary) -> String {
     format!("! {reason}")
 }
 
-fn posted(line: &[u8], settings: &Settings, engine: &mut Engine, summary: &mut Summary) -> String {
+fn posted(
+    form: Form,
+    line: &[u8],
+    settings: &Settings,
+    engine: &mut Engine,
+    summary: &mut Summary,
+) -> String {
     let request = Request {
         book: &settings.named.book,
         line,
@@ -169,11 +204,15 @@ fn posted(line: &[u8], settings: &Settings, engine: &mut Engine, summary: &mut S
         budget: settings.budget,
         schedule: settings.schedule,
     };
-    let posting = match engine.post(&request) {
+    let posting = match form {
+        Form::Line => engine.post(&request),
+        Form::Text => engine.post_payee(&request),
+    };
+    let posting = match posting {
         Ok(posting) => posting,
         Err(refusal) => {
             summary.refused += 1;
-            return format!("! {refusal}");
+            return format!("! {}", letters::told(&refusal));
         }
     };
     let answer = posting.answer;

@@ -1,15 +1,16 @@
-//! A workbench for rule books: their text form, lines by name, traces and
-//! batches, over the proved engine.
+//! A workbench for rule books: their text form, lines by name, payees as they
+//! are typed, traces and batches, over the proved engine.
 //!
 //! - `text`: the text form of books: `lexer`, `parser`, `check`, `sides` from
 //!   text to book, `printer` from book to text.
-//! - `names`, `line`, `schedule`, `mistake`: what the commands share.
+//! - `names`, `line`, `letters`, `schedule`, `mistake`: what the commands share.
 //! - `trace`: a run entry by entry, as text and as a picture.
 //! - `batch`, `progress`: many lines against one book.
 //! - `cli`: the commands, their options and help.
 
 pub mod batch;
 pub mod cli;
+pub mod letters;
 pub mod line;
 pub mod mistake;
 pub mod names;

@@ -4,6 +4,8 @@ use std::collections::HashMap;
 
 use comparison::model::Book;
 
+use crate::letters;
+
 #[derive(Clone, Debug, Default)]
 pub struct Names {
     operators: Vec<(String, u8)>,
@@ -25,6 +27,30 @@ impl Names {
             names.add(&format!("f{number}"), operator.arity);
         }
         names
+    }
+
+    /// The same with the letters of payees' texts, if the book has operators
+    /// for them.
+    pub fn generated_with_letters(book: &Book) -> Names {
+        let mut names = Names::default();
+        for (number, operator) in book.operators.iter().enumerate() {
+            match letters::NAMES.get(number) {
+                Some(letter) => names.add(letter, operator.arity),
+                None => names.add(&format!("f{number}"), operator.arity),
+            }
+        }
+        match names.have_letters() {
+            true => names,
+            false => Names::generated(book),
+        }
+    }
+
+    /// Whether operators 0 to 42 are the letters of payees' texts.
+    pub fn have_letters(&self) -> bool {
+        self.operators.len() >= letters::NAMES.len()
+            && letters::declared()
+                .zip(&self.operators)
+                .all(|((letter, due), (name, arity))| name == letter && *arity == due)
     }
 
     /// Whether these can be the names of that book's operators.

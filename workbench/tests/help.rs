@@ -120,9 +120,10 @@ fn wrong_command_lines_are_told() {
 /// A line may look like an option.
 #[test]
 fn options_end_behind_two_dashes() {
-    let ran = kurvneist(&["post", "examples/payees.book", "--units=2", "--", "-(end)"]);
+    let book = common::file("dash.book", "op end/0 op -/1 var X rule -(X) = X");
+    let ran = kurvneist(&["post", &book, "--units=2", "--", "-(end)"]);
     assert_eq!((ran.status, ran.output.ends_with("term end\n")), (0, true));
-    let ran = kurvneist(&["post", "examples/payees.book", "-(end)"]);
+    let ran = kurvneist(&["post", &book, "-(end)"]);
     assert_eq!(ran.status, 2);
 }
 

@@ -1,15 +1,19 @@
-//! Compares the static library with the model on random cases.
+//! Compares the static library, or the programs, with the model on random
+//! cases: lines and, every third one, texts.
 
+use std::ops::Range;
+use std::path::PathBuf;
 use std::process::ExitCode;
 use std::time::Instant;
 
 use comparison::broken::{BrokenModel, Slip, SLIPS};
 use comparison::compare::compare;
 use comparison::library::Library;
+use comparison::program::{compare_pages, Programs};
 use comparison::subject::Subject;
 
-/// So many cases meet every ending and every refusal.
-const ENOUGH: u64 = 2000;
+/// So many cases meet every ending and every refusal, of lines and of texts.
+const ENOUGH: u64 = 10_000;
 
 struct Options {
     count: u64,
@@ -17,6 +21,8 @@ struct Options {
     /// The number of the first case.
     from: u64,
     slip: Option<Slip>,
+    /// The folder of the programs, if they are compared.
+    programs: Option<PathBuf>,
 }
 
 fn main() -> ExitCode {
@@ -25,7 +31,9 @@ fn main() -> ExitCode {
         Err(message) => {
             let slips: Vec<&str> = SLIPS.iter().map(|(name, _)| *name).collect();
             eprintln!("{message}");
-            eprintln!("usage: compare [--count N] [--seed S] [--from CASE] [--break [SLIP]]");
+            eprintln!(
+                "usage: compare [--count N] [--seed S] [--from CASE] [--break [SLIP] | --programs FOLDER]"
+            );
             eprintln!("slips: {}", slips.join(", "));
             ExitCode::from(2)
         }
@@ -38,6 +46,7 @@ fn options(words: impl Iterator<Item = String>) -> Result<Options, String> {
         seed: 1,
         from: 0,
         slip: None,
+        programs: None,
     };
     let mut words = words.peekable();
     while let Some(word) = words.next() {
@@ -47,6 +56,9 @@ fn options(words: impl Iterator<Item = String>) -> Result<Options, String> {
             "--seed" => options.seed = number(value)?,
             "--from" => options.from = number(value)?,
             "--break" => options.slip = Some(slip(value)?),
+            "--programs" => {
+                options.programs = Some(value.ok_or("a folder is missing")?.into());
+            }
             _ => return Err(format!("unknown option {word}")),
         }
     }
@@ -80,26 +92,56 @@ fn subject(slip: Option<Slip>) -> Box<dyn Subject> {
 }
 
 fn run(options: &Options) -> ExitCode {
-    let start = Instant::now();
     let numbers = options.from..options.from.saturating_add(options.count);
+    let same = match &options.programs {
+        Some(folder) => Programs::of(folder).map(|programs| run_pages(&programs, options, numbers)),
+        None => Ok(run_subject(options, numbers)),
+    };
+    match same {
+        Ok(true) => {
+            println!("no difference");
+            ExitCode::SUCCESS
+        }
+        Ok(false) => ExitCode::FAILURE,
+        Err(error) => {
+            eprintln!("{error}");
+            ExitCode::from(2)
+        }
+    }
+}
+
+/// Answers whether the library, or a broken model, did as the model does.
+fn run_subject(options: &Options, numbers: Range<u64>) -> bool {
+    let start = Instant::now();
     let (tally, difference) = compare(subject(options.slip).as_mut(), options.seed, numbers);
-    let seconds = start.elapsed().as_secs_f64();
     print!("{tally}");
-    println!(
-        "seed {}, {:.1} s, {:.0} cases a second",
-        options.seed,
-        seconds,
-        tally.cases as f64 / seconds
-    );
+    tell_speed(options.seed, tally.cases, start);
     if let Some(difference) = difference {
         print!("{difference}");
-        return ExitCode::FAILURE;
+        return false;
     }
     let missing = tally.missing();
     if tally.cases >= ENOUGH && !missing.is_empty() {
         println!("no difference, but never met: {}", missing.join(", "));
-        return ExitCode::FAILURE;
+        return false;
     }
-    println!("no difference");
-    ExitCode::SUCCESS
+    true
+}
+
+/// Answers whether all pages are the model's.
+fn run_pages(programs: &Programs, options: &Options, numbers: Range<u64>) -> bool {
+    let start = Instant::now();
+    let (pages, difference) = compare_pages(programs, options.seed, numbers);
+    println!("pages    {pages}");
+    tell_speed(options.seed, pages, start);
+    if let Some(difference) = &difference {
+        print!("{difference}");
+    }
+    difference.is_none()
+}
+
+fn tell_speed(seed: u64, cases: u64, start: Instant) {
+    let seconds = start.elapsed().as_secs_f64();
+    let speed = cases as f64 / seconds;
+    println!("seed {seed}, {seconds:.1} s, {speed:.0} cases a second");
 }

@@ -12,7 +12,7 @@ use std::{env, fs, io};
 
 use comparison::broken::{BrokenModel, Slip};
 use comparison::draft::{Draft, OperatorDraft, RuleDraft, Symbol};
-use comparison::model::{self, Answer, OUTPUT_LEN, SIDE_LIMIT, TERM_LIMIT};
+use comparison::model::{self, Answer, Form, OUTPUT_LEN, SIDE_LIMIT, TERM_LIMIT};
 use comparison::random::{self, Random};
 use comparison::subject::{Question, Subject, Told, MODEL_PUBLISHED};
 
@@ -148,6 +148,7 @@ fn check(cases: &[Case]) {
 /// Does a slip change the case's answer or term?
 fn shows(case: &Case, slip: Slip) -> bool {
     let question = Question {
+        form: Form::Line,
         book: &case.book,
         line: &case.line,
         units: case.units,

@@ -1,55 +1,38 @@
-//! Runs every NAME.in of a folder through the page and compares it with NAME.out.
+//! Runs every NAME.in of a folder through the model's page and compares it with NAME.out.
 
-use std::path::{Path, PathBuf};
+use std::env;
+use std::path::Path;
 use std::process::ExitCode;
-use std::{env, fs, io};
 
-use comparison::model;
+use comparison::model::Form;
+use comparison::vectors::run;
 
 fn main() -> ExitCode {
-    let Some(folder) = env::args().nth(1) else {
-        eprintln!("usage: vectors FOLDER");
-        return ExitCode::from(2);
+    let words: Vec<String> = env::args().skip(1).collect();
+    let words: Vec<&str> = words.iter().map(String::as_str).collect();
+    let (form, folder) = match words[..] {
+        ["--payee", folder] => (Form::Text, folder),
+        [folder] if folder != "--payee" => (Form::Line, folder),
+        _ => {
+            eprintln!("usage: vectors [--payee] FOLDER");
+            eprintln!("--payee: the inputs are those of the second program, for texts");
+            return ExitCode::from(2);
+        }
     };
-    match run_folder(Path::new(&folder)) {
-        Ok(true) => ExitCode::SUCCESS,
-        Ok(false) => ExitCode::FAILURE,
+    let outcome = match run(form, Path::new(folder)) {
+        Ok(outcome) => outcome,
         Err(error) => {
             eprintln!("{folder}: {error}");
-            ExitCode::from(2)
+            return ExitCode::from(2);
         }
+    };
+    for input in &outcome.failed {
+        println!("failed: {}", input.display());
     }
-}
-
-fn run_folder(folder: &Path) -> io::Result<bool> {
-    let (mut passed, mut failed) = (0, 0);
-    for input in inputs(folder)? {
-        if passes(&input)? {
-            passed += 1;
-        } else {
-            failed += 1;
-            println!("failed: {}", input.display());
-        }
-    }
-    println!("{passed} passed, {failed} failed");
+    println!("{} passed, {} failed", outcome.passed, outcome.failed.len());
     // A folder without cases shows nothing.
-    Ok(failed == 0 && passed > 0)
-}
-
-fn inputs(folder: &Path) -> io::Result<Vec<PathBuf>> {
-    let mut paths = Vec::new();
-    for entry in fs::read_dir(folder)? {
-        let path = entry?.path();
-        if path.extension().is_some_and(|extension| extension == "in") {
-            paths.push(path);
-        }
+    match outcome.passed > 0 && outcome.failed.is_empty() {
+        true => ExitCode::SUCCESS,
+        false => ExitCode::FAILURE,
     }
-    paths.sort();
-    Ok(paths)
-}
-
-/// An input without its page counts as failed.
-fn passes(input: &Path) -> io::Result<bool> {
-    let page = model::page(&fs::read(input)?);
-    Ok(fs::read(input.with_extension("out")).is_ok_and(|expected| expected == page))
 }

@@ -1,13 +1,15 @@
 //! What each command does.
 
-use comparison::model;
+use comparison::model::{self, Form};
 use kurvneist::{Ending, Engine, Request};
 
 use crate::batch;
 use crate::cli::files;
 use crate::cli::options::Parsed;
 use crate::cli::{Status, Stop};
+use crate::letters;
 use crate::line;
+use crate::names::Names;
 use crate::progress::Progress;
 use crate::text::check::{self, Named};
 use crate::text::printer;
@@ -39,7 +41,8 @@ fn contents(name: &str, named: &Named) -> String {
 
 /// The text is read back before it is shown: it must give the book again.
 pub fn text(parsed: &Parsed) -> Result<Status, Stop> {
-    let named = files::named_packed(&parsed.arguments[0], parsed.value("--names"))?;
+    let (name, names) = (&parsed.arguments[0], parsed.value("--names"));
+    let named = files::named_packed(name, names, Names::generated)?;
     let read = model::read_book(&named.book).expect("what the proved writer wrote can be read");
     let text = printer::book(&read, &named.names);
     match check::read(&text) {
@@ -52,9 +55,18 @@ pub fn text(parsed: &Parsed) -> Result<Status, Stop> {
     Ok(Status::Done)
 }
 
+/// What the lines of a command line are.
+fn form(parsed: &Parsed) -> Form {
+    match parsed.has("--payee") {
+        true => Form::Text,
+        false => Form::Line,
+    }
+}
+
 /// The book, line, units, budget and schedule that a command line says.
 struct Asked {
     named: Named,
+    form: Form,
     line: Vec<u8>,
     units: u8,
     budget: u32,
@@ -68,10 +80,16 @@ impl Asked {
         let schedule = parsed.schedule(units).map_err(usage)?;
         let named = files::named(parsed)?;
         let written = &parsed.arguments[1];
-        let line = line::read(written, &named.names)
-            .map_err(|mistake| Stop::new(Status::NotPosted, mistake.show("LINE", written)))?;
+        let form = form(parsed);
+        let line = match form {
+            Form::Line => line::read(written, &named.names),
+            Form::Text => line::read_payee(written),
+        };
+        let line =
+            line.map_err(|mistake| Stop::new(Status::NotPosted, mistake.show("LINE", written)))?;
         Ok(Asked {
             named,
+            form,
             line,
             units,
             budget,
@@ -100,9 +118,12 @@ fn status(ending: Ending) -> Status {
 pub fn post(parsed: &Parsed) -> Result<Status, Stop> {
     let asked = Asked::read(parsed)?;
     let mut engine = Engine::new();
-    let posting = engine
-        .post(&asked.request())
-        .map_err(|refusal| Stop::new(Status::NotPosted, refusal.to_string()))?;
+    let posting = match asked.form {
+        Form::Line => engine.post(&asked.request()),
+        Form::Text => engine.post_payee(&asked.request()),
+    };
+    let posting =
+        posting.map_err(|refusal| Stop::new(Status::NotPosted, letters::told(&refusal)))?;
     let answer = posting.answer;
     let page = format!(
         "end {}\nrewrites {}\nentries {}\ngranted {}\nterm {}\n",
@@ -120,7 +141,7 @@ pub fn trace(parsed: &Parsed) -> Result<Status, Stop> {
     let width = parsed.number("--width", 0, 100).map_err(usage)? as usize;
     let stride = parsed.number("--check", 1, 1).map_err(usage)? as usize;
     let asked = Asked::read(parsed)?;
-    let traced = trace::run(&asked.request(), stride, &mut Progress::new());
+    let traced = trace::run_form(asked.form, &asked.request(), stride, &mut Progress::new());
     let traced = traced.map_err(|failure| {
         let status = match failure {
             trace::Failure::Refused(_) => Status::NotPosted,
@@ -129,7 +150,7 @@ pub fn trace(parsed: &Parsed) -> Result<Status, Stop> {
         Stop::new(status, failure.to_string())
     })?;
     if let Some(name) = parsed.value("--svg") {
-        let title = printer::term(&asked.line, &asked.named.names);
+        let title = printer::term(&traced.start, &asked.named.names);
         let picture = trace::svg::draw(&traced, &title, &asked.named.rule_lines);
         files::write(name, picture.as_bytes())?;
     }
@@ -159,7 +180,7 @@ pub fn batch(parsed: &Parsed) -> Result<Status, Stop> {
         false => Progress::new(),
     };
     let mut output = files::output(parsed)?;
-    let summary = batch::run(&input, &settings, &mut output, &mut progress)
+    let summary = batch::run_form(form(parsed), &input, &settings, &mut output, &mut progress)
         .and_then(|summary| output.flush().map(|()| summary))
         .map_err(|error| Stop::new(Status::Input, format!("the postings: {error}")))?;
     if !quiet {

@@ -3,7 +3,7 @@
 use std::fs::{self, File};
 use std::io::{self, BufWriter, Read, Write};
 
-use comparison::model;
+use comparison::model::{self, Book};
 
 use crate::cli::options::Parsed;
 use crate::cli::{Status, Stop};
@@ -95,13 +95,18 @@ fn shown(name: &str, source: &str, mistakes: &[Mistake]) -> String {
     text
 }
 
-/// A packed book, settled by the proved writer, and names for it.
-pub fn named_packed(name: &str, names: Option<&str>) -> Result<Named, Stop> {
+/// A packed book, settled by the proved writer, and names for it: those of a
+/// text, or made up as said.
+pub fn named_packed(
+    name: &str,
+    names: Option<&str>,
+    made_up: fn(&Book) -> Names,
+) -> Result<Named, Stop> {
     let book = kurvneist::written_book(&bytes(name)?)
         .map_err(|refusal| Stop::new(Status::Input, format!("{name}: {refusal}")))?;
     let read = model::read_book(&book).expect("what the proved writer wrote can be read");
     let names = match names {
-        None => Names::generated(&read),
+        None => made_up(&read),
         Some(text) => {
             let names = named_text(text)?.names;
             if !names.fit(&read) {
@@ -123,7 +128,11 @@ pub fn named_packed(name: &str, names: Option<&str>) -> Result<Named, Stop> {
 pub fn named(parsed: &Parsed) -> Result<Named, Stop> {
     let name = &parsed.arguments[0];
     if parsed.has("--packed") {
-        return named_packed(name, parsed.value("--names"));
+        let made_up = match parsed.has("--payee") {
+            true => Names::generated_with_letters,
+            false => Names::generated,
+        };
+        return named_packed(name, parsed.value("--names"), made_up);
     }
     if parsed.has("--names") {
         let message = "--names goes with --packed: a text has its own names";

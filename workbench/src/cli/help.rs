@@ -19,6 +19,7 @@ The text form of a book
 
   book      = { statement }
   statement = 'op' operator { operator } '/' arity [ strategy ]
+            | 'op' 'letters'
             | 'var' name { name }
             | 'rule' term '=' term
   operator  = name | '\"' character '\"'
@@ -37,6 +38,12 @@ The text form of a book
   rule both(tick(X), Y) = tick(both(X, Y))
 
   op        declares operators, numbered from 0 as they come, at most 255.
+  letters   op letters comes before all other operators and declares those of
+            payees' texts: 0 is the constant end; with one argument, 1 to 26
+            are a to z, 27 to 31 æ ð ø þ ß, 32 to 41 the digits 0 to 9, and 42
+            is _, for what separates words. In a book with letters, a character
+            of a string that no operator is named by is the letter of its
+            class, as in a text: É is e, and - is _.
   arity     0 to 7.
   strategy  item 0 is the whole term, 1 to 7 an argument, { } a group of
             arguments. It is empty or ends in 0. Without one, the arguments
@@ -54,7 +61,17 @@ The text form of a book
             in it is the operator _. A character that no name may have is
             declared in quotes, with arity 1, as in op \",\" \"/\" / 1
 
-  A line is a term without variables.
+  A line is a term without variables or, with --payee, a payee's text.
+
+Payees' texts
+
+  With --payee a line is taken as it is typed, by a book with letters. It becomes
+  the letters and digits of its characters, with one _ for each run of others
+  between them, and end: Café Étoile 7 is \"cafe etoile 7\". Capitals are as small
+  letters, and accented letters as their base letters; æ, ð, ø, þ and ß are
+  letters of their own. A text may have any length, but at most 1,023 letters,
+  digits and separating runs. It may have the characters of ISO 8859-1; another
+  one, as €, is told with its place.
 ";
 
 pub const BOOK: &str = "\
@@ -94,7 +111,8 @@ comment line as it was; or ! and why there is no posting:
   ! refused 12: the line has over 1,024 bytes
   ! spent after 1000 rewrites at TERM     (also full, and cut after N entries)
 A line that can't be posted doesn't stop the others. A summary goes to standard
-error, and a progress bar if that is a terminal.
+error, and a progress bar if that is a terminal. With --payee too, blank lines
+and those that begin with # stay as they are.
 ";
 
 pub fn general() -> String {

@@ -32,6 +32,11 @@ const NAMES: Flag = flag(
     Some("TEXT"),
     "take the operators' names from this text (with --packed)",
 );
+const PAYEE: Flag = flag(
+    "--payee",
+    None,
+    "LINE is a payee's text, as it is typed, and no term",
+);
 const UNITS: Flag = flag("--units", Some("U"), "so many units, 1 to 8 (default 1)");
 const BUDGET: Flag = flag(
     "--budget",
@@ -49,6 +54,10 @@ const OUTPUT: Flag = flag(
     "write to this file (default -, standard output)",
 );
 
+const LINE: (&str, &str) = (
+    "LINE",
+    "a term by the operators' names, or a payee with --payee",
+);
 const BOOK: (&str, &str) = ("BOOK", "a book in text form, or packed with --packed");
 
 pub const COMMANDS: &[Command] = &[
@@ -80,15 +89,16 @@ pub const COMMANDS: &[Command] = &[
     Command {
         name: "post",
         about: "reduce one line and show its posting",
-        arguments: &[BOOK, ("LINE", "a term by the operators' names")],
-        flags: &[UNITS, BUDGET, SCHEDULE, PACKED, NAMES],
+        arguments: &[BOOK, LINE],
+        flags: &[PAYEE, UNITS, BUDGET, SCHEDULE, PACKED, NAMES],
         more: super::help::POST,
     },
     Command {
         name: "trace",
         about: "show a run entry by entry, as text and as a picture",
-        arguments: &[BOOK, ("LINE", "a term by the operators' names")],
+        arguments: &[BOOK, LINE],
         flags: &[
+            PAYEE,
             flag(
                 "--svg",
                 Some("FILE"),
@@ -121,10 +131,15 @@ pub const COMMANDS: &[Command] = &[
             BOOK,
             (
                 "LINES",
-                "a file with a term on each line; - is standard input",
+                "a file with a term, or a payee, on each line; - is standard input",
             ),
         ],
         flags: &[
+            flag(
+                "--payee",
+                None,
+                "each line is a payee's text, as it is typed, and no term",
+            ),
             OUTPUT,
             flag(
                 "--counts",

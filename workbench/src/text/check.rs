@@ -4,10 +4,11 @@
 
 use comparison::draft::{Draft, OperatorDraft};
 
+use crate::letters;
 use crate::mistake::{place_of, Mistake, Span};
 use crate::names::Names;
 use crate::text::lexer::is_name_character;
-use crate::text::parser::{parse, Name, Statement, Strategy};
+use crate::text::parser::{meant_letters, parse, Name, Statement, Strategy, Words};
 use crate::text::sides::{self, Meaning, Meanings};
 
 /// A book with the names that it was written with.
@@ -34,7 +35,8 @@ pub fn read(source: &str) -> Result<Named, Vec<Mistake>> {
     }
     for statement in &statements {
         if let Statement::Rule { left, right, .. } = statement {
-            match sides::rule(&mut reader.meanings, left, right) {
+            let [left, right] = [left, right].map(|side| reader.with_letters(side));
+            match sides::rule(&mut reader.meanings, &left, &right) {
                 Ok(rule) => reader.draft.rules.push(rule),
                 Err(mistake) => mistakes.push(mistake),
             }
@@ -65,6 +67,9 @@ struct Reader {
 impl Reader {
     fn declare(&mut self, source: &str, statement: &Statement, mistakes: &mut Vec<Mistake>) {
         match statement {
+            Statement::Letters(span) => {
+                mistakes.extend(self.letters(source, *span).err());
+            }
             Statement::Operators {
                 names,
                 arity,
@@ -95,6 +100,48 @@ impl Reader {
             }
             Statement::Unclear(_) => {}
         }
+    }
+
+    /// Texts take operators 0 to 42, so the letters come first.
+    fn letters(&mut self, source: &str, span: Span) -> Result<(), Mistake> {
+        if self.operators > 0 {
+            self.declare_unclear(&meant_letters(letters::KEYWORD, span));
+            let wrong = "'op letters' stands behind another operator";
+            let expected = "it before all others: texts take operators 0 to 42";
+            return Err(Mistake::new(span, wrong, expected));
+        }
+        let names = meant_letters(letters::KEYWORD, span);
+        let mut declared = names.iter().zip(letters::declared());
+        let done =
+            declared.try_for_each(|(name, (_, arity))| self.operator(source, name, arity, None));
+        self.declare_unclear(&names);
+        done
+    }
+
+    /// Whether a character of a string may be a letter. Where the letters are
+    /// mistaken, nothing is said about characters too.
+    fn has_letters(&self) -> bool {
+        let mut declared = (0..).zip(letters::declared());
+        declared.all(|(due, (name, due_arity))| match self.meanings.get(name) {
+            Some((Meaning::Operator { number, arity }, _)) => (*number, *arity) == (due, due_arity),
+            Some((Meaning::Unclear, _)) => true,
+            Some((Meaning::Variable, _)) | None => false,
+        })
+    }
+
+    /// A side's words, with letters for the characters that no operator is
+    /// named by.
+    fn with_letters(&self, side: &Words) -> Words {
+        let mut side = side.clone();
+        if self.has_letters() {
+            for word in &mut side {
+                word.to_letter(|name| match self.meanings.get(name) {
+                    None | Some((Meaning::Variable, _)) => false,
+                    Some((Meaning::Operator { .. } | Meaning::Unclear, _)) => true,
+                });
+            }
+        }
+        side
     }
 
     fn operator(

@@ -1,7 +1,9 @@
 //! Tokens as statements. A statement with a mistake is told once, and reading
 //! goes on at the next word `op`, `var` or `rule`.
 
+use crate::letters;
 use crate::mistake::{place_of, Mistake, Span};
+use crate::names::nearest;
 use crate::text::lexer::{is_loose_accent, tokens, Kind, Token};
 
 /// A name where it stands.
@@ -29,6 +31,19 @@ pub struct Word {
     pub spelled: bool,
 }
 
+impl Word {
+    /// In a book with the letters of payees' texts, a character of a string
+    /// that no operator is named by is the letter of its class.
+    pub fn to_letter(&mut self, is_known: impl Fn(&str) -> bool) {
+        let mut characters = self.name.text.chars();
+        if let (true, Some(only), None) = (self.spelled, characters.next(), characters.next()) {
+            if let (false, Some(letter)) = (is_known(&self.name.text), letters::letter(only)) {
+                self.name.text = letter.to_owned();
+            }
+        }
+    }
+}
+
 /// A term's names in preorder; how they nest is for the arities to say.
 pub type Words = Vec<Word>;
 
@@ -41,6 +56,8 @@ pub struct Strategy {
 
 #[derive(Clone, Debug)]
 pub enum Statement {
+    /// `op letters`, and where its second word stands.
+    Letters(Span),
     Operators {
         names: Vec<Name>,
         arity: u8,
@@ -154,17 +171,24 @@ impl<'s> Parser<'s> {
     }
 
     /// All words and characters of the declaration that starts there and ends
-    /// here: their uses aren't to be told as mistakes too.
+    /// here: their uses aren't to be told as mistakes too. `letters` may lack
+    /// its `op`.
     fn unclear(&self, start: usize) -> Statement {
+        let first = self.tokens[start];
         let mut names = Vec::new();
-        if matches!(self.tokens[start].kind, Kind::Op | Kind::Var) {
+        if matches!(first.kind, Kind::Op | Kind::Var) {
             for &Token { kind, span } in &self.tokens[start + 1..self.at] {
                 let written = self.written(span);
                 match kind {
-                    Kind::Word => names.push(Name::new(written, span)),
+                    Kind::Word => {
+                        names.push(Name::new(written, span));
+                        names.extend(meant_letters(written, span));
+                    }
                     _ => names.extend(written.chars().map(|one| Name::new(&spelled(one), span))),
                 }
             }
+        } else if first.kind == Kind::Word {
+            names.extend(meant_letters(self.written(first.span), first.span));
         }
         Statement::Unclear(names)
     }
@@ -172,6 +196,11 @@ impl<'s> Parser<'s> {
     fn statement(&mut self) -> Result<Statement, Mistake> {
         let keyword = self.peek();
         let (statement, next) = match keyword.kind {
+            Kind::Op if self.letters_follow() => {
+                self.take();
+                let next = "'op', 'var' or 'rule' after 'op letters'";
+                (Statement::Letters(self.take().span), next)
+            }
             Kind::Op => {
                 self.take();
                 let next = "a strategy in parentheses, 'op', 'var' or 'rule'";
@@ -194,6 +223,14 @@ impl<'s> Parser<'s> {
             Kind::Op | Kind::Var | Kind::Rule | Kind::End => Ok(statement),
             _ => Err(self.unexpected(next)),
         }
+    }
+
+    /// Before an arity or another name, `letters` is a name as any other.
+    fn letters_follow(&self) -> bool {
+        let [word, after] = [1, 2].map(|ahead| self.tokens.get(self.at + ahead));
+        word.is_some_and(|word| self.written(word.span) == letters::KEYWORD)
+            && !after
+                .is_some_and(|after| matches!(after.kind, Kind::Word | Kind::String | Kind::Slash))
     }
 
     fn operators(&mut self) -> Result<Statement, Mistake> {
@@ -391,6 +428,15 @@ impl<'s> Parser<'s> {
             }
         }
         Ok(())
+    }
+}
+
+/// All letters, if the word of a mistaken declaration may mean them.
+pub fn meant_letters(word: &str, span: Span) -> Vec<Name> {
+    let letters = letters::NAMES.map(|name| Name::new(name, span));
+    match nearest([letters::KEYWORD].into_iter(), word) {
+        Some(_) => letters.to_vec(),
+        None => Vec::new(),
     }
 }
 

@@ -6,13 +6,18 @@ use std::ops::Range;
 use comparison::draft::Symbol;
 use comparison::model::{default_strategy, item_numbers, Book, Item, Operator, Pattern, Rule};
 
+use crate::letters;
 use crate::names::Names;
 use crate::text::lexer::is_name_character;
 
 /// The text of a book that the proved writer wrote.
 pub fn book(book: &Book, names: &Names) -> String {
     let mut text = String::new();
-    for (number, operator) in (0..=255).zip(&book.operators) {
+    let letters = letter_count(book, names);
+    if letters > 0 {
+        text.push_str("op letters\n");
+    }
+    for (number, operator) in (0..=255).zip(&book.operators).skip(letters) {
         text.push_str(&operator_line(names.name(number), operator));
     }
     if !book.rules.is_empty() {
@@ -33,13 +38,27 @@ pub fn book(book: &Book, names: &Names) -> String {
     text
 }
 
+/// How many operators `op letters` declares, if it can: it gives no strategies.
+fn letter_count(book: &Book, names: &Names) -> usize {
+    let count = letters::NAMES.len();
+    let mut first = book.operators.iter().take(count);
+    match names.have_letters() && first.all(has_default_strategy) {
+        true => count,
+        false => 0,
+    }
+}
+
+fn has_default_strategy(operator: &Operator) -> bool {
+    operator.strategy == default_strategy(operator.arity)
+}
+
 fn operator_line(name: &str, operator: &Operator) -> String {
     let arity = operator.arity;
     let name = match name.chars().all(is_name_character) {
         true => name.to_owned(),
         false => format!("\"{name}\""),
     };
-    if operator.strategy == default_strategy(arity) {
+    if has_default_strategy(operator) {
         format!("op {name}/{arity}\n")
     } else {
         format!("op {name}/{arity} {}\n", strategy(&operator.strategy))

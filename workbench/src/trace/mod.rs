@@ -10,9 +10,10 @@ pub mod text;
 use std::fmt;
 use std::rc::Rc;
 
-use comparison::model::{self, ending, Book, Machine, Order, Term};
+use comparison::model::{self, ending, Book, Form, Machine, Order, Term};
 use kurvneist::{Ending, Engine, Refusal, Request};
 
+use crate::letters;
 use crate::progress::Progress;
 
 /// What an entry did.
@@ -83,7 +84,7 @@ pub enum Failure {
 impl fmt::Display for Failure {
     fn fmt(&self, f: &mut fmt::Formatter) -> fmt::Result {
         match self {
-            Failure::Refused(refusal) => write!(f, "{refusal}"),
+            Failure::Refused(refusal) => write!(f, "{}", letters::told(refusal)),
             Failure::Difference {
                 entry,
                 engine,
@@ -123,9 +124,22 @@ pub type Answering<'a> = dyn FnMut(&Request) -> Result<Told, Refusal> + 'a;
 /// Traces a run, comparing it with the engine after every `stride`th entry
 /// and at its end. The engine's refusal, if any, comes first.
 pub fn run(request: &Request, stride: usize, progress: &mut Progress) -> Result<Trace, Failure> {
+    run_form(Form::Line, request, stride, progress)
+}
+
+/// The same for a request whose line is a payee's text, or a term, as said.
+pub fn run_form(
+    form: Form,
+    request: &Request,
+    stride: usize,
+    progress: &mut Progress,
+) -> Result<Trace, Failure> {
     let mut engine = Engine::new();
     let mut answering = |asked: &Request| {
-        let posting = engine.post(asked)?;
+        let posting = match form {
+            Form::Line => engine.post(asked)?,
+            Form::Text => engine.post_payee(asked)?,
+        };
         Ok(Told {
             ending: posting.answer.ending,
             rewrites: posting.answer.rewrites.into(),
@@ -134,11 +148,21 @@ pub fn run(request: &Request, stride: usize, progress: &mut Progress) -> Result<
             term: posting.term.to_vec(),
         })
     };
-    run_against(&mut answering, request, stride, progress)
+    run_form_against(form, &mut answering, request, stride, progress)
 }
 
-/// The same against anything that answers as an engine should.
+/// Traces a term's run against anything that answers as an engine should.
 pub fn run_against(
+    engine: &mut Answering,
+    request: &Request,
+    stride: usize,
+    progress: &mut Progress,
+) -> Result<Trace, Failure> {
+    run_form_against(Form::Line, engine, request, stride, progress)
+}
+
+fn run_form_against(
+    form: Form,
     engine: &mut Answering,
     request: &Request,
     stride: usize,
@@ -146,7 +170,9 @@ pub fn run_against(
 ) -> Result<Trace, Failure> {
     engine(request).map_err(Failure::Refused)?;
     let book = model::read_book(request.book).expect("the engine has read the book");
-    let line = model::read_line(&book, request.line).expect("the engine has read the line");
+    let line = form
+        .read(&book, request.line)
+        .expect("the engine has read the line");
     let mut machine = Machine::new(&book, line, request.units, request.budget);
     let mut trace = Trace::new(&machine);
     compare(engine, request, &machine, None)?;
