@@ -1,12 +1,13 @@
 // What the programs that try cases share: numbers and bytes from standard input, and words, numbers and bytes to standard output.
 use libc::STDIN_FILENO;
 use libc::STDOUT_FILENO;
-ghost use Prim.Native.Nat.{_<_, _≤_};
+ghost use mathlib.Core.Path.{_≡_};
+ghost use Prim.Native.Nat.{_+_, _*_, _<_, _≤_};
 ghost use lib.ListN.{length};
 
 // Two bytes as one number, the most significant first.
 pub fn number(high: u8, low: u8) -> usize
-    ensures { λ r. ⌜ r < 65536 ⌝ }
+    ensures { λ r. ⌜ (r ≡ high * 256 + low) × (r < 65536) ⌝ }
 {
     casts::index(high) * 256 + casts::index(low)
 }
@@ -38,6 +39,7 @@ pub fn say_front(bytes: &[u8], n: usize)
 // Reads n bytes to the front of space. False where the input ends before.
 pub fn read_front(space: &mut [u8], n: usize) -> bool
     requires { ⌜ n ≤ length (now space) ⌝ }
+    ensures { λ _. ⌜ length (now (space .exit)) ≡ length (now (space .entry)) ⌝ }
 {
     io::read_full(STDIN_FILENO, &mut space[..n]) == n
 }

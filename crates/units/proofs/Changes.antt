@@ -93,6 +93,14 @@ turned {c} {c′} {u} y b l ly ec es ey = record {
       (omega arith) (omega (arith, a .most u)) (rw (es, ey));
 }
 
+-- a busy unit is woken: nothing changes
+pub awake : {c : List ℕ} {u : ℕ} → u < 8 → busy-in c u ≡ true → Cell-changed u woken c c
+awake {c} {u} l b =
+    let x = getD c u 0 in
+    let k = ltb-true x 2048 b in
+    let e : x ≡ x % 2048 = omega arith in
+    turned (x % 2048) true l (omega arith) (sym (set-getD c u 0) ∙ ap (λ (y : ℕ). set c u y) e) refl refl
+
 -- the top frame, and the stack below it, of height y
 under : (w : List ℕ) (base h y : ℕ) → h ≡ y + 1 → stackOf w base y ≡ drop 1 (stackOf w base h)
 under w base h y e = sym (ap (λ (fs : List Frame). drop 1 fs) (top w base h y (base + y) e refl))

@@ -79,7 +79,10 @@ pub fn wake_unit(units: &mut [u16; 8], u: usize)
     requires { ⌜ u < 8 ⌝ }
     ensures { λ _. ⌜ U.Cell-changed u U.woken (now (units .entry)) (now (units .exit)) ⌝ }
 {
-    store(units, u, load(units, u).wake());
+    let unit = load(units, u);
+    if !unit.busy {
+        store(units, u, unit.wake());
+    }
 }
 
 pub fn wait_unit(units: &mut [u16; 8], u: usize)
