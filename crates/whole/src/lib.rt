@@ -73,7 +73,7 @@ fn choose(
     let Hit::Rule(m) = rule::find(book, operators, rules, symbols, len, a, &mut bound) else {
         return Choice::Missed;
     };
-    // The budget comes before the length.
+    // A budget that is used up is told before a term that would be too long.
     if p.rewrites == l.budget {
         return Choice::Spent;
     }
