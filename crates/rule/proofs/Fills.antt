@@ -21,8 +21,6 @@ use Rattle.rule.specs.declared.Taken as T
 use Rattle.rule.specs.declared.Step as S
 use Rattle.rule.proofs.Sides.{taken, goes-operator, goes-variable, all-operator, all-variable, none-left}
 
--- A BINDING WITHIN THE FIRST SYMBOLS
-
 -- a part of the first len symbols
 part-take : (a n len : ℕ) (l : List ℕ) → a + n ≤ len → take n (drop a (take len l)) ≡ take n (drop a l)
 part-take zero n len l h = take-take n len l (omega arith)
@@ -30,7 +28,7 @@ part-take (suc a) n zero l h = absurd (omega arith)
 part-take (suc a) n (suc len) [] h = refl
 part-take (suc a) n (suc len) (x ∷ l) h = part-take a n len l (omega arith)
 
--- what stands behind them does not matter
+-- a binding within these fills from them
 pub fill-front : (ss : List Symbol) (b : Binding) (len : ℕ) (l : List ℕ) → Binds-within b len → fill ss b (take len l) ≡ fill ss b l
 unfolding fill
 fill-front [] b len l w = refl

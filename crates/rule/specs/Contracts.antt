@@ -101,6 +101,7 @@ pub record Symbol-fits (bytes : List ℕ) (at : ℕ) (operators xs : List ℕ) (
   pub end : k + t .size ≤ limit
   pub goes : Goes bytes at operators (λ ss ss′. take k scratch ++ fill ss b xs ≡ take (k + t .size) scratch′ ++ fill ss′ b xs) (t .arity) (t .next)
 
+-- or the symbols at the position, filled, go past the limit
 abbrev pub Symbol-is : List ℕ → ℕ → List ℕ → List ℕ → Binding → ℕ → ℕ → List ℕ → List ℕ → S.Step → Type 0
 Symbol-is bytes at operators xs b limit k scratch scratch′ (S.Step.Took t) = Symbol-fits bytes at operators xs b limit k scratch scratch′ t
 Symbol-is bytes at operators xs b limit k scratch scratch′ S.Step.Stops = All-at bytes at operators (λ ss. limit < k + length (fill ss b xs))

@@ -161,7 +161,7 @@ fn match_rest(
     Found::Agrees(q)
 }
 
-// What the symbol at position at of a right side gives, from place k of scratch on; it stops where that is more than the limit has room for.
+// What the symbol at position at of a right side gives, from place k of scratch on. It stops where that goes past the limit.
 fn fill_one(
     book: &[u8],
     at: usize,
@@ -202,7 +202,8 @@ fn fill_one(
     }
 }
 
-// The filled right side at position at of the book, at the front of scratch, unless it has more symbols than the limit.
+// The filled right side at position at of the book, at the front of scratch, unless it has more symbols than the limit. One pass over its bits fills and
+// counts.
 pub fn fill(
     book: &[u8],
     at: usize,
