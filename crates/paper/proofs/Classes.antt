@@ -1,9 +1,9 @@
 -- The table of classes (document 02, Change 1): a small letter has its capital's class, by one test over the whole table; every class is below 42,
 -- which is a gap's. Assumes nothing.
 use mathlib.Core.Bool.{Bool, true, false, true≢false}
-use mathlib.Core.List.{List, [], _∷_, map}
+use mathlib.Core.List.{List, [], _∷_}
 use mathlib.Core.Logic.{inl, inr}
-use mathlib.Core.Path.{_≡_, refl, sym, _∙_, subst}
+use mathlib.Core.Path.{_≡_, refl, sym, subst}
 use Prim.Native.Nat.{ℕ, zero, suc, _+_, _-_, _≤_, _<_}
 use native.Mathlib.Omega.{arith}
 use lib.Dec.{T, eqb, ltb, leb, leb→le}
@@ -37,6 +37,10 @@ in-from : (b n k : ℕ) → b ≤ k → k < b + n → In k (from b n)
 in-from b zero k l h = absurd (omega arith)
 in-from b (suc n) k l h = elim (eqb-cases k b) [ inl p ↦ inl (p .1) | inr p ↦ let d = p .1 in inr (in-from (suc b) n k (omega arith) (omega arith)) ]
 
+-- a test over all bytes says so at each of them
+pub every-byte : (f : ℕ → Bool) → every f (from 0 256) ≡ true → (b : ℕ) → b < 256 → f b ≡ true
+every-byte f e b h = all-in (λ (k : ℕ). f k ≡ true) b (from 0 256) (every-all f (from 0 256) e) (in-from 0 256 b (omega arith) h)
+
 within-ends : (first last b : ℕ) → within first last b ≡ true → (first ≤ b) × (b ≤ last)
 within-ends first last b e = elim (either (leb first b)) [
   | inl h ↦ (leb→le first b (subst T (sym h) tt), leb→le b last (subst T (sym (rw h at e)) tt))
@@ -63,10 +67,7 @@ unfolding class
 whole-table = refl
 
 pub class-small : (b : ℕ) → capital b ≡ true → class (b + 0x20) ≡ class b
-class-small b e =
-    let i = in-from 0 256 b (omega arith) (capital-byte b e) in
-    let h = all-in (λ (k : ℕ). small-alike k ≡ true) b (from 0 256) (every-all small-alike (from 0 256) whole-table) i in
-    eqb-equal (class (b + 0x20)) (class b) (rw e at h)
+class-small b e = eqb-equal (class (b + 0x20)) (class b) (rw e at (every-byte small-alike whole-table b (capital-byte b e)))
 
 -- THE HIGHEST CLASS
 

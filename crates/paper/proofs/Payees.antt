@@ -2,7 +2,7 @@
 -- when 19 and 18 are told, which of two faults is, and the second program's pages. Assumes nothing.
 use mathlib.Core.List.{List, [], _∷_, _++_, map}
 use mathlib.Core.Path.{_≡_, refl}
-use Prim.Native.Nat.{ℕ, zero, suc, _+_}
+use Prim.Native.Nat.{ℕ}
 use lib.ListN.{replicate}
 use Rattle.paper.specs.Result.{Result, refused, accepted}
 use Rattle.paper.specs.Text.{class, squeezed}
@@ -14,8 +14,8 @@ use Rattle.paper.proofs.Examples.{refusal, published, cut-at-once, end-
 
 -- Books and pages
 
--- 43 operators, no list given, no rule: of four bits each, 0 and 1 in the byte `first`, 2 to 41, and 42 in the high half of the byte `last`, whose other
--- half is the rule count's. `end` is 0 in hexadecimal, a class 2.
+-- 43 operators, no list given, no rule: of four bits each, 0 and 1 in the byte `first`, 2 to 41 two a byte, 42 in the high half of the byte `last`, whose
+-- other half is the rule count's. `end` is 0 in hexadecimal, a class 2.
 unfoldable pub classes : ℕ → ℕ → List ℕ
 classes first last = 0x2b ∷ first ∷ (replicate 20 0x22 ++ (last ∷ 0x00 ∷ []))
 
@@ -97,7 +97,7 @@ pub record Terms : Type 0 where
   -- no byte, separators alone: `end`
   pub no-byte : text-page class-book [] 3 ≡ end-finished
   pub separators-alone : text-page class-book (ascii " -×÷- ") 3 ≡ end-finished
-  -- a run of separators is one gap, none is at the ends; no byte but these counts
+  -- a run of separators is one gap, and none is at the ends
   pub one-gap : squeezed (0x00 ∷ (ascii "...Fa. Meier & Söhne, 8001 Zürich!\r\n")) ≡ squeezed (ascii "FA MEIER SOHNE 8001 ZURICH")
   pub long-gap : squeezed (0x41 ∷ (replicate 30000 0x20 ++ (0x42 ∷ []))) ≡ 1 ∷ 42 ∷ 2 ∷ []
   -- a run from a text: c(a(b(end))) becomes a(b(end))

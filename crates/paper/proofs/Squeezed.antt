@@ -3,6 +3,7 @@ use mathlib.Core.List.{List, [], _∷_, _++_, map, map-append}
 use mathlib.Core.Path.{_≡_, refl, ap, _∙_}
 use Prim.Native.Nat.{ℕ, zero, suc, _≤_, _<_}
 use native.Mathlib.Omega.{arith}
+use lib.ListN.{length, length-map}
 use Rattle.paper.specs.Text.{class, gap, Before, separated, parted, squeeze, squeezed}
 use Rattle.paper.specs.Sound.{All}
 use Rattle.paper.proofs.Classes.{class-below}
@@ -61,6 +62,20 @@ squeezed-symbols text = go (squeezed-squeezed text)
     go : {cs : List ℕ} → Squeezed cs → Symbols cs
     go empty = tt
     go (begun p b) = ((omega arith, omega arith), behind-symbols b)
+
+-- no longer than the text
+squeeze-length : (cs : List ℕ) →
+    (length (squeeze Before.nothing cs) ≤ length cs)
+    × (length (squeeze Before.letter cs) ≤ length cs)
+    × (length (squeeze Before.separators cs) ≤ suc (length cs))
+unfolding squeeze
+squeeze-length [] = (omega arith, omega arith, omega arith)
+squeeze-length (zero ∷ cs) = let (n, l, s) = squeeze-length cs in (omega arith, omega arith, omega arith)
+squeeze-length (suc c ∷ cs) = let (n, l, s) = squeeze-length cs in (omega arith, omega arith, omega arith)
+
+pub squeezed-length : (text : List ℕ) → length (squeezed text) ≤ length text
+unfolding squeezed
+squeezed-length text = omega (arith, squeeze-length (map class text) .0, length-map text class)
 
 -- WHAT IS DROPPED AND WHAT IS KEPT, enough to squeeze any text by
 

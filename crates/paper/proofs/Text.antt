@@ -7,11 +7,11 @@ use mathlib.Core.Path.{_≡_, refl, sym, ap, _∙_, subst}
 use Prim.Native.Nat.{ℕ, zero, suc, _+_, _≤_, _<_}
 use native.Mathlib.Omega.{arith}
 use lib.ListN.{length, length-append}
-use Rattle.paper.specs.Result.{Result, refused, accepted}
-use Rattle.paper.specs.Tree.{node, nil, cons, count, preorder, size, Correct}
+use Rattle.paper.specs.Result.{refused, accepted}
+use Rattle.paper.specs.Tree.{node, nil, count, preorder, size, Correct}
 use Rattle.paper.specs.Book.{Term, Book, arity}
-use Rattle.paper.specs.Line.{symbol-limit, unless-fault, readLine}
-use Rattle.paper.specs.Text.{class, squeezed, chain, one-argument, has-classes, text-fault, readText}
+use Rattle.paper.specs.Line.{symbol-limit, readLine}
+use Rattle.paper.specs.Text.{class, squeezed, chain, one-argument, has-classes, readText}
 use Rattle.paper.specs.Sound.{All}
 use Rattle.paper.proofs.Tests.{ltb-cases, eqb-cases, ltb-true, ltb-false}
 use Rattle.paper.proofs.Lists.{all-map, all-append}
