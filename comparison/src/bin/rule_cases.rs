@@ -26,7 +26,7 @@ fn main() -> io::Result<()> {
     let folder = Path::new(&folder);
     let cases: Vec<Case> = picked_cases().into_iter().chain(random_cases()).collect();
     let lines: Vec<String> = cases.iter().map(line).collect();
-    for answer in ["none", "full", "outside", "refused", " 00"] {
+    for answer in ["none", "over", "1024 full", "outside", "refused", " 00"] {
         assert!(
             lines.iter().any(|line| line.contains(answer)),
             "no case answers {answer}"
@@ -83,7 +83,12 @@ fn rewritten(book: &Book, term: &Term, offset: usize) -> String {
         .expect("the rule is the book's");
     let end = offset + part.size();
     let size = rule.right.filled_size(&filling);
-    let found = format!("rule {number} end {end} size {size}");
+    let told = if size > TERM_LIMIT {
+        String::from("over")
+    } else {
+        size.to_string()
+    };
+    let found = format!("rule {number} end {end} size {told}");
     if term.size() - part.size() + size > TERM_LIMIT {
         return format!("{found} full");
     }

@@ -59,7 +59,7 @@ module _ (B : Book) {operators : List ℕ} {n : ℕ} (count : length (B .operato
   module _ {text symbols symbols′ : List ℕ} where
     pub text-taken : {m : ℕ} → Text-read n (arity-in operators) text symbols symbols′ (T.Text.Read m) → Taken readText B text symbols′ m
     text-taken r =
-        let (e, l, p) = Texts.read-accepted B count t r in
+        let (e, l, p) = Texts.text-accepted B count t r refl in
         let u : Term = chain (squeezed text) in
         let (c, q, h, a) = text-correct B text u e in
         record {
@@ -72,7 +72,7 @@ module _ (B : Book) {operators : List ℕ} {n : ℕ} (count : length (B .operato
 
     pub text-read : (r : T.Text) → Text-read n (arity-in operators) text symbols symbols′ r → Read-as readText B text symbols′ r
     text-read (T.Text.Read m) q = text-taken q
-    text-read (T.Text.Refused k) q = Texts.refused-refused B count t q
+    text-read (T.Text.Refused k) q = Texts.text-refused B count t q refl
 
 -- by the book that was read
 pub by-tables : {read : LineReader} {book operators rules line symbols : List ℕ} {n : ℕ} {r : T.Text} → TablesOf book operators rules →

@@ -1,21 +1,17 @@
--- Symbols in the book's bits, read one after another: what is read is what stands there, and no other symbols stand there. Assumes nothing.
+-- Symbols in the book's bits, read one after another: what is read is what stands there. Assumes nothing.
 use mathlib.Core.List.{List, [], _∷_, _++_, append-assoc}
 use mathlib.Core.Logic.{_⊎_, inl, inr}
 use mathlib.Core.Path.{_≡_, refl, sym, ap, ap₂, _∙_, subst}
 use Prim.Native.Nat.{ℕ, zero, suc, _+_, _-_, _≤_, _<_}
 use native.Mathlib.Omega.{arith}
-use lib.ListN.{length, drop, replicate, length-append, length-replicate}
+use lib.ListN.{length, drop, length-append}
 use lib.Seq.{drop-at, drop-drop}
-use Rattle.paper.specs.Result.{accepted, Read, return}
+use Rattle.paper.specs.Result.{Read}
 use Rattle.paper.specs.Bits.{toBits, bitsOf}
-use Rattle.paper.specs.Book.{Operator, Symbol}
-use Rattle.paper.specs.Reader.{read-symbol}
+use Rattle.paper.specs.Book.{Symbol}
 use Rattle.paper.specs.Sound.{All}
 use Rattle.paper.specs.Writer.{concat, write-symbol}
 use Rattle.paper.proofs.Bits.{length-toBits}
-use Rattle.paper.proofs.Readers.{accepted-injective}
-use Rattle.paper.specs.WellFormed as paper
-use Rattle.paper.proofs.Rules.{symbol-written}
 use Rattle.paper.specs.Tree.{Complete}
 use Rattle.side.specs.Contracts.{bitsAt, standing, NumberFits, StandingAt}
 use Rattle.side.specs.declared.Standing as Sd
@@ -26,24 +22,6 @@ use Rattle.rule.specs.declared.Taken as T
 -- what is read of a symbol
 abbrev pub taken : ℕ → ℕ → ℕ → T.Taken
 taken arity next size = record { arity = arity; next = next; size = size }
-
--- any 256 operators serve to read a symbol
-any : List Operator
-any = replicate 256 (record { arity = 0; strategy = [] })
-
-fits : (s : Symbol) → NumberFits s → paper.Fits any s
-unfolding any
-fits (Symbol.operator o) h = rw length-replicate h
-fits (Symbol.variable v) h = h
-
--- the first of the symbols that bits spell is read off them
-first : (s : Symbol) (ss : List Symbol) (rest xs : List ℕ) → NumberFits s → xs ≡ concat write-symbol (s ∷ ss) ++ rest →
-    read-symbol any xs ≡ accepted (record { value = s; left = concat write-symbol ss ++ rest })
-unfolding any concat return
-first s ss rest xs f e =
-    let l : length any ≡ 256 = length-replicate {A = Operator} 256 (record { arity = 0; strategy = [] }) in
-    ap (read-symbol any) (e ∙ append-assoc (write-symbol s) (concat write-symbol ss) rest)
-    ∙ symbol-written any s (concat write-symbol ss ++ rest) (omega arith) (fits s f)
 
 module _ (bytes : List ℕ) (operators : List ℕ) where
   -- of the symbols ss, s is the first, and the others stand at the position next
@@ -98,8 +76,11 @@ module _ (bytes : List ℕ) (operators : List ℕ) where
 
   pub all-operator : (P : List Symbol → Type 0) (at o next : ℕ) → StandingAt bytes at (Sd.Standing.Operator o next) → ((ss : List Symbol) → P (Symbol.operator o ∷ ss)) →
       All-at bytes at operators P
-  all-operator P at o next h p due room ss d s =
-      let (ss′, z, k) = took at due room ss (Sd.Standing.Operator o next) h d s in subst P (sym z) (p ss′)
+  all-operator P at o next h p due room ss d s = goes-operator (λ ss ss′. P ss) at o next (arity-in operators o) h refl p due room ss d s .2
+
+  pub all-variable : (P : List Symbol → Type 0) (at v next : ℕ) → StandingAt bytes at (Sd.Standing.Variable v next) → ((ss : List Symbol) → P (Symbol.variable v ∷ ss)) →
+      All-at bytes at operators P
+  all-variable P at v next h p due room ss d s = goes-variable (λ ss ss′. P ss) at v next h p due room ss d s .2
 
   -- behind the nine bits of a root stand the symbols of its arguments
   pub under-root : (at o arity : ℕ) (ss : List Symbol) → Stands bytes at operators 1 64 (Symbol.operator o ∷ ss) → arity ≡ arity-in operators o →
@@ -126,22 +107,3 @@ module _ (bytes : List ℕ) (operators : List ℕ) where
   none-left at zero room (s ∷ ss) k (inl e) = absurd (k .complete)
   none-left at (suc due) room (s ∷ ss) k (inl e) = absurd (omega arith)
   none-left at due room (s ∷ ss) k (inr e) = let l = k .short in absurd (omega arith)
-
-  -- bits spell only one list of symbols
-  spelt-once : (due : ℕ) (ss ts : List Symbol) (xs rest rest′ : List ℕ) → All NumberFits ss → All NumberFits ts → Complete (symbol-arity operators) due ss →
-      Complete (symbol-arity operators) due ts → xs ≡ concat write-symbol ss ++ rest → xs ≡ concat write-symbol ts ++ rest′ → ss ≡ ts
-  spelt-once zero [] [] xs rest rest′ f g c d p q = refl
-  spelt-once zero [] (t ∷ ts) xs rest rest′ f g c d p q = absurd d
-  spelt-once zero (s ∷ ss) ts xs rest rest′ f g c d p q = absurd c
-  spelt-once (suc due) [] ts xs rest rest′ f g c d p q = absurd c
-  spelt-once (suc due) (s ∷ ss) [] xs rest rest′ f g c d p q = absurd d
-  spelt-once (suc due) (s ∷ ss) (t ∷ ts) xs rest rest′ f g c d p q =
-      let e = accepted-injective (sym (first s ss rest xs (f .0) p) ∙ first t ts rest′ xs (g .0) q) in
-      let z : s ≡ t = ap (λ (x : Read Symbol). x .value) e in
-      ap₂ (λ (x : Symbol) (l : List Symbol). x ∷ l) z
-      (spelt-once (symbol-arity operators s + due) ss ts (concat write-symbol ss ++ rest) rest rest′ (f .1) (g .1) c
-      (subst (λ (x : Symbol). Complete (symbol-arity operators) (symbol-arity operators x + due) ts) (sym z) d) refl (ap (λ (x : Read Symbol). x .left) e))
-
-  pub stands-once : (at due room : ℕ) (ss ts : List Symbol) → Stands bytes at operators due room ss → Stands bytes at operators due room ts → ss ≡ ts
-  stands-once at due room ss ts h k =
-      spelt-once due ss ts (bitsAt bytes at) (h .stand .rest) (k .stand .rest) (h .held) (k .held) (h .complete) (k .complete) (h .stand .is) (k .stand .is)

@@ -2,7 +2,7 @@
 use mathlib.Core.Bool.{Bool, true, false}
 use mathlib.Core.List.{List, [], _∷_, _++_}
 use mathlib.Core.Path.{_≡_}
-use Prim.Native.Nat.{ℕ, _+_, _*_, _^_, _≤_, _<_}
+use Prim.Native.Nat.{ℕ, _+_, _^_, _≤_, _<_}
 use lib.Dec.{eqb}
 use lib.ListN.{length, getD, take, drop}
 use Rattle.paper.specs.Tree.{label, preorder}
@@ -14,10 +14,11 @@ use Rattle.side.specs.Contracts.{StandingAt}
 use Rattle.side.specs.declared.Standing as Sd
 use Rattle.tables.specs.Layout.{arity-in, left-in}
 use Rattle.tables.specs.Tables.{ruleAt, Chained, TablesOf, book-of}
-use Rattle.rule.specs.Packed.{Stands, SideAt, Goes, All-at, binding, Binds-within, filled-size}
+use Rattle.rule.specs.Packed.{Stands, SideAt, Goes, All-at, binding, Binds-within}
 use Rattle.rule.specs.declared.Found as F
 use Rattle.rule.specs.declared.Match as M
 use Rattle.rule.specs.declared.Hit as H
+use Rattle.rule.specs.declared.Size as Z
 use Rattle.rule.specs.declared.Taken as T
 use Rattle.rule.specs.declared.Step as S
 
@@ -94,45 +95,29 @@ pub record Rest-matched (bytes : List ℕ) (at : ℕ) (operators : List ℕ) (du
 
 -- FILLING
 
--- one symbol's size
-pub record Symbol-sized (bytes : List ℕ) (at : ℕ) (operators : List ℕ) (b : Binding) (t : T.Taken) : Type 0 where
+-- one symbol filled, from place k on, within the limit
+pub record Symbol-fits (bytes : List ℕ) (at : ℕ) (operators xs : List ℕ) (b : Binding) (limit k : ℕ) (scratch scratch′ : List ℕ) (t : T.Taken) : Type 0 where
   pub arity : t .arity < 256
-  pub size : t .size < 65536
-  pub goes : Goes bytes at operators (λ ss ss′. filled-size ss b ≡ t .size + filled-size ss′ b) (t .arity) (t .next)
+  pub end : k + t .size ≤ limit
+  pub goes : Goes bytes at operators (λ ss ss′. take k scratch ++ fill ss b xs ≡ take (k + t .size) scratch′ ++ fill ss′ b xs) (t .arity) (t .next)
 
--- size is that of the filled side at a position
-pub record Side-sized (bytes : List ℕ) (at : ℕ) (operators : List ℕ) (b : Binding) (size : ℕ) : Type 0 where
-  pub is : (side : Side) → SideAt bytes at operators side → size ≡ filled-size (preorder side) b
-  pub most : size ≤ 64 * 65535
+-- or the symbols at the position, filled, go past the limit
+abbrev pub Symbol-is : List ℕ → ℕ → List ℕ → List ℕ → Binding → ℕ → ℕ → List ℕ → List ℕ → S.Step → Type 0
+Symbol-is bytes at operators xs b limit k scratch scratch′ (S.Step.Took t) = Symbol-fits bytes at operators xs b limit k scratch scratch′ t
+Symbol-is bytes at operators xs b limit k scratch scratch′ S.Step.Stops = All-at bytes at operators (λ ss. limit < k + length (fill ss b xs))
 
--- symbols stand at a position that, filled, have room from place k on
-pub record Symbols-fit (bytes : List ℕ) (at : ℕ) (operators : List ℕ) (b : Binding) (k : ℕ) : Type 0 where
-  pub due : ℕ
-  pub room : ℕ
-  pub ss : List Symbol
-  pub some : 0 < due
-  pub stands : Stands bytes at operators due room ss
-  pub fit : k + filled-size ss b ≤ 1024
-
--- one symbol filled, from place k on
-pub record Symbol-filled (bytes : List ℕ) (at : ℕ) (operators xs : List ℕ) (b : Binding) (k : ℕ) (scratch scratch′ : List ℕ) (t : T.Taken) : Type 0 where
-  pub arity : t .arity < 256
-  pub end : k + t .size ≤ 1024
+pub record Symbol-filled (bytes : List ℕ) (at : ℕ) (operators xs : List ℕ) (b : Binding) (limit k : ℕ) (scratch scratch′ : List ℕ) (r : S.Step) : Type 0 where
+  pub is : Symbol-is bytes at operators xs b limit k scratch scratch′ r
   pub long : length scratch′ ≡ 1024
-  pub goes : Goes bytes at operators
-      (λ ss ss′. (take k scratch ++ fill ss b xs ≡ take (k + t .size) scratch′ ++ fill ss′ b xs) × (filled-size ss b ≡ t .size + filled-size ss′ b))
-      (t .arity) (t .next)
 
--- the side at a position, filled, has room in 1024 symbols
-pub record Side-fits (bytes : List ℕ) (at : ℕ) (operators : List ℕ) (b : Binding) : Type 0 where
-  pub side : Side
-  pub stands : SideAt bytes at operators side
-  pub fits : filled-size (preorder side) b ≤ 1024
+-- the filled side at a position is the first k symbols of scratch, or has more symbols than the limit
+abbrev pub Side-is : List ℕ → ℕ → List ℕ → List ℕ → Binding → ℕ → List ℕ → Z.Size → Type 0
+Side-is bytes at operators xs b limit scratch (Z.Size.Fits k) =
+    ((side : Side) → SideAt bytes at operators side → take k scratch ≡ fill (preorder side) b xs) × (k ≤ limit)
+Side-is bytes at operators xs b limit scratch Z.Size.Over = (side : Side) → SideAt bytes at operators side → limit < length (fill (preorder side) b xs)
 
--- the first size symbols of scratch are the filled side at a position
-pub record Side-filled (bytes : List ℕ) (at : ℕ) (operators xs : List ℕ) (b : Binding) (scratch : List ℕ) (size : ℕ) : Type 0 where
-  pub is : (side : Side) → SideAt bytes at operators side → take size scratch ≡ fill (preorder side) b xs
-  pub most : size ≤ 1024
+pub record Side-filled (bytes : List ℕ) (at : ℕ) (operators xs : List ℕ) (b : Binding) (limit : ℕ) (scratch : List ℕ) (r : Z.Size) : Type 0 where
+  pub is : Side-is bytes at operators xs b limit scratch r
   pub long : length scratch ≡ 1024
 
 -- RULES

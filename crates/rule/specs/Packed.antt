@@ -1,5 +1,5 @@
 -- Sides of rules as they stand in the book's bits, and a binding kept as an array. Assumes nothing.
-use mathlib.Core.List.{List, [], _∷_}
+use mathlib.Core.List.{List}
 use mathlib.Core.Path.{_≡_}
 use Prim.Native.Nat.{ℕ, _+_, _-_, _*_, _≤_, _<_}
 use lib.ListN.{length, getD}
@@ -48,9 +48,3 @@ binding bound v = segment (getD bound (2 * v) 0) (getD bound (2 * v + 1) 0)
 -- each variable is bound within the first len symbols
 abbrev pub Binds-within : Binding → ℕ → Type 0
 Binds-within b len = (v : ℕ) → b v .start + b v .size ≤ len
-
--- how many symbols a filled right side has
-unfoldable pub filled-size : List Symbol → Binding → ℕ
-filled-size [] b = 0
-filled-size (Symbol.operator o ∷ ss) b = 1 + filled-size ss b
-filled-size (Symbol.variable v ∷ ss) b = b v .size + filled-size ss b

@@ -27,6 +27,12 @@ pub enum Hit {
     None,
 }
 
+// How many symbols a filled right side has, or that they are more than the limit.
+pub enum Size {
+    Fits(usize),
+    Over,
+}
+
 // A symbol of a side that goes on: its arity, the position behind it, and how many symbols of the term it takes or gives.
 struct Taken {
     arity: usize,
@@ -155,104 +161,76 @@ fn match_rest(
     Found::Agrees(q)
 }
 
-// How many symbols the symbol at position at of a right side gives.
-fn size_one(book: &[u8], at: usize, operators: &[u8; 4352], bound: &[u16; 32]) -> Taken
-    requires { ⌜ length (now book) ≤ 2 ^ 60 ⌝ }
-    ensures { λ r. ⌜ R.Symbol-sized (now (book .entry)) at (now (operators .entry)) (binding (now (bound .entry))) r ⌝ }
-{
-    match side::symbol_at(book, at) {
-        Standing::Operator(o, next) => Taken {
-            arity: tables::arity(operators, o),
-            next: next,
-            size: 1,
-        },
-        Standing::Variable(v, next) => Taken {
-            arity: 0,
-            next: next,
-            size: size_of(bound, v),
-        },
-    }
-}
-
-// How many symbols the filled right side at position at of the book has.
-pub fn filled_size(book: &[u8], at: usize, operators: &[u8; 4352], bound: &[u16; 32]) -> usize
-    requires { ⌜ length (now book) ≤ 2 ^ 60 ⌝ }
-    ensures { λ r. ⌜ R.Side-sized (now (book .entry)) at (now (operators .entry)) (binding (now (bound .entry))) r ⌝ }
-{
-    let mut p = at;
-    let mut due = 1;
-    let mut room: usize = 64;
-    let mut size = 0;
-    while 0 < due && 0 < room {
-        let taken = size_one(book, p, operators, bound);
-        due = due - 1 + taken.arity;
-        p = taken.next;
-        size += taken.size;
-        room -= 1;
-    }
-    size
-}
-
-// What the symbol at position at of a right side gives, from place k of scratch on.
+// What the symbol at position at of a right side gives, from place k of scratch on. It stops where that goes past the limit.
 fn fill_one(
     book: &[u8],
     at: usize,
     operators: &[u8; 4352],
     symbols: &[u8; 1024],
-    len: usize,
+    limit: usize,
     bound: &[u16; 32],
     scratch: &mut [u8; 1024],
     k: usize,
-) -> Taken
-    requires { ⌜ (length (now book) ≤ 2 ^ 60) × R.Offset-in (now symbols) len 0 × (length (now scratch) ≡ 1024) × Binds-within (binding (now bound)) len × R.Symbols-fit (now book) at (now operators) (binding (now bound)) k ⌝ }
-    ensures { λ r. ⌜ R.Symbol-filled (now (book .entry)) at (now (operators .entry)) (take len (now (symbols .entry))) (binding (now (bound .entry))) k (now (scratch .entry)) (now (scratch .exit)) r ⌝ }
+) -> Step
+    requires { ⌜ (length (now book) ≤ 2 ^ 60) × (length (now symbols) ≡ 1024) × (length (now scratch) ≡ 1024) × Binds-within (binding (now bound)) 1024 × (limit ≤ 1024) × (k ≤ limit) ⌝ }
+    ensures { λ r. ⌜ R.Symbol-filled (now (book .entry)) at (now (operators .entry)) (now (symbols .entry)) (binding (now (bound .entry))) limit k (now (scratch .entry)) (now (scratch .exit)) r ⌝ }
 {
     match side::symbol_at(book, at) {
         Standing::Operator(o, next) => {
+            if limit <= k {
+                return Step::Stops;
+            }
             scratch[k] = o;
-            Taken {
+            Step::Took(Taken {
                 arity: tables::arity(operators, o),
                 next: next,
                 size: 1,
-            }
+            })
         }
         Standing::Variable(v, next) => {
             let size = size_of(bound, v);
+            if limit - k < size {
+                return Step::Stops;
+            }
             term::copy(scratch, k, symbols, start_of(bound, v), size);
-            Taken {
+            Step::Took(Taken {
                 arity: 0,
                 next: next,
                 size: size,
-            }
+            })
         }
     }
 }
 
-// The filled right side at position at of the book, at the front of scratch; its size.
+// The filled right side at position at of the book, at the front of scratch, unless it has more symbols than the limit. One pass over its bits fills and
+// counts.
 pub fn fill(
     book: &[u8],
     at: usize,
     operators: &[u8; 4352],
     symbols: &[u8; 1024],
-    len: usize,
+    limit: usize,
     bound: &[u16; 32],
     scratch: &mut [u8; 1024],
-) -> usize
-    requires { ⌜ (length (now book) ≤ 2 ^ 60) × R.Offset-in (now symbols) len 0 × (length (now scratch) ≡ 1024) × Binds-within (binding (now bound)) len × R.Side-fits (now book) at (now operators) (binding (now bound)) ⌝ }
-    ensures { λ r. ⌜ R.Side-filled (now (book .entry)) at (now (operators .entry)) (take len (now (symbols .entry))) (binding (now (bound .entry))) (now (scratch .exit)) r ⌝ }
+) -> Size
+    requires { ⌜ (length (now book) ≤ 2 ^ 60) × (length (now symbols) ≡ 1024) × (length (now scratch) ≡ 1024) × Binds-within (binding (now bound)) 1024 × (limit ≤ 1024) ⌝ }
+    ensures { λ r. ⌜ R.Side-filled (now (book .entry)) at (now (operators .entry)) (now (symbols .entry)) (binding (now (bound .entry))) limit (now (scratch .exit)) r ⌝ }
 {
     let mut p = at;
     let mut due = 1;
     let mut room: usize = 64;
     let mut k = 0;
     while 0 < due && 0 < room {
-        let taken = fill_one(book, p, operators, symbols, len, bound, scratch, k);
+        let Step::Took(taken) = fill_one(book, p, operators, symbols, limit, bound, scratch, k)
+        else {
+            return Size::Over;
+        };
         due = due - 1 + taken.arity;
         p = taken.next;
         k += taken.size;
         room -= 1;
     }
-    k
+    Size::Fits(k)
 }
 
 // The symbol at offset at, or 256, which is none.

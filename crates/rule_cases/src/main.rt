@@ -8,29 +8,48 @@ use cases::say_number;
 use cases::say_refused;
 use line::Line;
 use rule::Hit;
+use rule::Size;
 use whole::Limits;
 use whole::Place;
 use whole::Progress;
 use whole::Whole;
 ghost use mathlib.Core.Path.{_≡_};
-ghost use Prim.Native.Nat.{_<_, _≤_};
+ghost use Prim.Native.Nat.{_<_, _≤_, _^_};
 ghost use lib.ListN.{length, take};
 ghost use Rattle.tables.specs.Tables.{TablesOf, book-of};
+ghost use Rattle.rule.specs.Packed.{binding, Binds-within};
 ghost use Rattle.rule.specs.Contracts.{Present};
 
-fn say_found(i: usize, end: usize, size: usize) {
+fn say_found(i: usize, end: usize) {
     say(b"rule ");
     say_number(i);
     say(b" end ");
     say_number(end);
-    say(b" size ");
-    say_number(size);
 }
 
-fn at_most(n: usize) -> usize
+// The right side at a position, filled: says its size, or `over` for more than 1,024 symbols, which is told as 0.
+fn try_fill(
+    bytes: &[u8],
+    right: usize,
+    operators: &[u8; 4352],
+    symbols: &[u8; 1024],
+    bound: &[u16; 32],
+) -> usize
+    requires { ⌜ (length (now bytes) ≤ 2 ^ 60) × (length (now symbols) ≡ 1024) × Binds-within (binding (now bound)) 1024 ⌝ }
     ensures { λ r. ⌜ r ≤ 1024 ⌝ }
 {
-    if n < 1024 { n } else { 1024 }
+    let mut scratch = [0u8; 1024];
+    say(b" size ");
+    match rule::fill(bytes, right, operators, symbols, 1024, bound, &mut scratch) {
+        Size::Fits(k) => {
+            say_number(k);
+            k
+        }
+        Size::Over => {
+            say(b"over");
+            0
+        }
+    }
 }
 
 // WHOLE of the term at the offset, by the only unit: the filled right side, of size symbols, and the new term.
@@ -43,7 +62,7 @@ fn carry_out(
     offset: usize,
     size: usize,
 )
-    requires { ⌜ Present (now bytes) (now operators) (now rules) (now symbols) len offset ⌝ }
+    requires { ⌜ Present (now bytes) (now operators) (now rules) (now symbols) len offset × (size ≤ 1024) ⌝ }
 {
     let mut scratch = [0u8; 1024];
     let mut work = [0u8; 24624];
@@ -77,7 +96,7 @@ fn carry_out(
         Whole::Full => say(b" full"),
         Whole::Rewrote(new_len) => {
             say(b" ");
-            say_front(&scratch, at_most(size));
+            say_front(&scratch, size);
             say(b" ");
             say_front(symbols, new_len);
         }
@@ -101,8 +120,8 @@ fn try_rewrite(
         return;
     };
     let right = tables::right_side(rules, m.rule);
-    let size = rule::filled_size(bytes, right, operators, &bound);
-    say_found(m.rule, m.end, size);
+    say_found(m.rule, m.end);
+    let size = try_fill(bytes, right, operators, symbols, &bound);
     carry_out(bytes, operators, rules, symbols, len, offset, size);
 }
 

@@ -1,4 +1,4 @@
--- The choice of a rule: what the search for one and the size of its filled right side say. Assumes nothing.
+-- The choice of a rule: what the search for one and the filling of its right side say. Assumes nothing.
 use mathlib.Core.Bool.{Bool, true, false}
 use mathlib.Core.List.{List, [], _∷_}
 use mathlib.Core.Path.{_≡_, sym, ap, _∙_}
@@ -13,15 +13,15 @@ use Rattle.paper.specs.Book.{Symbol, Side, Book, arity}
 use Rattle.flat.specs.Symbols.{Match, Hit, Binding, skip, match, fill}
 use Rattle.tables.specs.Layout.{right-in}
 use Rattle.tables.specs.Tables.{ruleAt, Tables}
-use Rattle.rule.specs.Packed.{SideAt}
-use Rattle.rule.specs.Contracts.{Rule-found, Side-sized, Side-fits, Side-filled}
+use Rattle.rule.specs.Packed.{SideAt, Binds-within}
+use Rattle.rule.specs.Contracts.{Rule-found, Side-filled}
 use Rattle.rule.specs.declared.Match as M
+use Rattle.rule.specs.declared.Size as Z
 use Rattle.rule.proofs.Tables.{right-stands}
-use Rattle.rule.proofs.Fills.{size-is}
-use Rattle.whole.specs.Contracts.{spent, over, Allows, Rule-gives, Right-fits}
+use Rattle.rule.proofs.Fills.{fill-front}
+use Rattle.whole.specs.Contracts.{spent, over, Rule-gives, Right-fits}
 use Rattle.whole.specs.declared.Progress as P
 use Rattle.whole.specs.declared.Limits as L
-use Rattle.whole.specs.declared.Allowance as A
 
 -- a match ends where it starts or behind that
 went-on : (t : Bool) (m : Match) (b : Binding) (e : ℕ) → (elim t as (λ z. Match) [ true ↦ m | false ↦ Match.differs ]) ≡ Match.agrees b e → m ≡ Match.agrees b e
@@ -41,50 +41,45 @@ module _ {bytes operators rules xs : List ℕ} {B : Book} {a len : ℕ} {b : Bin
   pub small : m .rule < 256
   small = omega (arith, h .below, T .good .few-rules)
 
-  least : a ≤ m .end
-  least = match-ends _ _ a _ _ b (m .end) (h .agrees)
-
   pub spends : (p : P.Progress) (l : L.Limits) → p .rewrites ≡ l .budget → Rule-gives B a xs (λ ys e. spent p l ≡ true)
   spends p l e = record { ys = _; e = m .end; hit = h .is; so = eq-eqb (p .rewrites) (l .budget) e }
 
-  -- the right side, of so many symbols
-  module _ {at size : ℕ} (long : length xs ≡ len) (here : at ≡ right-in rules (m .rule)) (z : Side-sized bytes at operators b size) where
-    abbrev right : Side
-    right = ruleAt (B .rules) (m .rule) .right
+  least : a ≤ m .end
+  least = match-ends _ _ a _ _ b (m .end) (h .agrees)
 
-    stands : SideAt bytes at operators right
-    stands = rw here (right-stands T (m .rule) (h .below))
+  abbrev right : Side
+  right = ruleAt (B .rules) (m .rule) .right
 
-    size-right : length (fill (preorder right) b xs) ≡ size
-    size-right = size-is (preorder right) b xs (rw long (h .within)) ∙ sym (z .is right stands)
+  module _ (most : len ≤ 1024) where
+    -- the symbols around the term
+    pub around : a + (len - m .end) ≤ 1024
+    around = omega (arith, least, h .end)
 
-    pub fills : (p : P.Progress) (l : L.Limits) → Allows (p .rewrites) (l .budget) (a + size + (len - m .end)) A.Allowance.Full →
-        Rule-gives B a xs (λ ys e. (spent p l ≡ false) × (over a xs ys e ≡ true))
-    fills p l (d, k) =
-        let s = size-right in
-        let i = least in
-        let j = h .end in
-        let g : 1024 < length (fill (preorder right) b xs) + (length xs - (m .end - a)) = omega arith in
-        record { ys = _; e = m .end; hit = h .is; so = (ne-eqb (p .rewrites) (l .budget) d, lt-ltb 1024 _ g) }
+    pub within : Binds-within b 1024
+    within v = omega (arith, h .within v)
 
-    module _ (p : P.Progress) (l : L.Limits) (k : Allows (p .rewrites) (l .budget) (a + size + (len - m .end)) A.Allowance.Free) where
-      pub fits : Side-fits bytes at operators b
-      fits = let s = z .is right stands in let i = k .1 in record { side = right; stands = stands; fits = omega arith }
+    -- the right side, filled up to what these leave
+    module _ {at limit : ℕ} (symbols : List ℕ) (long : length symbols ≡ 1024) (front : xs ≡ take len symbols) (here : at ≡ right-in rules (m .rule))
+        (leaves : limit ≡ 1024 - (a + (len - m .end))) (p : P.Progress) (l : L.Limits) (unspent : p .rewrites ≡ l .budget → ⊥) where
+      stands : SideAt bytes at operators right
+      stands = rw here (right-stands T (m .rule) (h .below))
 
-      pub picks : (scratch : List ℕ) (n : ℕ) → len ≡ p .length → Side-filled bytes at operators xs b scratch n →
-          Right-fits B a p l xs scratch (record { size = n; end = m .end })
-      picks scratch n e f =
-          let o = f .long in
-          let q = f .most in
-          let y : length (take n scratch) ≡ n = length-take-le n scratch (omega arith) in
-          let w = ap length (f .is right stands) in
-          let s = size-right in
-          let i = k .1 in
-          let j = h .end in
+      filled : fill (preorder right) b xs ≡ fill (preorder right) b symbols
+      filled = ap (fill (preorder right) b) front ∙ fill-front (preorder right) b len symbols (h .within)
+
+      pub fills : {scratch : List ℕ} → Side-filled bytes at operators symbols b limit scratch Z.Size.Over → Rule-gives B a xs (λ ys e. (spent p l ≡ false) × (over a xs ys e ≡ true))
+      fills f =
+          let x = ap length front ∙ length-take-le len symbols (omega arith) in
+          let g : 1024 < length (fill (preorder right) b xs) + (length xs - (m .end - a)) = omega (arith, least, h .end, ap length filled, f .is right stands) in
+          record { ys = _; e = m .end; hit = h .is; so = (ne-eqb (p .rewrites) (l .budget) unspent, lt-ltb 1024 _ g) }
+
+      pub picks : {scratch : List ℕ} {k : ℕ} → len ≡ p .length → Side-filled bytes at operators symbols b limit scratch (Z.Size.Fits k) →
+          Right-fits B a p l xs scratch (record { size = k; end = m .end })
+      picks e f =
           record {
-            left = ne-eqb (p .rewrites) (l .budget) (k .0);
+            left = ne-eqb (p .rewrites) (l .budget) unspent;
             least = least;
-            most = omega arith;
-            fits = omega arith;
-            hit = h .is ∙ ap (λ (ys : List ℕ). Hit.hit ys (m .end)) (sym (f .is right stands));
+            most = omega (arith, h .end);
+            fits = omega (arith, around, f .is .1);
+            hit = h .is ∙ ap (λ (ys : List ℕ). Hit.hit ys (m .end)) (filled ∙ sym (f .is .0 right stands));
           }

@@ -21,7 +21,6 @@ use Rattle.whole.specs.declared.Limits as L
 use Rattle.whole.specs.declared.Place as Pl
 use Rattle.whole.specs.declared.Whole as W
 use Rattle.whole.specs.declared.Filled as F
-use Rattle.whole.specs.declared.Allowance as A
 use Rattle.whole.specs.declared.Choice as C
 
 -- THE CHOICE OF A RULE
@@ -32,12 +31,6 @@ spent p l = eqb (p .rewrites) (l .budget)
 
 abbrev pub over : ℕ → List ℕ → List ℕ → ℕ → Bool
 over a xs ys e = exceeds (some symbol-limit) (length ys + (length xs - (e - a)))
-
--- whether a rewriting to so many symbols is allowed
-abbrev pub Allows : ℕ → ℕ → ℕ → A.Allowance → Type 0
-Allows made budget size A.Allowance.Free = (made ≡ budget → ⊥) × (size ≤ 1024)
-Allows made budget size A.Allowance.Spent = made ≡ budget
-Allows made budget size A.Allowance.Full = (made ≡ budget → ⊥) × (1024 < size)
 
 -- a rule of the book B matches: ys is to stand for the symbols of xs from offset a up to e, and Q holds of them
 pub record Rule-gives (B : Book) (a : ℕ) (xs : List ℕ) (Q : List ℕ → ℕ → Type 0) : Type 0 where

@@ -1,6 +1,7 @@
 // The order WHOLE (document 01, 'Orders of a unit'): the first rule that matches at a term's offset rewrites it, unless the budget is used up or the
 // new term would be too long.
 use rule::Hit;
+use rule::Size;
 use units::Frame;
 use units::Job;
 ghost use mathlib.Core.Path.{_≡_};
@@ -53,26 +54,6 @@ enum Choice {
     Full,
 }
 
-// Whether a rewriting is allowed; the budget comes first.
-enum Allowance {
-    Free,
-    Spent,
-    Full,
-}
-
-// A rewriting to so many symbols, after `made` others.
-fn allowed(made: u32, budget: u32, size: usize) -> Allowance
-    ensures { λ r. ⌜ W.Allows made budget size r ⌝ }
-{
-    if made == budget {
-        return Allowance::Spent;
-    }
-    if 1024 < size {
-        return Allowance::Full;
-    }
-    Allowance::Free
-}
-
 // The first rule that matches at offset a; its right side, filled, goes into scratch.
 fn choose(
     book: &[u8],
@@ -92,16 +73,16 @@ fn choose(
     let Hit::Rule(m) = rule::find(book, operators, rules, symbols, len, a, &mut bound) else {
         return Choice::Missed;
     };
+    // A budget that is used up is told before a term that would be too long.
+    if p.rewrites == l.budget {
+        return Choice::Spent;
+    }
     let end = m.end;
     let at = tables::right_side(rules, m.rule);
-    let size = a + rule::filled_size(book, at, operators, &bound) + (len - end);
-    match allowed(p.rewrites, l.budget, size) {
-        Allowance::Spent => Choice::Spent,
-        Allowance::Full => Choice::Full,
-        Allowance::Free => {
-            let k = rule::fill(book, at, operators, symbols, len, &bound, scratch);
-            Choice::Fits(Filled { size: k, end: end })
-        }
+    let limit = 1024 - (a + (len - end));
+    match rule::fill(book, at, operators, symbols, limit, &bound, scratch) {
+        Size::Fits(k) => Choice::Fits(Filled { size: k, end: end }),
+        Size::Over => Choice::Full,
     }
 }
 

@@ -16,7 +16,7 @@ answer-requires : tie.Need-answer-requires
 answer-requires c κs =
     let a = c .before .before .before .before in
     let s = c .before .before .before .before .before .before .before .before .before .before .before .before .before in
-    (reduced-fits (a .reduce-form .ensures) (a .reduce-form .kept .1 .1 .1 .1 .1 .1 .0 ∙ length-replicate {A = ℕ} 1024 0), s .pre .1, s .pre .2)
+    (reduced-fits (a .reduce-form .ensures) (a .reduce-form .kept .1 .1 .1 .1 .1 .1 .1 .0 ∙ length-replicate {A = ℕ} 1024 0), s .pre .1, s .pre .2)
 
 returns : tie.Need-returns
 returns c =

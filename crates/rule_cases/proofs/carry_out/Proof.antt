@@ -9,15 +9,15 @@ rewrite-requires : tie.Need-rewrite-requires
 rewrite-requires c κs =
     let t = c .before .before .before .before .before in
     let s = t .before .before .before .before in
-    (s .pre, search needs, due-at-start _ _ (t .start .ensures) (omega (arith, s .pre .inside)))
+    (s .pre .0, search needs, due-at-start _ _ (t .start .ensures) (omega (arith, s .pre .0 .inside)))
 
 say-front-requires-2 : tie.Need-say-front-requires-2
 say-front-requires-2 c κs =
-    let n = c .before .before .before .before .before .before .before .before .before .before in
+    let n = c .before .before .before .before .before .before .before .before .before in
     let w = rw (n .new-len .given .1) at (n .before .before .before .rewrite .ensures .0) in
     omega (arith, w .stays, w .long)
 
 pub carry-out-spec : {M : Type 1} → statement M
 carry-out-spec =
     tie.close
-    (tie.spec (λ c. search needs) (λ c κs. search needs) (λ c. search needs) rewrite-requires (λ c. search needs) (λ c. search needs) (λ c κs. search needs) (λ c. search needs) (λ c. search needs) (λ c κs. search needs) (λ c. search needs) (λ c. search needs) (λ c κs. search needs) (λ c. search needs) (λ c. search needs) (λ c κs. search needs) (λ c. search needs) (λ c κs. search needs) (λ c κs. search needs) (λ c. search needs) (λ c κs. search needs) say-front-requires-2 (λ c. search needs) (λ c. search needs) (λ c. search needs) (λ c. search needs))
+    (tie.spec (λ c. search needs) (λ c κs. search needs) (λ c. search needs) rewrite-requires (λ c. search needs) (λ c. search needs) (λ c κs. search needs) (λ c. search needs) (λ c. search needs) (λ c κs. search needs) (λ c. search needs) (λ c. search needs) (λ c κs. search needs) (λ c. search needs) (λ c. search needs) (λ c κs. search needs) (λ c. search needs) (λ c κs. search needs) (λ c. search needs) (λ c κs. search needs) say-front-requires-2 (λ c. search needs) (λ c. search needs) (λ c. search needs) (λ c. search needs))

@@ -1,15 +1,27 @@
--- `rule_cases::try_rewrite` meets its contract: a rule that is found is one of the book's. Assumes nothing.
+-- `rule_cases::try_rewrite` meets its contract: a rule that is found is one of the book's, and binds within the term. Assumes nothing.
 use native.Mathlib.Omega.{arith}
 use borrow.Author.Needs.{needs}
 use Rattle.rule_cases.proofs.try_rewrite.Statement.{statement}
 use Rattle.rule_cases.proofs.try_rewrite.Tie as tie
+
+-- the function's start, from where a rule is looked for
+abbrev start : tie.After-find → tie.Start
+start f = f .before .before .before .before
 
 right-side-requires : tie.Need-right-side-requires
 right-side-requires c κs =
     let m = c .before in
     let f = m .before .before in
     let h = rw (m .m .given .1) at (f .find .ensures) in
-    omega (arith, h .below, f .before .before .before .before .pre .tables .tables .good .few-rules)
+    omega (arith, h .below, start f .pre .tables .tables .good .few-rules)
+
+try-fill-requires : tie.Need-try-fill-requires
+try-fill-requires c κs =
+    let m = c .before .before .before .before .before in
+    let f = m .before .before in
+    let h = rw (m .m .given .1) at (f .find .ensures) in
+    let p = start f .pre in
+    (p .short, p .long, λ v. omega (arith, h .within v, p .most))
 
 pub try-rewrite-spec : {M : Type 1} → statement M
-try-rewrite-spec = tie.close (tie.spec (λ c κs. search needs) (λ c. search needs) (λ c. search needs) (λ c. search needs) (λ c κs. search needs) (λ c. search needs) right-side-requires (λ c κs. search needs) (λ c κs. search needs) (λ c κs. search needs) (λ c. search needs))
+try-rewrite-spec = tie.close (tie.spec (λ c κs. search needs) (λ c. search needs) (λ c. search needs) (λ c. search needs) (λ c κs. search needs) (λ c. search needs) right-side-requires (λ c κs. search needs) try-fill-requires (λ c κs. search needs) (λ c. search needs))
