@@ -3,6 +3,7 @@
 //
 // It is compiled twice. With PACKED it also makes the library's choices for rules and frames (engine.h).
 #include "engine.h"
+#include "../library/include/kurvneist.h"
 #include "reader.h"
 #include <string.h>
 
@@ -37,7 +38,7 @@ typedef struct {
     unsigned units, busy; // a bit for each busy unit
     uint16_t heights[UNITS];
     uint32_t budget, rewrites;
-    size_t granted;
+    size_t granted, kept;
     uint16_t starts[16], sizes[16];
 } engine;
 
@@ -266,6 +267,7 @@ static int whole(engine *e, unsigned unit, uint8_t *top, unsigned o, unsigned of
 static void fork_part(engine *e, unsigned unit, uint8_t *top, unsigned o, unsigned offset, unsigned k, unsigned count, unsigned argument) {
     unsigned part = skip(e, offset + 1, argument), idle = ~e->busy & ((1u << e->units) - 1) & ~1u;
     if (!idle) {
+        e->kept++;
         proceed(e, unit, top, o, offset, k, count - 1);
         push(e, unit, 0, part);
         return;
@@ -334,7 +336,8 @@ static void start(engine *e) {
     }
     push(e, 0, 0, 0);
     e->busy = 1;
-    e->rewrites = e->granted = 0;
+    e->rewrites = 0;
+    e->granted = e->kept = 0;
 }
 
 static int check_line(const engine *e, unsigned operators, const uint8_t *line, size_t length) {
@@ -386,7 +389,7 @@ static uint8_t prepare(engine *e, const uint8_t *book, size_t book_length, const
 uint8_t REDUCE(const uint8_t *book, size_t book_length, const uint8_t *line, size_t line_length, uint8_t units, uint32_t budget,
     const uint8_t *schedule, size_t schedule_length, uint8_t *work, size_t work_length, uint8_t *output, size_t output_length, uint64_t *answer) {
     engine e;
-    memset(answer, 0, 5 * sizeof *answer);
+    memset(answer, 0, KURVNEIST_ANSWER_LENGTH * sizeof *answer);
     if (units < 1 || units > UNITS) return 13;
     if (work_length < WORK) return 15;
     if (output_length < MOST) return 16;
@@ -404,10 +407,11 @@ uint8_t REDUCE(const uint8_t *book, size_t book_length, const uint8_t *line, siz
     }
     memcpy(output, e.symbols, e.length);
     memset(work, 0, work_length);
-    answer[0] = (uint64_t)(ending == GOING ? CUT : ending);
-    answer[1] = e.rewrites;
-    answer[2] = i;
-    answer[3] = e.granted;
-    answer[4] = e.length;
+    answer[KURVNEIST_ENDING] = (uint64_t)(ending == GOING ? CUT : ending);
+    answer[KURVNEIST_REWRITES] = e.rewrites;
+    answer[KURVNEIST_ENTRIES] = i;
+    answer[KURVNEIST_GRANTED] = e.granted;
+    answer[KURVNEIST_KEPT] = e.kept;
+    answer[KURVNEIST_LENGTH] = e.length;
     return 0;
 }

@@ -58,9 +58,11 @@ static void run(reducer *reduce, const input *in, result *r) {
 
 static size_t page_of(const result *r, char *page) {
     if (r->refusal) return (size_t)sprintf(page, "REDUCE 1\nrefused %u\n", r->refusal);
-    size_t n = (size_t)sprintf(page, "REDUCE 1\nend %u\nrewrites %u\nentries %u\ngranted %u\nterm", (unsigned)r->answer[0], (unsigned)r->answer[1],
-        (unsigned)r->answer[2], (unsigned)r->answer[3]);
-    for (size_t i = 0; i < r->answer[4]; i++) n += (size_t)sprintf(page + n, " %u", r->output[i]);
+    static const char *const words[] = {"end", "rewrites", "entries", "granted", "kept"}; // an answer's elements in order, but for the length
+    size_t n = (size_t)sprintf(page, "REDUCE 1\n");
+    for (size_t i = 0; i < KURVNEIST_LENGTH; i++) n += (size_t)sprintf(page + n, "%s %u\n", words[i], (unsigned)r->answer[i]);
+    n += (size_t)sprintf(page + n, "term");
+    for (size_t i = 0; i < r->answer[KURVNEIST_LENGTH]; i++) n += (size_t)sprintf(page + n, " %u", r->output[i]);
     return n + (size_t)sprintf(page + n, "\n");
 }
 

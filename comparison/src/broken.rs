@@ -3,9 +3,13 @@
 //! Slips are put in from outside, so that the model itself stays plain. Those
 //! of runs are the document's own list of where hands slip.
 
+use std::collections::HashMap;
+use std::io;
+
 use crate::model::{
     self, Answer, Book, Filling, Form, Item, Machine, Operator, Order, Pattern, Term, GAP,
 };
+use crate::program::Pages;
 use crate::subject::{hand_over, ModelSubject, Question, Subject, Told, Written, MODEL_PUBLISHED};
 
 #[derive(Clone, Copy, Debug, PartialEq, Eq)]
@@ -48,9 +52,15 @@ pub enum Slip {
     Swapped,
     /// Only the operators that the text names are looked at.
     Named,
+    /// A kept FORK is counted when its JOIN passes.
+    Kept,
+    /// A granted FORK is counted as kept too.
+    Twice,
+    /// The page has its line `kept` above `granted`.
+    Lines,
 }
 
-pub const SLIPS: [(&str, Slip); 19] = [
+pub const SLIPS: [(&str, Slip); 22] = [
     ("join", Slip::Join),
     ("list", Slip::List),
     ("zeros", Slip::Zeros),
@@ -70,6 +80,9 @@ pub const SLIPS: [(&str, Slip); 19] = [
     ("late", Slip::Late),
     ("swapped", Slip::Swapped),
     ("named", Slip::Named),
+    ("kept", Slip::Kept),
+    ("twice", Slip::Twice),
+    ("lines", Slip::Lines),
 ];
 
 pub struct BrokenModel {
@@ -98,6 +111,17 @@ impl Subject for BrokenModel {
             (Slip::Given, Ok(book)) => write_given(book, output),
             _ => ModelSubject.written(book, output),
         }
+    }
+}
+
+/// The other slips don't show here: their pages are sound.
+impl Pages for BrokenModel {
+    fn page(&self, form: Form, input: &[u8]) -> io::Result<Vec<u8>> {
+        let page = model::page_of(form, input);
+        Ok(match self.slip {
+            Slip::Lines => with_kept_above_granted(&page),
+            _ => page,
+        })
     }
 }
 
@@ -181,6 +205,7 @@ impl BrokenModel {
     }
 
     fn run(&self, machine: &mut Machine, schedule: &[u8]) -> u8 {
+        let mut open = HashMap::new();
         for &unit in schedule {
             let unit = usize::from(unit);
             drop_stray_orders(machine, unit);
@@ -188,6 +213,8 @@ impl BrokenModel {
                 Slip::Join => entry_passing_joins(machine, unit),
                 Slip::List => entry_forgetting_list(machine, unit),
                 Slip::Copies => entry_counting_copies_once(machine, unit),
+                Slip::Kept => entry_counting_at_joins(machine, unit, &mut open),
+                Slip::Twice => entry_counting_grants_twice(machine, unit),
                 _ => machine.entry(unit),
             };
             if let Some(ending) = ending {
@@ -315,6 +342,45 @@ fn size_with_copies_once(side: &Pattern, filling: &Filling, seen: &mut Vec<u8>) 
             1 + sizes.sum::<usize>()
         }
     }
+}
+
+/// `open` has the kept FORKs of each JOIN, by unit and place in its list.
+fn entry_counting_at_joins(
+    machine: &mut Machine,
+    unit: usize,
+    open: &mut HashMap<(usize, usize), u64>,
+) -> Option<u8> {
+    let kept = machine.kept;
+    let top = machine.units[unit].orders.last().cloned();
+    let ending = machine.entry(unit);
+    match top {
+        Some(Order::Fork { join, .. }) => {
+            *open.entry((unit, join)).or_default() += machine.kept - kept;
+            machine.kept = kept;
+        }
+        Some(Order::Join { count: 0 }) => {
+            let place = machine.units[unit].orders.len();
+            machine.kept += open.remove(&(unit, place)).unwrap_or(0);
+        }
+        _ => {}
+    }
+    ending
+}
+
+fn entry_counting_grants_twice(machine: &mut Machine, unit: usize) -> Option<u8> {
+    let granted = machine.granted;
+    let ending = machine.entry(unit);
+    machine.kept += machine.granted - granted;
+    ending
+}
+
+fn with_kept_above_granted(page: &[u8]) -> Vec<u8> {
+    let mut lines: Vec<&[u8]> = page.split_inclusive(|&byte| byte == b'\n').collect();
+    let place = |word: &[u8]| lines.iter().position(|line| line.starts_with(word));
+    if let (Some(granted), Some(kept)) = (place(b"granted "), place(b"kept ")) {
+        lines.swap(granted, kept);
+    }
+    lines.concat()
 }
 
 /// A slip can leave orders whose part or JOIN is gone. The model would stop

@@ -156,7 +156,7 @@ impl<'a> Comparison<'a> {
             Ok(answer) => (Told::answered(answer), &answer.term, &cleared),
             Err(number) => (Told::refused(*number), &[], &[]),
         };
-        compare_values(due, &found)
+        compare_values(&due, &found)
             .or_else(|| self.output.difference("output", term))
             .or_else(|| self.work.difference("work area", work))
     }
@@ -181,11 +181,8 @@ impl<'a> Comparison<'a> {
     }
 }
 
-fn compare_values(mut due: Told, found: &Told) -> Option<String> {
-    if found.kept.is_none() {
-        due.kept = None;
-    }
-    (due != *found).then(|| format!("values\n  due   {due:?}\n  found {found:?}"))
+fn compare_values(due: &Told, found: &Told) -> Option<String> {
+    (due != found).then(|| format!("values\n  due   {due:?}\n  found {found:?}"))
 }
 
 /// A buffer whose front is lent again and again, full of junk each time.

@@ -27,16 +27,16 @@ impl Subject for Library {
             Form::Line => raw::reduce,
             Form::Text => raw::payee,
         };
-        let mut values = [JUNK; 5];
+        let mut values = [JUNK; raw::ANSWER_LENGTH];
         let refusal = call(&request, work, output, &mut values);
-        let [ending, rewrites, entries, granted, length] = values;
+        let [ending, rewrites, entries, granted, kept, length] = values;
         Told {
             refusal,
             ending,
             rewrites,
             entries,
             granted,
-            kept: None,
+            kept,
             length,
         }
     }

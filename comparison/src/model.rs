@@ -943,6 +943,8 @@ pub struct Answer {
     pub rewrites: u64,
     pub entries: u64,
     pub granted: u64,
+    /// In a finished run granted and kept together are the FORKs of a run on
+    /// one unit without symbol limit.
     pub kept: u64,
     pub term: Vec<u8>,
 }
@@ -1075,6 +1077,7 @@ fn write_answer(text: &mut String, answer: &Answer) {
     write_line(text, "rewrites", answer.rewrites);
     write_line(text, "entries", answer.entries);
     write_line(text, "granted", answer.granted);
+    write_line(text, "kept", answer.kept);
     text.push_str("term");
     for operator in &answer.term {
         write!(text, " {operator}").expect("a string takes any text");

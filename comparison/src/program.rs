@@ -1,5 +1,5 @@
-//! The programs `reduce` and `payee` as subjects: their pages for random
-//! standard inputs against the model's.
+//! Pages for random standard inputs against the model's: those of the
+//! programs `reduce` and `payee`.
 
 use std::io::{self, Write};
 use std::ops::Range;
@@ -10,6 +10,25 @@ use crate::compare::{made_small, Difference};
 use crate::draft::Case;
 use crate::model::{page_of, Form};
 use crate::random;
+
+/// What has a page for every standard input, of lines and of texts.
+pub trait Pages {
+    fn page(&self, form: Form, input: &[u8]) -> io::Result<Vec<u8>>;
+
+    /// What differs in the page of a case. A case that no input can state, its
+    /// book or line being too long to be announced, has none.
+    fn check(&self, case: &Case) -> Option<String> {
+        let input = case.input()?;
+        let due = page_of(case.form, &input);
+        match self.page(case.form, &input) {
+            Ok(found) => (found != due).then(|| {
+                let [due, found] = [due, found].map(|page| shown(&page));
+                format!("page\n  due   {due}\n  found {found}")
+            }),
+            Err(error) => Some(format!("page\n  the program has none: {error}")),
+        }
+    }
+}
 
 /// Where the two programs are.
 pub struct Programs {
@@ -32,21 +51,9 @@ impl Programs {
             payee: named("payee")?,
         })
     }
+}
 
-    /// What differs in the page of a case. A case that no input can state, its
-    /// book or line being too long to be announced, has none.
-    pub fn check(&self, case: &Case) -> Option<String> {
-        let input = case.input()?;
-        let due = page_of(case.form, &input);
-        match self.page(case.form, &input) {
-            Ok(found) => (found != due).then(|| {
-                let [due, found] = [due, found].map(|page| shown(&page));
-                format!("page\n  due   {due}\n  found {found}")
-            }),
-            Err(error) => Some(format!("page\n  the program has none: {error}")),
-        }
-    }
-
+impl Pages for Programs {
     fn page(&self, form: Form, input: &[u8]) -> io::Result<Vec<u8>> {
         let program = match form {
             Form::Line => &self.reduce,
@@ -73,7 +80,7 @@ fn shown(page: &[u8]) -> String {
 /// Compares the numbered cases of a seed up to the first difference; answers
 /// how many were compared.
 pub fn compare_pages(
-    programs: &Programs,
+    subject: &dyn Pages,
     seed: u64,
     numbers: Range<u64>,
 ) -> (u64, Option<Difference>) {
@@ -81,8 +88,8 @@ pub fn compare_pages(
     for number in numbers {
         let case = random::numbered(seed, number);
         pages += u64::from(case.input().is_some());
-        if programs.check(&case).is_some() {
-            let difference = made_small(number, case, &mut |case| programs.check(case));
+        if subject.check(&case).is_some() {
+            let difference = made_small(number, case, &mut |case| subject.check(case));
             return (pages, Some(difference));
         }
     }

@@ -58,8 +58,7 @@ pub struct Told {
     pub rewrites: u64,
     pub entries: u64,
     pub granted: u64,
-    /// `None` from a subject that doesn't report it.
-    pub kept: Option<u64>,
+    pub kept: u64,
     /// The symbols written at the front of the output.
     pub length: u64,
 }
@@ -68,7 +67,6 @@ impl Told {
     pub fn refused(number: u8) -> Told {
         Told {
             refusal: number,
-            kept: Some(0),
             ..Told::default()
         }
     }
@@ -80,7 +78,7 @@ impl Told {
             rewrites: answer.rewrites,
             entries: answer.entries,
             granted: answer.granted,
-            kept: Some(answer.kept),
+            kept: answer.kept,
             length: answer.term.len() as u64,
         }
     }

@@ -1,9 +1,11 @@
 //! The comparison finds no difference in the model, and every slip.
 
 use comparison::broken::{BrokenModel, Slip, SLIPS};
-use comparison::compare::{compare, Comparison};
+use comparison::compare::{compare, Comparison, Difference};
+use comparison::draft::Case;
 use comparison::model::Form;
-use comparison::subject::{ModelSubject, Question, Subject, Told, Written};
+use comparison::program::{compare_pages, Pages};
+use comparison::subject::ModelSubject;
 
 #[test]
 fn the_model_agrees_with_itself_and_everything_is_met() {
@@ -17,14 +19,9 @@ fn the_model_agrees_with_itself_and_everything_is_met() {
 #[test]
 fn every_slip_is_found_and_made_small() {
     for (name, slip) in SLIPS {
-        let mut subject = BrokenModel { slip };
-        let (_, difference) = compare(&mut subject, 32, 0..20_000);
-        let difference = difference.unwrap_or_else(|| panic!("{name} is not found"));
+        let difference = found(slip).unwrap_or_else(|| panic!("{name} is not found"));
         let small = &difference.small;
-        assert!(
-            Comparison::new(&mut subject).check(small).is_some(),
-            "{name}"
-        );
+        assert!(shows(slip, small), "{name}");
         // What isn't about texts is shown by a line, also where a text met it.
         assert_eq!(small.form, form_of(slip), "{name}: {difference}");
         let operator_limit = match small.form {
@@ -47,38 +44,30 @@ fn every_slip_is_found_and_made_small() {
     }
 }
 
+/// A slip of the page shows in no answer.
+fn found(slip: Slip) -> Option<Difference> {
+    let mut subject = BrokenModel { slip };
+    match slip {
+        Slip::Lines => compare_pages(&subject, 32, 0..20_000).1,
+        _ => compare(&mut subject, 32, 0..20_000).1,
+    }
+}
+
+fn shows(slip: Slip, case: &Case) -> bool {
+    let mut subject = BrokenModel { slip };
+    let difference = match slip {
+        Slip::Lines => subject.check(case),
+        _ => Comparison::new(&mut subject).check(case),
+    };
+    difference.is_some()
+}
+
 fn form_of(slip: Slip) -> Form {
     match slip {
         Slip::Cedilla | Slip::Sharp | Slip::Diaeresis | Slip::Tail | Slip::Front => Form::Text,
         Slip::Late | Slip::Swapped | Slip::Named => Form::Text,
         _ => Form::Line,
     }
-}
-
-/// A base library doesn't report the kept FORKs.
-struct WithoutKept;
-
-impl Subject for WithoutKept {
-    fn published(&self) -> usize {
-        ModelSubject.published()
-    }
-
-    fn answer(&mut self, question: &Question, work: &mut [u8], output: &mut [u8]) -> Told {
-        Told {
-            kept: None,
-            ..ModelSubject.answer(question, work, output)
-        }
-    }
-
-    fn written(&mut self, book: &[u8], output: &mut [u8]) -> Written {
-        ModelSubject.written(book, output)
-    }
-}
-
-#[test]
-fn a_subject_may_leave_kept_out() {
-    let (_, difference) = compare(&mut WithoutKept, 33, 0..500);
-    assert!(difference.is_none());
 }
 
 #[test]

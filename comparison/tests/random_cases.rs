@@ -113,6 +113,7 @@ fn endings_keep_their_conditions() {
     for (case, answer) in runs(24) {
         assert!(answer.rewrites <= u64::from(case.budget));
         assert!(answer.entries <= case.schedule.len() as u64);
+        assert!(answer.granted + answer.kept <= answer.entries);
         assert!(answer.term.len() <= TERM_LIMIT);
         match answer.ending {
             ending::SPENT => assert_eq!(answer.rewrites, u64::from(case.budget)),
@@ -156,11 +157,12 @@ fn page_agrees_with_the_answer() {
         let page = String::from_utf8(page(&case.input().unwrap())).unwrap();
         let term: Vec<String> = answer.term.iter().map(u8::to_string).collect();
         let due = format!(
-            "REDUCE 1\nend {}\nrewrites {}\nentries {}\ngranted {}\nterm {}\n",
+            "REDUCE 1\nend {}\nrewrites {}\nentries {}\ngranted {}\nkept {}\nterm {}\n",
             answer.ending,
             answer.rewrites,
             answer.entries,
             answer.granted,
+            answer.kept,
             term.join(" ")
         );
         // A fault may have made the schedule one entry too long for the page.

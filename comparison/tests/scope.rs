@@ -22,7 +22,7 @@ fn settled(numbers: &[u8], arity: u8) -> Vec<u8> {
 #[test]
 fn page_of_the_document() {
     let input = input(&book_p().encode(), &LINE_P, 1, 9, &[0; 29]);
-    let due = "REDUCE 1\nend 0\nrewrites 2\nentries 29\ngranted 0\nterm 1 1 0\n";
+    let due = "REDUCE 1\nend 0\nrewrites 2\nentries 29\ngranted 0\nkept 2\nterm 1 1 0\n";
     assert_eq!(String::from_utf8(page(&input)).unwrap(), due);
 }
 
@@ -46,8 +46,8 @@ fn more_entries_are_not_used() {
 fn budget_of_one_is_spent() {
     let found = ask(&book_p(), &LINE_P, 1, 1, &[0; 29]).unwrap();
     assert_eq!(
-        (found.ending, found.rewrites, found.entries),
-        (ending::SPENT, 1, 23)
+        (found.ending, found.rewrites, found.entries, found.kept),
+        (ending::SPENT, 1, 23, 2)
     );
     assert_eq!(found.term, [1, 2, 0, 1, 0]);
 }
@@ -56,8 +56,8 @@ fn budget_of_one_is_spent() {
 fn main_unit_waits_for_a_unit_that_never_acts() {
     let found = ask(&book_p(), &LINE_P, 2, 9, &[0; 100]).unwrap();
     assert_eq!(
-        (found.ending, found.entries, found.granted),
-        (ending::CUT, 100, 1)
+        (found.ending, found.entries, found.granted, found.kept),
+        (ending::CUT, 100, 1, 0)
     );
     assert_eq!(found.term, LINE_P);
 }

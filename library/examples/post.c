@@ -29,7 +29,8 @@ int main(void) {
         printf("refused %u\n", refusal);
         return 1;
     }
-    printf("ending %" PRIu64 ", rewrites %" PRIu64 ", term", answer[KURVNEIST_ENDING], answer[KURVNEIST_REWRITES]);
+    printf("ending %" PRIu64 ", rewrites %" PRIu64, answer[KURVNEIST_ENDING], answer[KURVNEIST_REWRITES]);
+    printf(", FORKs granted %" PRIu64 ", kept %" PRIu64 ", term", answer[KURVNEIST_GRANTED], answer[KURVNEIST_KEPT]);
     for (uint64_t symbol = 0; symbol < answer[KURVNEIST_LENGTH]; symbol++) printf(" %u", output[symbol]);
     printf("\n");
     return 0;

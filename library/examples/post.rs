@@ -14,5 +14,7 @@ fn main() -> Result<(), Refusal> {
     let mut engine = Engine::new();
     let posting = engine.post(&request)?;
     println!("{}: {:?}", posting.answer.ending, posting.term);
+    let (granted, kept) = (posting.answer.granted, posting.answer.kept);
+    println!("FORKs granted {granted}, kept {kept}");
     Ok(())
 }

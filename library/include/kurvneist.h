@@ -27,14 +27,18 @@ extern "C" {
 /* No book is longer, and so no written one. */
 #define KURVNEIST_LONGEST_BOOK 40962
 
-/* The elements of an answer. */
+/*
+ * The elements of an answer. In a finished run granted and kept together are exactly the FORKs of a one-unit run without
+ * symbol limit. In any other ending they are the FORKs so far.
+ */
 enum kurvneist_answer {
     KURVNEIST_ENDING = 0,   /* an ending's number */
     KURVNEIST_REWRITES = 1, /* rewrites made, at most the budget */
     KURVNEIST_ENTRIES = 2,  /* schedule entries used */
     KURVNEIST_GRANTED = 3,  /* FORKs that found an idle unit */
-    KURVNEIST_LENGTH = 4,   /* symbols of the present term, 1 to 1,024 */
-    KURVNEIST_ANSWER_LENGTH = 5
+    KURVNEIST_KEPT = 4,     /* FORKs that found nobody idle */
+    KURVNEIST_LENGTH = 5,   /* symbols of the present term, 1 to 1,024 */
+    KURVNEIST_ANSWER_LENGTH = 6
 };
 
 /* How a run ends. Only a finished run's term is a posting. */

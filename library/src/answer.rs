@@ -2,6 +2,8 @@
 
 use std::fmt::{self, Display, Formatter};
 
+use crate::raw::ANSWER_LENGTH;
+
 /// How a run ended. Only a finished run's term is a posting.
 #[derive(Clone, Copy, Debug, PartialEq, Eq, Hash)]
 pub enum Ending {
@@ -45,6 +47,9 @@ impl Display for Ending {
 }
 
 /// The values of a run that was not refused.
+///
+/// In a finished run granted and kept together are exactly the FORKs of a one-unit run without symbol limit, whatever the
+/// units and the schedule. In any other ending they are the FORKs so far.
 #[derive(Clone, Copy, Debug, PartialEq, Eq, Hash)]
 pub struct Answer {
     /// How the run ended.
@@ -55,20 +60,23 @@ pub struct Answer {
     pub entries: u64,
     /// FORKs that found an idle unit.
     pub granted: u64,
+    /// FORKs that found nobody idle, so that the unit kept the part.
+    pub kept: u64,
     /// Symbols of the present term, 1 to 1,024.
     pub length: usize,
 }
 
 impl Answer {
     /// The library is proved to answer the values of a run, and those fit.
-    pub(crate) fn of(values: [u64; 5]) -> Answer {
-        let [ending, rewrites, entries, granted, length] = values;
+    pub(crate) fn of(values: [u64; ANSWER_LENGTH]) -> Answer {
+        let [ending, rewrites, entries, granted, kept, length] = values;
         let ending = u8::try_from(ending).ok().and_then(Ending::new);
         Answer {
             ending: ending.expect("an ending is 0 to 3"),
             rewrites: u32::try_from(rewrites).expect("rewrites are at most the budget"),
             entries,
             granted,
+            kept,
             length: usize::try_from(length).expect("a term has at most 1,024 symbols"),
         }
     }

@@ -108,7 +108,7 @@ pub struct Request<'a> {
 /// # Ok::<(), kurvneist::Refusal>(())
 /// ```
 pub fn reduce(request: &Request, work: &mut [u8], output: &mut [u8]) -> Result<Answer, Refusal> {
-    let mut values = [0; 5];
+    let mut values = [0; raw::ANSWER_LENGTH];
     Refusal::check(raw::reduce(request, work, output, &mut values))?;
     Ok(Answer::of(values))
 }
@@ -131,7 +131,7 @@ pub fn reduce(request: &Request, work: &mut [u8], output: &mut [u8]) -> Result<A
 /// # Ok::<(), kurvneist::Refusal>(())
 /// ```
 pub fn payee(request: &Request, work: &mut [u8], output: &mut [u8]) -> Result<Answer, Refusal> {
-    let mut values = [0; 5];
+    let mut values = [0; raw::ANSWER_LENGTH];
     Refusal::check(raw::payee(request, work, output, &mut values))?;
     Ok(Answer::of(values))
 }

@@ -56,6 +56,9 @@ mod c {
     }
 }
 
+/// The numbers of an answer: ending, rewrites, entries, FORKs granted, FORKs kept and the term's length.
+pub const ANSWER_LENGTH: usize = 6;
+
 /// The bytes of work area that a run asks for, by the linked library.
 pub fn work_length() -> usize {
     // SAFETY: no pointer is passed.
@@ -68,10 +71,14 @@ pub fn output_length() -> usize {
     unsafe { c::kurvneist_output_length() }
 }
 
-/// A refusal's number, or 0. The answer is ending, rewrites, entries, granted FORKs and the term's length; five zeros
-/// after a refusal.
-pub fn reduce(request: &Request, work: &mut [u8], output: &mut [u8], answer: &mut [u64; 5]) -> u8 {
-    // SAFETY: every pointer and length are those of one slice, and `answer` has the five elements that are written.
+/// A refusal's number, or 0. The answer is all zeros after a refusal.
+pub fn reduce(
+    request: &Request,
+    work: &mut [u8],
+    output: &mut [u8],
+    answer: &mut [u64; ANSWER_LENGTH],
+) -> u8 {
+    // SAFETY: every pointer and length are those of one slice, and `answer` has the six elements that are written.
     unsafe {
         c::kurvneist_reduce(
             request.book.as_ptr(),
@@ -92,7 +99,12 @@ pub fn reduce(request: &Request, work: &mut [u8], output: &mut [u8], answer: &mu
 }
 
 /// The same where the request's line is a text.
-pub fn payee(request: &Request, work: &mut [u8], output: &mut [u8], answer: &mut [u64; 5]) -> u8 {
+pub fn payee(
+    request: &Request,
+    work: &mut [u8],
+    output: &mut [u8],
+    answer: &mut [u64; ANSWER_LENGTH],
+) -> u8 {
     // SAFETY: as for `reduce`, whose parameters these are.
     unsafe {
         c::kurvneist_payee(

@@ -60,6 +60,8 @@ fn the_header_says_the_same_lengths() {
         let line = format!("#define KURVNEIST_{name} {length}");
         assert!(header.lines().any(|found| found == line), "{line}");
     }
+    let line = format!("    KURVNEIST_ANSWER_LENGTH = {}", raw::ANSWER_LENGTH);
+    assert!(header.lines().any(|found| found == line), "{line}");
 }
 
 #[test]

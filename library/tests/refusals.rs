@@ -39,9 +39,9 @@ fn faulty_books() -> Vec<(u8, Vec<u8>)> {
 /// Puts a request in buffers of these lengths and sees that it is refused and nothing changes.
 fn check_refused(due: u8, request: &Request, work_length: usize, output_length: usize) {
     let (mut work, mut output) = (junk(work_length), junk(output_length));
-    let mut values = [u64::MAX; 5];
+    let mut values = [u64::MAX; raw::ANSWER_LENGTH];
     let number = raw::reduce(request, &mut work, &mut output, &mut values);
-    assert_eq!((number, values), (due, [0; 5]));
+    assert_eq!((number, values), (due, [0; raw::ANSWER_LENGTH]));
     assert_eq!(
         reduce(request, &mut work, &mut output).map_err(Refusal::number),
         Err(due)

@@ -2,6 +2,8 @@
 
 mod common;
 
+use std::collections::HashSet;
+
 use common::*;
 use kurvneist::{round_robin, written_book, Answer, Ending, Engine, Refusal, Request};
 
@@ -22,6 +24,7 @@ fn page_of_the_document() {
         rewrites: 2,
         entries: 29,
         granted: 0,
+        kept: 2,
         length: 3,
     };
     assert_eq!(posted(&page(&book_p(), &[0; 29])), (due, vec![1, 1, 0]));
@@ -31,7 +34,7 @@ fn page_of_the_document() {
 fn one_entry_less_is_cut() {
     let (answer, term) = posted(&page(&book_p(), &[0; 28]));
     assert_eq!((answer.ending, answer.entries), (Ending::Cut, 28));
-    assert_eq!((answer.rewrites, answer.granted), (2, 0));
+    assert_eq!((answer.rewrites, answer.granted, answer.kept), (2, 0, 2));
     assert_eq!(term, [1, 1, 0]);
 }
 
@@ -43,7 +46,7 @@ fn budget_of_one_is_spent() {
         ..page(&book, &[0; 29])
     });
     assert_eq!(answer.ending, Ending::Spent);
-    assert_eq!((answer.rewrites, answer.entries), (1, 23));
+    assert_eq!((answer.rewrites, answer.entries, answer.kept), (1, 23, 2));
     assert_eq!(term, [1, 2, 0, 1, 0]);
 }
 
@@ -55,7 +58,7 @@ fn main_unit_waits_for_a_unit_that_never_acts() {
         ..page(&book, &[0; 100])
     });
     assert_eq!((answer.ending, answer.entries), (Ending::Cut, 100));
-    assert_eq!((answer.rewrites, answer.granted), (0, 1));
+    assert_eq!((answer.rewrites, answer.granted, answer.kept), (0, 1, 0));
     assert_eq!(term, LINE_P);
 }
 
@@ -72,9 +75,59 @@ fn join_passes_at_entry_thirteen() {
     };
     let thirteen = up_to(13);
     assert_eq!((thirteen.ending, thirteen.entries), (Ending::Cut, 13));
-    assert_eq!((thirteen.granted, thirteen.rewrites), (1, 0));
+    assert_eq!(
+        (thirteen.granted, thirteen.kept, thirteen.rewrites),
+        (1, 0, 0)
+    );
     // Unit 0 had the JOIN on top at entry 13, and has the WHOLE under it at the next.
     assert_eq!(up_to(14).rewrites, 1);
+}
+
+/// The units take turns of 1 to 9 entries, upwards and downwards.
+fn schedules(units: u8) -> Vec<Vec<u8>> {
+    let upwards = (1..=9).map(|turn| {
+        let turns = round_robin(units, 5000 / turn).into_iter();
+        turns.flat_map(|unit| vec![unit; turn]).collect()
+    });
+    let upwards: Vec<Vec<u8>> = upwards.collect();
+    let turned = |schedule: &Vec<u8>| schedule.iter().map(|unit| units - 1 - unit).collect();
+    let downwards = upwards.iter().map(turned).collect();
+    [upwards, downwards].concat()
+}
+
+/// In a finished run granted and kept together are the FORKs of a run on one unit, whatever the units and the schedule.
+#[test]
+fn granted_and_kept_are_the_forks_of_one_unit() {
+    let book = book_p();
+    let counts = |line, units, schedule: &[u8]| {
+        let (answer, _) = posted(&Request {
+            line,
+            units,
+            budget: u32::MAX,
+            ..page(&book, schedule)
+        });
+        assert_eq!(answer.ending, Ending::Finished);
+        (answer.granted, answer.kept)
+    };
+    let sums = [2, 2, 1, 1, 0, 1, 0, 2, 1, 0, 2, 1, 1, 1, 0, 2, 1, 0, 1, 0];
+    let mut shares = HashSet::new();
+    for (line, forks) in [(&LINE_P[..], 2), (&sums, 15)] {
+        assert_eq!(counts(line, 1, &[0; 5000]), (0, forks));
+        for units in 2..=8 {
+            for schedule in schedules(units) {
+                let (granted, kept) = counts(line, units, &schedule);
+                assert_eq!(granted + kept, forks, "{units} units");
+                shares.insert((granted, kept));
+            }
+        }
+    }
+    assert!(
+        shares.contains(&(15, 0)) && shares.contains(&(8, 7)),
+        "{shares:?}"
+    );
+    // When the second FORK comes, unit 1 has carried out its EXIT and not yet its SLEEP.
+    let schedule = [vec![0; 2], vec![1; 5], vec![0; 100]].concat();
+    assert_eq!(counts(&LINE_P, 2, &schedule), (1, 1));
 }
 
 #[test]

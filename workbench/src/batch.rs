@@ -40,6 +40,7 @@ pub struct Summary {
     pub rewrites: u64,
     pub entries: u64,
     pub granted: u64,
+    pub kept: u64,
     pub time: Duration,
 }
 
@@ -52,6 +53,7 @@ impl Summary {
         self.rewrites += u64::from(answer.rewrites);
         self.entries += answer.entries;
         self.granted += answer.granted;
+        self.kept += answer.kept;
         match answer.ending {
             Ending::Finished => self.posted += 1,
             Ending::Spent => self.unfinished[0] += 1,
@@ -82,10 +84,11 @@ impl fmt::Display for Summary {
         }
         write!(
             f,
-            "rewrites {}, entries {}, FORKs granted {}, {:.2} s",
+            "rewrites {}, entries {}, FORKs granted {}, kept {}, {:.2} s",
             self.rewrites,
             self.entries,
             self.granted,
+            self.kept,
             self.time.as_secs_f64()
         )
     }
@@ -232,7 +235,7 @@ fn posted(
 
 pub fn counts(answer: &Answer) -> String {
     format!(
-        "rewrites {}, entries {}, granted {}",
-        answer.rewrites, answer.entries, answer.granted
+        "rewrites {}, entries {}, granted {}, kept {}",
+        answer.rewrites, answer.entries, answer.granted, answer.kept
     )
 }

@@ -58,7 +58,8 @@ fn a_posting_by_names() {
         kurvneist(&[&["post", "examples/ticks.book", line][..], more].concat())
     };
     let ran = post(&["--budget", "9", "--schedule", "0*29"]);
-    let finished = "end finished\nrewrites 2\nentries 29\ngranted 0\nterm tick(tick(end))\n";
+    let finished =
+        "end finished\nrewrites 2\nentries 29\ngranted 0\nkept 2\nterm tick(tick(end))\n";
     assert_eq!((ran.status, ran.output.as_str()), (0, finished));
     let ran = post(&["--budget", "9", "--schedule", "0*28"]);
     assert_eq!(
@@ -66,10 +67,12 @@ fn a_posting_by_names() {
         (1, Some("end cut"))
     );
     let ran = post(&["--budget", "1"]);
-    let spent = "end spent\nrewrites 1\nentries 23\ngranted 0\nterm tick(both(end, tick(end)))\n";
+    let spent =
+        "end spent\nrewrites 1\nentries 23\ngranted 0\nkept 2\nterm tick(both(end, tick(end)))\n";
     assert_eq!((ran.status, ran.output.as_str()), (1, spent));
     let ran = post(&["--units", "2", "--schedule", "0*100"]);
-    let cut = "end cut\nrewrites 0\nentries 100\ngranted 1\nterm both(tick(end), tick(end))\n";
+    let cut =
+        "end cut\nrewrites 0\nentries 100\ngranted 1\nkept 0\nterm both(tick(end), tick(end))\n";
     assert_eq!((ran.status, ran.output.as_str()), (1, cut));
 }
 

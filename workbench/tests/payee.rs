@@ -277,7 +277,7 @@ fn a_payee_is_posted_as_it_is_typed() {
         (ran.status, ran.output.as_str()),
         (
             0,
-            "end finished\nrewrites 0\nentries 3\ngranted 0\nterm end\n"
+            "end finished\nrewrites 0\nentries 3\ngranted 0\nkept 0\nterm end\n"
         )
     );
     // Without --payee it is a term by names, and mistyped.

@@ -50,20 +50,24 @@ fn count(trace: &Trace, deed: impl Fn(&Deed) -> bool) -> u64 {
 
 #[test]
 fn traces_equal_the_engine_and_count_what_it_counts() {
-    let (mut traced, mut endings, mut granted) = (0, [0; 4], 0);
+    let (mut traced, mut endings, mut granted, mut kept) = (0, [0; 4], 0, 0);
     runs(|named, request, trace| {
         traced += 1;
         endings[trace.ending as usize] += 1;
         granted += trace.granted;
+        kept += trace.kept;
         let rewrites = count(&trace, |deed| matches!(deed, Deed::Rewrite(_)));
         assert_eq!(rewrites, trace.rewrites);
         let grants = count(&trace, |deed| matches!(deed, Deed::Fork(Some(_))));
         assert_eq!(grants, trace.granted);
+        let keeps = count(&trace, |deed| matches!(deed, Deed::Fork(None)));
+        assert_eq!(keeps, trace.kept);
         assert!(trace.steps.len() <= request.schedule.len());
         states_fit(&trace);
         pictured(named, &trace);
     });
-    assert!(traced > 200 && granted > 200, "{traced} {granted}");
+    assert!(traced > 200, "{traced}");
+    assert!(granted > 200 && kept > 200, "{granted} {kept}");
     assert!(endings.iter().all(|number| *number > 0), "{endings:?}");
 }
 
@@ -126,10 +130,11 @@ fn a_difference_stops_the_trace() {
         budget: 9,
         schedule: &[0, 1].repeat(40),
     };
-    let lies: [fn(&mut Told); 5] = [
+    let lies: [fn(&mut Told); 6] = [
         |told| told.term[0] = 0,
         |told| told.rewrites += 1,
         |told| told.granted = 0,
+        |told| told.kept += 1,
         |told| told.entries -= 1,
         |told| told.ending = Ending::Finished,
     ];
@@ -158,6 +163,7 @@ fn honest(asked: &Request) -> Told {
         rewrites: posting.answer.rewrites.into(),
         entries: posting.answer.entries,
         granted: posting.answer.granted,
+        kept: posting.answer.kept,
         term: posting.term.to_vec(),
     }
 }
@@ -186,7 +192,10 @@ fn the_trace_of_document_01() {
     let last = "   13     0  JOIN   passes                                         \
                 both(tick(end), tick(end))";
     assert_eq!(rows[14], last);
-    assert_eq!(rows[16], "cut: rewrites 0, entries 13, FORKs granted 1");
+    assert_eq!(
+        rows[16],
+        "cut: rewrites 0, entries 13, FORKs granted 1, kept 0"
+    );
 }
 
 #[test]

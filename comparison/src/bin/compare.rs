@@ -9,7 +9,7 @@ use std::time::Instant;
 use comparison::broken::{BrokenModel, Slip, SLIPS};
 use comparison::compare::compare;
 use comparison::library::Library;
-use comparison::program::{compare_pages, Programs};
+use comparison::program::{compare_pages, Pages, Programs};
 use comparison::subject::Subject;
 
 /// So many cases meet every ending and every refusal, of lines and of texts.
@@ -93,9 +93,13 @@ fn subject(slip: Option<Slip>) -> Box<dyn Subject> {
 
 fn run(options: &Options) -> ExitCode {
     let numbers = options.from..options.from.saturating_add(options.count);
-    let same = match &options.programs {
-        Some(folder) => Programs::of(folder).map(|programs| run_pages(&programs, options, numbers)),
-        None => Ok(run_subject(options, numbers)),
+    let same = match (&options.programs, options.slip) {
+        (Some(folder), _) => {
+            Programs::of(folder).map(|programs| run_pages(&programs, options, numbers))
+        }
+        // A slip of the page shows in no answer.
+        (None, Some(slip @ Slip::Lines)) => Ok(run_pages(&BrokenModel { slip }, options, numbers)),
+        (None, _) => Ok(run_subject(options, numbers)),
     };
     match same {
         Ok(true) => {
@@ -129,9 +133,9 @@ fn run_subject(options: &Options, numbers: Range<u64>) -> bool {
 }
 
 /// Answers whether all pages are the model's.
-fn run_pages(programs: &Programs, options: &Options, numbers: Range<u64>) -> bool {
+fn run_pages(subject: &dyn Pages, options: &Options, numbers: Range<u64>) -> bool {
     let start = Instant::now();
-    let (pages, difference) = compare_pages(programs, options.seed, numbers);
+    let (pages, difference) = compare_pages(subject, options.seed, numbers);
     println!("pages    {pages}");
     tell_speed(options.seed, pages, start);
     if let Some(difference) = &difference {

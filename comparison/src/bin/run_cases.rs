@@ -89,15 +89,19 @@ fn line(case: &Case) -> String {
     let answer = match answer(case) {
         Err(number) => format!("refused {number} work kept"),
         Ok(answer) => format!(
-            "end {} rewrites {} entries {} granted {} term {} work zero",
+            "end {} rewrites {} entries {} {} term {} work zero",
             answer.ending,
             answer.rewrites,
             answer.entries,
-            answer.granted,
+            forks(&answer),
             hexadecimal(&answer.term),
         ),
     };
     format!("{}: {answer} output kept\n", case.name)
+}
+
+fn forks(answer: &Answer) -> String {
+    format!("granted {}", answer.granted)
 }
 
 fn answer(case: &Case) -> Result<Answer, u8> {
@@ -139,6 +143,7 @@ fn check(cases: &[Case]) {
         Slip::Copies,
         Slip::Order,
         Slip::Padding,
+        Slip::Twice,
     ] {
         let shows = |case: &Case| shows(case, slip);
         assert!(picked_cases().iter().any(shows), "no case shows {slip:?}");

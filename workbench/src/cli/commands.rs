@@ -126,11 +126,12 @@ pub fn post(parsed: &Parsed) -> Result<Status, Stop> {
         posting.map_err(|refusal| Stop::new(Status::NotPosted, letters::told(&refusal)))?;
     let answer = posting.answer;
     let page = format!(
-        "end {}\nrewrites {}\nentries {}\ngranted {}\nterm {}\n",
+        "end {}\nrewrites {}\nentries {}\ngranted {}\nkept {}\nterm {}\n",
         answer.ending,
         answer.rewrites,
         answer.entries,
         answer.granted,
+        answer.kept,
         printer::term(posting.term, &asked.named.names)
     );
     files::print(page.as_bytes())?;

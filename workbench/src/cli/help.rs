@@ -87,8 +87,10 @@ that text, which must declare as many, with the same arities.
 ";
 
 pub const POST: &str = "\
-Shows how the run ended (finished, spent, full or cut), the rewrites, entries and
-granted FORKs, and the term. It is a posting if the run finished.
+Shows how the run ended (finished, spent, full or cut), the rewrites and entries,
+the FORKs that were granted and those that found nobody idle and were kept, and
+the term. It is a posting if the run finished; granted and kept together are then
+the same for any number of units and any schedule.
 ";
 
 pub const TRACE: &str = "\

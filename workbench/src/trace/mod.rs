@@ -68,6 +68,7 @@ pub struct Trace {
     pub ending: Ending,
     pub rewrites: u64,
     pub granted: u64,
+    pub kept: u64,
 }
 
 #[derive(Clone, Debug)]
@@ -76,8 +77,8 @@ pub enum Failure {
     /// What the engine answers, and what the model has, after an entry.
     Difference {
         entry: usize,
-        engine: Told,
-        model: Told,
+        engine: Box<Told>,
+        model: Box<Told>,
     },
 }
 
@@ -105,6 +106,7 @@ pub struct Told {
     pub rewrites: u64,
     pub entries: u64,
     pub granted: u64,
+    pub kept: u64,
     pub term: Vec<u8>,
 }
 
@@ -112,8 +114,8 @@ impl fmt::Display for Told {
     fn fmt(&self, f: &mut fmt::Formatter) -> fmt::Result {
         write!(
             f,
-            "{}, rewrites {}, entries {}, granted {}, term {:?}",
-            self.ending, self.rewrites, self.entries, self.granted, self.term
+            "{}, rewrites {}, entries {}, granted {}, kept {}, term {:?}",
+            self.ending, self.rewrites, self.entries, self.granted, self.kept, self.term
         )
     }
 }
@@ -145,6 +147,7 @@ pub fn run_form(
             rewrites: posting.answer.rewrites.into(),
             entries: posting.answer.entries,
             granted: posting.answer.granted,
+            kept: posting.answer.kept,
             term: posting.term.to_vec(),
         })
     };
@@ -191,6 +194,7 @@ fn run_form_against(
     progress.clear();
     trace.rewrites = machine.rewrites;
     trace.granted = machine.granted;
+    trace.kept = machine.kept;
     Ok(trace)
 }
 
@@ -212,14 +216,15 @@ fn compare(
         rewrites: machine.rewrites,
         entries: machine.entries,
         granted: machine.granted,
+        kept: machine.kept,
         term: machine.term.preorder(),
     };
     match engine == model {
         true => Ok(()),
         false => Err(Failure::Difference {
             entry,
-            engine,
-            model,
+            engine: engine.into(),
+            model: model.into(),
         }),
     }
 }
@@ -233,6 +238,7 @@ impl Trace {
             ending: Ending::Cut,
             rewrites: 0,
             granted: 0,
+            kept: 0,
         }
     }
 

@@ -143,11 +143,12 @@ fn exit(unit: usize, count: usize, woken: bool) -> String {
 /// The ending and counts in one line.
 pub fn closing(trace: &Trace) -> String {
     format!(
-        "{}: rewrites {}, entries {}, FORKs granted {}",
+        "{}: rewrites {}, entries {}, FORKs granted {}, kept {}",
         trace.ending,
         trace.rewrites,
         trace.steps.len(),
-        trace.granted
+        trace.granted,
+        trace.kept
     )
 }
 
