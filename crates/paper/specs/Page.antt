@@ -155,7 +155,7 @@ kept-word = 107 ∷ 101 ∷ 112 ∷ 116 ∷ []
 abbrev pub term-word : List ℕ
 term-word = 116 ∷ 101 ∷ 114 ∷ 109 ∷ []
 
--- of a run, whatever its ending: FORKs granted so far, then those that found nobody idle (document 02, Change 2)
+-- `kept` counts the FORKs that found nobody idle so far, in every ending (document 02, Change 2)
 unfoldable pub answer-lines : Result Answer → List ℕ
 unfolding line preorder
 answer-lines (refused n) = line refused-word (n ∷ [])
