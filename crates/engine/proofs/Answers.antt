@@ -1,4 +1,4 @@
--- What is answered, place by place of document 01's table, and what a refusal leaves. Assumes nothing.
+-- What is answered, place by place of document 01's table, by either reader; what a refusal leaves. Assumes nothing.
 use mathlib.Core.Bool.{true, false}
 use mathlib.Core.List.{List}
 use mathlib.Core.Option.{Option, none, some}
@@ -8,75 +8,68 @@ use lib.ListN.{length, take}
 use Rattle.paper.specs.Result.{Result, refused, accepted, then}
 use Rattle.paper.specs.Book.{Term, Book}
 use Rattle.paper.specs.Reader.{readBook}
-use Rattle.paper.specs.Line.{readLine}
 use Rattle.paper.specs.Run.{Answer, run}
-use Rattle.paper.specs.Page.{Request, all-below, frame-fault, unless, run-checked, answerOf}
+use Rattle.paper.specs.Page.{Request, all-below, frame-fault, unless, run-checked, LineReader, answerBy}
 use Rattle.paper.proofs.Readers.{refused-accepted}
 use Rattle.paper.proofs.Prefix.{read-prefix}
-use Rattle.tables.specs.Layout.{arity-in}
-use Rattle.tables.specs.Tables.{book-of}
-use Rattle.line.specs.Line.{judgement}
-use Rattle.line.specs.declared.Line as L
-use Rattle.line.proofs.Checking.{sound-accepted, refused-refused}
 use Rattle.entry.specs.State.{limited}
-use Rattle.engine.specs.Spec.{published, values-of, request, answered, RunOf, Reduced}
-use Rattle.engine.specs.Contracts.{Opened}
+use Rattle.engine.specs.Spec.{published, values-of, request, answeredBy, RunBy, ReducedBy}
 use Rattle.engine.specs.declared.Answer as D
 
-module _ (q : Request) where
+module _ (read : LineReader) (q : Request) where
   -- what is answered for a reading of the line, and for one of the book
   abbrev for-line : Book → Result Term → Result Answer
   for-line B x = then x (λ t. run-checked q B t)
 
   abbrev for-book : Result Book → Result Answer
-  for-book x = then x (λ B. for-line B (readLine B (q .line)))
+  for-book x = then x (λ B. for-line B (read B (q .line)))
 
-  of-frame : (f : Option ℕ) → frame-fault published q ≡ f → answerOf published q ≡ unless f (for-book (readBook (q .book)))
-  unfolding answerOf
+  of-frame : (f : Option ℕ) → frame-fault published q ≡ f → answerBy read published q ≡ unless f (for-book (readBook (q .book)))
+  unfolding answerBy
   of-frame f e = ap (λ (f : Option ℕ). unless f (for-book (readBook (q .book)))) e
 
   -- units not 1 to 8, or a buffer too short
-  pub by-frame : (k : ℕ) → frame-fault published q ≡ some k → answerOf published q ≡ refused k
+  pub by-frame : (k : ℕ) → frame-fault published q ≡ some k → answerBy read published q ≡ refused k
   unfolding unless
   by-frame k e = of-frame (some k) e
 
   module _ (f : frame-fault published q ≡ none) where
-    of-book : (x : Result Book) → readBook (q .book) ≡ x → answerOf published q ≡ for-book x
+    of-book : (x : Result Book) → readBook (q .book) ≡ x → answerBy read published q ≡ for-book x
     unfolding unless
     of-book x e = of-frame none f ∙ ap for-book e
 
-    pub by-book : (k : ℕ) → readBook (q .book) ≡ refused k → answerOf published q ≡ refused k
+    pub by-book : (k : ℕ) → readBook (q .book) ≡ refused k → answerBy read published q ≡ refused k
     unfolding then
     by-book k e = of-book (refused k) e
 
     module _ (B : Book) (b : readBook (q .book) ≡ accepted B) where
-      of-line : (x : Result Term) → readLine B (q .line) ≡ x → answerOf published q ≡ for-line B x
+      of-line : (x : Result Term) → read B (q .line) ≡ x → answerBy read published q ≡ for-line B x
       unfolding then
       of-line x e = of-book (accepted B) b ∙ ap (for-line B) e
 
-      pub by-line : (k : ℕ) → readLine B (q .line) ≡ refused k → answerOf published q ≡ refused k
+      pub by-line : (k : ℕ) → read B (q .line) ≡ refused k → answerBy read published q ≡ refused k
       unfolding then
       by-line k e = of-line (refused k) e
 
-      module _ (t : Term) (l : readLine B (q .line) ≡ accepted t) where
-        of-run : answerOf published q ≡ run-checked q B t
+      module _ (t : Term) (l : read B (q .line) ≡ accepted t) where
+        pub of-run : answerBy read published q ≡ run-checked q B t
         unfolding then
         of-run = of-line (accepted t) l
 
         -- an entry that names no unit
-        pub by-schedule : all-below (q .units) (q .schedule) ≡ false → answerOf published q ≡ refused 14
+        pub by-schedule : all-below (q .units) (q .schedule) ≡ false → answerBy read published q ≡ refused 14
         unfolding run-checked
         by-schedule e = of-run ∙ rw (e, run-checked)
 
         pub by-run : all-below (q .units) (q .schedule) ≡ true →
-            answerOf published q ≡ accepted (run B (limited (q .budget)) (q .units) (q .schedule) t)
+            answerBy read published q ≡ accepted (run B (limited (q .budget)) (q .units) (q .schedule) t)
         unfolding run-checked
         by-run e = of-run ∙ rw (e, run-checked)
 
 -- a refusal, with the buffers as they were
-pub refuses : {book line : List ℕ} {units budget : ℕ} {schedule work output : List ℕ} (k : ℕ) →
-    answered book line units budget schedule work output ≡ refused k →
-    Reduced book line units budget schedule work output work output (D.Answer.Refused k)
+pub refuses : {read : LineReader} {book line : List ℕ} {units budget : ℕ} {schedule work output : List ℕ} (k : ℕ) →
+    answeredBy read book line units budget schedule work output ≡ refused k →
+    ReducedBy read book line units budget schedule work output work output (D.Answer.Refused k)
 refuses k e = record {
   answer = ap values-of (sym e);
   unchanged = λ j h. (refl, refl);
@@ -85,25 +78,16 @@ refuses k e = record {
   run-of = λ A h. absurd (refused-accepted (sym e ∙ h));
 }
 
--- THE LINE, by the check's judgement
-
-module _ {book operators rules : List ℕ} {n : ℕ} (o : Opened book operators rules n) (line : List ℕ) where
-  pub line-refused : (k : ℕ) → judgement n (arity-in operators) line ≡ L.Line.Refused k → readLine (book-of book) line ≡ refused k
-  line-refused k e = refused-refused (book-of book) (o .count) (o .tables .tables .operators-in) line k e
-
-  pub line-accepted : judgement n (arity-in operators) line ≡ L.Line.Sound → (t : Term) × (readLine (book-of book) line ≡ accepted t)
-  line-accepted e = sound-accepted (book-of book) (o .count) (o .tables .tables .operators-in) line e
-
 -- WHAT STANDS BEHIND a book's first 65,536 bytes is not looked at
 
-module _ (book line : List ℕ) (units budget : ℕ) (schedule work output : List ℕ) (long : 65536 ≤ length book) where
-  same-answer : answered book line units budget schedule work output ≡ answered (take 65536 book) line units budget schedule work output
-  unfolding answerOf frame-fault run-checked
+module _ (read : LineReader) (book line : List ℕ) (units budget : ℕ) (schedule work output : List ℕ) (long : 65536 ≤ length book) where
+  same-answer : answeredBy read book line units budget schedule work output ≡ answeredBy read (take 65536 book) line units budget schedule work output
+  unfolding answerBy frame-fault run-checked
   same-answer =
       let q : Request = request book line units budget schedule work output in
-      ap (λ (x : Result Book). unless (frame-fault published q) (for-book q x)) (read-prefix book long)
+      ap (λ (x : Result Book). unless (frame-fault published q) (for-book read q x)) (read-prefix book long)
 
-  same-run : (A : Answer) → RunOf (take 65536 book) line units budget schedule work output A → RunOf book line units budget schedule work output A
+  same-run : (A : Answer) → RunBy read (take 65536 book) line units budget schedule work output A → RunBy read book line units budget schedule work output A
   same-run A r = record {
     rules = r .rules;
     term = r .term;
@@ -119,14 +103,14 @@ module _ (book line : List ℕ) (units budget : ℕ) (schedule work output : Lis
     fits = r .fits;
   }
 
-pub reduced-prefix : {book line : List ℕ} {units budget : ℕ} {schedule work output work′ output′ : List ℕ} {r : D.Answer} → 65536 ≤ length book →
-    Reduced (take 65536 book) line units budget schedule work output work′ output′ r → Reduced book line units budget schedule work output work′ output′ r
-reduced-prefix {book} {line} {units} {budget} {schedule} {work} {output} long h =
-    let e = sym (same-answer book line units budget schedule work output long) in
+pub reduced-prefix : {read : LineReader} {book line : List ℕ} {units budget : ℕ} {schedule work output work′ output′ : List ℕ} {r : D.Answer} → 65536 ≤ length book →
+    ReducedBy read (take 65536 book) line units budget schedule work output work′ output′ r → ReducedBy read book line units budget schedule work output work′ output′ r
+reduced-prefix {read} {book} {line} {units} {budget} {schedule} {work} {output} long h =
+    let e = sym (same-answer read book line units budget schedule work output long) in
     record {
       answer = h .answer ∙ ap values-of e;
       unchanged = λ k x. h .unchanged k (e ∙ x);
       cleared = λ A x. h .cleared A (e ∙ x);
       written = λ A x. h .written A (e ∙ x);
-      run-of = λ A x. same-run book line units budget schedule work output long A (h .run-of A (e ∙ x));
+      run-of = λ A x. same-run read book line units budget schedule work output long A (h .run-of A (e ∙ x));
     }

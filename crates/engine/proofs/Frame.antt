@@ -1,5 +1,6 @@
 -- Laws of the run's frame: the number of its refusal, case by case, and that 0 is none. Assumes nothing.
 use mathlib.Core.Bool.{Bool, true, false}
+use mathlib.Core.List.{[]}
 use mathlib.Core.Logic.{_⊎_, inl, inr}
 use mathlib.Core.Option.{none, some, Option·some-ne-none}
 use mathlib.Core.Path.{_≡_, refl, sym, ap, _∙_}
@@ -89,8 +90,11 @@ module _ (q : Request) where
     | inr p ↦ p .2 ∙ ap some (sym (e ∙ by-number ∙ ap fault-number (p .2)))
   ]
 
-  pub frame-of : frame-fault published q ≡ none → Fits
-  frame-of e = elim outcome [
-    | inl p ↦ p .1
-    | inr p ↦ absurd (Option·some-ne-none (p .0) (sym (p .2) ∙ e))
-  ]
+-- so the numbers lie within their bounds
+pub frame-of : {units work output : ℕ} → fault units work output ≡ 0 → Frame units work output
+frame-of {units} {work} {output} e =
+    let q : Request = record { book = []; line = []; units = units; budget = 0; schedule = []; work = work; output = output } in
+    elim (outcome q) [
+      | inl p ↦ p .1
+      | inr p ↦ absurd (Option·some-ne-none (p .0) (sym (p .2) ∙ framed q e))
+    ]

@@ -5,15 +5,15 @@ use Prim.Native.Nat.{ℕ}
 use lib.ListN.{length, replicate}
 use Rattle.paper.specs.Result.{Result, refused, accepted}
 use Rattle.paper.specs.Run.{Answer}
-use Rattle.paper.specs.Page.{answerOf}
-use Rattle.engine.specs.Spec.{published, values, values-of, answered, Reduced}
+use Rattle.paper.specs.Page.{LineReader, answerBy}
+use Rattle.engine.specs.Spec.{published, values, values-of, answeredBy, ReducedBy}
 use Rattle.engine.specs.declared.Answer as D
 
 -- only the work area's length is asked with
-same-answer : (book line : List ℕ) (units budget : ℕ) (schedule work work₂ output : List ℕ) → length work ≡ length work₂ →
-    answered book line units budget schedule work output ≡ answered book line units budget schedule work₂ output
-same-answer book line units budget schedule work work₂ output e =
-    ap (λ (n : ℕ). answerOf published (record {
+same-answer : (read : LineReader) (book line : List ℕ) (units budget : ℕ) (schedule work work₂ output : List ℕ) → length work ≡ length work₂ →
+    answeredBy read book line units budget schedule work output ≡ answeredBy read book line units budget schedule work₂ output
+same-answer read book line units budget schedule work work₂ output e =
+    ap (λ (n : ℕ). answerBy read published (record {
       book = book;
       line = line;
       units = units;
@@ -23,16 +23,16 @@ same-answer book line units budget schedule work work₂ output e =
       output = length output;
     })) e
 
-module _ {book line : List ℕ} {units budget : ℕ} {schedule work work₂ output work′ work₂′ output′ output₂′ : List ℕ} {r r₂ : D.Answer}
-    (long : length work ≡ length work₂) (one : Reduced book line units budget schedule work output work′ output′ r)
-    (two : Reduced book line units budget schedule work₂ output work₂′ output₂′ r₂) where
-  abbrev same : answered book line units budget schedule work output ≡ answered book line units budget schedule work₂ output
-  same = same-answer book line units budget schedule work work₂ output long
+module _ {read : LineReader} {book line : List ℕ} {units budget : ℕ} {schedule work work₂ output work′ work₂′ output′ output₂′ : List ℕ} {r r₂ : D.Answer}
+    (long : length work ≡ length work₂) (one : ReducedBy read book line units budget schedule work output work′ output′ r)
+    (two : ReducedBy read book line units budget schedule work₂ output work₂′ output₂′ r₂) where
+  abbrev same : answeredBy read book line units budget schedule work output ≡ answeredBy read book line units budget schedule work₂ output
+  same = same-answer read book line units budget schedule work work₂ output long
 
   same-output : output′ ≡ output₂′
-  same-output = go (answered book line units budget schedule work output) refl
+  same-output = go (answeredBy read book line units budget schedule work output) refl
     where
-      go : (x : Result Answer) → answered book line units budget schedule work output ≡ x → output′ ≡ output₂′
+      go : (x : Result Answer) → answeredBy read book line units budget schedule work output ≡ x → output′ ≡ output₂′
       go (refused k) e = one .unchanged k e .1 ∙ sym (two .unchanged k (sym same ∙ e) .1)
       go (accepted A) e = one .written A e ∙ sym (two .written A (sym same ∙ e))
 
@@ -41,5 +41,5 @@ module _ {book line : List ℕ} {units budget : ℕ} {schedule work work₂ outp
   forgets = (one .answer ∙ ap values-of same ∙ sym (two .answer), same-output)
 
   -- and, if accepted, the same work area
-  pub forgets-work : (A : Answer) → answered book line units budget schedule work output ≡ accepted A → work′ ≡ work₂′
+  pub forgets-work : (A : Answer) → answeredBy read book line units budget schedule work output ≡ accepted A → work′ ≡ work₂′
   forgets-work A e = one .cleared A e ∙ ap (λ (n : ℕ). replicate n 0) long ∙ sym (two .cleared A (sym same ∙ e))

@@ -1,16 +1,18 @@
 -- An accepted run: what run_schedule asks for, and that what it leaves is the definition's answer. Assumes nothing.
+use mathlib.Core.Bool.{true}
 use mathlib.Core.List.{List, _++_}
 use mathlib.Core.Path.{_≡_, refl, sym, ap, ap₂, _∙_, subst, subst₂}
 use Prim.Native.Nat.{ℕ, _+_, _^_, _≤_, _<_}
 use native.Mathlib.Omega.{arith}
-use lib.ListN.{length, take, drop, replicate, length-append, length-drop}
-use lib.Seq.{take-at, length-take-le}
+use lib.ListN.{length, take, drop, replicate}
+use lib.Seq.{length-take-le}
 use borrow.Author.Tests.{le-ltb}
 use Rattle.paper.specs.Result.{accepted}
 use Rattle.paper.specs.Tree.{Correct, size, preorder}
 use Rattle.paper.specs.Book.{Book, arity}
 use Rattle.paper.specs.Run.{Answer, run}
-use Rattle.paper.specs.Page.{Request}
+use Rattle.paper.specs.Line.{readLine}
+use Rattle.paper.specs.Page.{Request, all-below}
 use Rattle.paper.specs.Sound.{All}
 use Rattle.paper.proofs.Readers.{accepted-injective, refused-accepted}
 use Rattle.paper.proofs.Books.{read-sound}
@@ -31,29 +33,27 @@ use Rattle.run.specs.Contracts as Run
 use Rattle.run.specs.Contracts.{beginning, Runnable, Bounded}
 use Rattle.run.specs.declared.Run as R
 use Rattle.engine.specs.Spec.{values, values-of, request, answered, RunOf, Reduced}
-use Rattle.engine.specs.Contracts.{Framed, Checked}
+use Rattle.engine.specs.Contracts.{Framed, Loaded}
 use Rattle.engine.specs.declared.Answer as D
 use Rattle.engine.proofs.Schedule.{named}
-use Rattle.engine.proofs.Frame.{Frame, frame-of}
+use Rattle.engine.proofs.Frame.{Frame, framed, frame-of}
 use Rattle.engine.proofs.Answers.{by-run}
 
-module _ {book operators rules line : List ℕ} {units budget : ℕ} {schedule work output : List ℕ} (f : Framed book line units budget schedule work output)
-    (s : Checked book operators rules line units schedule) where
+module _ (budget : ℕ) (schedule : List ℕ) {book operators rules symbols work output : List ℕ} {n units : ℕ} (f : Framed book units work output)
+    (s : Loaded book operators rules symbols n) (names : all-below units schedule ≡ true) where
   abbrev B : Book
   B = book-of book
 
-  abbrev asked : Request
-  asked = request book line units budget schedule work output
+  -- the symbols in front, which are a line
+  abbrev line : List ℕ
+  line = take n symbols
 
   abbrev fits : Frame units (length work) (length output)
-  fits = frame-of asked (f .faultless)
+  fits = frame-of (f .faultless)
 
-  -- the line is a correct term's preorder, of known operators
+  -- they are a correct term's preorder, of known operators
   of-line : Correct (arity B) (s .term) × (preorder (s .term) ≡ line) × (length line ≤ 1024) × All (λ o. o < length (B .operators)) line
-  of-line = line-correct B line (s .term) (s .line-read)
-
-  pub short : length line ≤ 1024
-  short = of-line .2
+  of-line = line-correct B line (s .term) (s .term-read)
 
   -- the machine's first state, by the book's tables
   reached-first : Reached B (limited budget) (flat-start units line)
@@ -67,24 +67,18 @@ module _ {book operators rules line : List ℕ} {units budget : ℕ} {schedule w
   unfolding flat-start
   known-first = of-line .3
 
-  -- behind load and start: the line's symbols, and the units of the start, as many as there are
-  module _ (base : List ℕ) {symbols w cells : List ℕ} {l : Limits} (long : length base ≡ 1024) (loaded : symbols ≡ line ++ drop (length line) base)
-      (started : Started (store w cells)) (same : l .units ≡ units) (limit : l .budget ≡ budget) (small : budget < 2 ^ 32) where
+  -- behind start: the units of the start, as many as there are
+  module _ {w cells : List ℕ} {l : Limits} (started : Started (store w cells)) (same : l .units ≡ units) (limit : l .budget ≡ budget)
+      (small : budget < 2 ^ 32) where
     abbrev first : FlatState
-    first = state symbols w cells (beginning (length line)) l
-
-    loaded-long : length symbols ≡ 1024
-    loaded-long = ap length loaded ∙ length-append line (drop (length line) base) ∙ rw length-drop (omega (arith, long, short))
+    first = state symbols w cells (beginning n) l
 
     first-is : first ≡ flat-start units line
     unfolding flat-start
-    first-is = rw (
-      ap (take (length line)) loaded ∙ take-at line (drop (length line) base) (length line) refl,
-      ap (units-in (store w cells)) same ∙ started .units units line (fits .some-units) (fits .few),
-    )
+    first-is = rw (ap (units-in (store w cells)) same ∙ started .units units line (fits .some-units) (fits .few))
 
-    pub arrays : (scratch : List ℕ) → length scratch ≡ 1024 → Arrays symbols scratch w cells (beginning (length line)) l
-    arrays scratch k = record { symbols-long = loaded-long; scratch-long = k; most = short; fit = started .fit; few = omega (arith, same, fits .few) }
+    pub arrays : (scratch : List ℕ) → length scratch ≡ 1024 → Arrays symbols scratch w cells (beginning n) l
+    arrays scratch k = record { symbols-long = s .long; scratch-long = k; most = s .most; fit = started .fit; few = omega (arith, same, fits .few) }
 
     pub runnable : Runnable book operators rules l schedule first
     runnable = record {
@@ -94,7 +88,7 @@ module _ {book operators rules line : List ℕ} {units budget : ℕ} {schedule w
         reached = subst₂ (λ (b : ℕ) (x : FlatState). Reached B (limited b) x) (sym limit) (sym first-is) reached-first;
         known = subst (λ (x : FlatState). All (λ o. o < length (B .operators)) (x .symbols)) (sym first-is) known-first;
       };
-      named = rw same (named units schedule (s .units-named));
+      named = rw same (named units schedule names);
       small = rw limit small;
     }
 
@@ -108,7 +102,7 @@ module _ {book operators rules line : List ℕ} {units budget : ℕ} {schedule w
       unfolding flat-run
       answer-is =
           is ∙ ap₂ (λ (b : ℕ) (x : FlatState). flat-run-from B (limited b) 0 schedule x) limit first-is
-          ∙ same-run-read book line B (s .term) (s .tables .read) (s .line-read) (limited budget) units schedule
+          ∙ same-run-read book line B (s .term) (s .tables .read) (s .term-read) (limited budget) units schedule
 
       term-is : take (r .length) symbols′ ≡ preorder (A .term)
       unfolding flatten
@@ -134,13 +128,13 @@ module _ {book operators rules line : List ℕ} {units budget : ℕ} {schedule w
 
       run-of : RunOf book line units budget schedule work output A
       run-of =
-          let d = demand-3 book line B (s .term) (s .tables .read) (s .line-read) units budget schedule in
+          let d = demand-3 book line B (s .term) (s .tables .read) (s .term-read) units budget schedule in
           record {
             rules = B;
             term = s .term;
             book-read = s .tables .read;
-            line-read = s .line-read;
-            units-named = s .units-named;
+            line-read = s .term-read;
+            units-named = names;
             is = refl;
             demand-3 = d;
             posting = d .posting;
@@ -162,7 +156,9 @@ module _ {book operators rules line : List ℕ} {units budget : ℕ} {schedule w
       }
         where
           told : answered book line units budget schedule work output ≡ accepted A
-          told = by-run asked (f .faultless) B (s .tables .read) (s .term) (s .line-read) (s .units-named)
+          told =
+              let q : Request = request book line units budget schedule work output in
+              by-run readLine q (framed q (f .faultless)) B (s .tables .read) (s .term) (s .term-read) names
 
           only : {A′ : Answer} → answered book line units budget schedule work output ≡ accepted A′ → A ≡ A′
           only h = accepted-injective (sym told ∙ h)

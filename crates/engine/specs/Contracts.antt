@@ -1,34 +1,16 @@
--- What the functions behind the entry point ask of each other. Assumes nothing.
-use mathlib.Core.Bool.{true}
+-- What the functions behind the entry points ask of each other. Assumes nothing.
 use mathlib.Core.List.{List, []}
 use mathlib.Core.Option.{Option, none, some}
 use mathlib.Core.Path.{_≡_}
 use Prim.Native.Nat.{ℕ, _≤_}
-use lib.ListN.{length}
-use Rattle.paper.specs.Result.{accepted}
-use Rattle.paper.specs.Book.{Term}
+use lib.ListN.{length, take}
+use Rattle.paper.specs.Result.{refused, accepted}
+use Rattle.paper.specs.Book.{Term, Book}
 use Rattle.paper.specs.Line.{readLine}
-use Rattle.paper.specs.Page.{all-below, frame-fault}
-use Rattle.tables.specs.Tables.{book-of, TablesOf}
-use Rattle.engine.specs.Spec.{published, request}
-
-module _ (book line : List ℕ) (units budget : ℕ) (schedule work output : List ℕ) where
-  -- the run's frame is without fault, and the book no longer than any book is
-  pub record Framed : Type 0 where
-    pub faultless : frame-fault published (request book line units budget schedule work output) ≡ none
-    pub short : length book ≤ 65536
-
--- the book is read, these are its tables, and it has n operators
-pub record Opened (book operators rules : List ℕ) (n : ℕ) : Type 0 where
-  pub tables : TablesOf book operators rules
-  pub count : length (book-of book .operators) ≡ n
-
--- these are the book's tables, the line is a term by it, and the schedule names the units
-pub record Checked (book operators rules line : List ℕ) (units : ℕ) (schedule : List ℕ) : Type 0 where
-  pub tables : TablesOf book operators rules
-  pub term : Term
-  pub line-read : readLine (book-of book) line ≡ accepted term
-  pub units-named : all-below units schedule ≡ true
+use Rattle.paper.specs.Page.{LineReader, frame-fault}
+use Rattle.tables.specs.Tables.{book-of, Operators, TablesOf}
+use Rattle.text.specs.declared.Text as T
+use Rattle.engine.specs.Spec.{published}
 
 -- the number of the frame's refusal, by the numbers that are looked at, or 0
 abbrev pub fault-number : Option ℕ → ℕ
@@ -38,3 +20,32 @@ fault-number (some k) = k
 abbrev pub fault : ℕ → ℕ → ℕ → ℕ
 fault units work output =
     fault-number (frame-fault published (record { book = []; line = []; units = units; budget = 0; schedule = []; work = work; output = output }))
+
+-- the run's frame is without fault, and the book no longer than any book is
+pub record Framed (book : List ℕ) (units : ℕ) (work output : List ℕ) : Type 0 where
+  pub faultless : fault units (length work) (length output) ≡ 0
+  pub short : length book ≤ 65536
+
+-- these are the book's tables, and the first n symbols are a term by it
+pub record Loaded (book operators rules symbols : List ℕ) (n : ℕ) : Type 0 where
+  pub tables : TablesOf book operators rules
+  pub long : length symbols ≡ 1024
+  pub most : n ≤ 1024
+  pub term : Term
+  pub term-read : readLine (book-of book) (take n symbols) ≡ accepted term
+
+-- the line is read as a term, which the first n symbols are
+pub record Taken (read : LineReader) (B : Book) (line symbols : List ℕ) (n : ℕ) : Type 0 where
+  pub long : length symbols ≡ 1024
+  pub most : n ≤ 1024
+  pub term : Term
+  pub line-read : read B line ≡ accepted term
+  pub term-read : readLine B (take n symbols) ≡ accepted term
+
+abbrev pub Read-as : LineReader → Book → List ℕ → List ℕ → T.Text → Type 0
+Read-as read B line symbols (T.Text.Read n) = Taken read B line symbols n
+Read-as read B line symbols (T.Text.Refused k) = read B line ≡ refused k
+
+-- by every book of n operators with these arities
+pub record Term-read (read : LineReader) (n : ℕ) (operators line symbols : List ℕ) (r : T.Text) : Type 0 where
+  pub is : (B : Book) → length (B .operators) ≡ n → Operators (B .operators) operators → Read-as read B line symbols r

@@ -1,5 +1,5 @@
--- The entry point of a run: which definition its answer equals, and what becomes of the lent buffers (document 01, 'What is checked where', 'How a
--- run ends', 'What a reviewer will try, in order'). Assumes nothing.
+-- The entry points of a run: which definition their answers equal, and what becomes of the lent buffers (document 01, 'What is checked where', 'How a
+-- run ends', 'What a reviewer will try, in order'; document 02, Change 1). Assumes nothing.
 use mathlib.Core.Bool.{true}
 use mathlib.Core.List.{List, _++_}
 use mathlib.Core.Path.{_≡_}
@@ -10,15 +10,17 @@ use Rattle.paper.specs.Tree.{preorder}
 use Rattle.paper.specs.Book.{Term, Book}
 use Rattle.paper.specs.Reader.{readBook}
 use Rattle.paper.specs.Line.{readLine}
+use Rattle.paper.specs.Text.{readText}
 use Rattle.paper.specs.Reduction.{rewrites, Reduces}
 use Rattle.paper.specs.Machine.{Ending}
 use Rattle.paper.specs.Run.{Answer, run}
 use Rattle.paper.specs.OneUnit.{Grants}
 use Rattle.paper.specs.Demand3.{Demand3}
-use Rattle.paper.specs.Page.{Request, all-below, answerOf}
+use Rattle.paper.specs.Page.{Request, LineReader, all-below, answerBy}
 use Rattle.entry.specs.State.{limited}
 use Rattle.run.specs.Contracts.{ending}
 use Rattle.engine.specs.declared.Answer as D
+use Rattle.engine.specs.declared.Form as F
 
 -- the published length of the work area: eight stacks of 1,026 frames of three bytes
 abbrev pub published : ℕ
@@ -47,30 +49,36 @@ values-of (refused k) = refused k
 values-of (accepted A) =
     accepted (record { ending = A .ending; rewrites = A .rewrites; entries = A .entries; granted = A .granted; length = length (preorder (A .term)) })
 
--- THE ENTRY POINT
+-- THE ENTRY POINTS
 
-module _ (book line : List ℕ) (units budget : ℕ) (schedule work output : List ℕ) where
-  -- of the two buffers that are lent to be written, only their lengths are asked with
-  abbrev pub request : Request
-  request = record {
-    book = book;
-    line = line;
-    units = units;
-    budget = budget;
-    schedule = schedule;
-    work = length work;
-    output = length output;
-  }
+-- how what stands where the term stands is read
+abbrev pub reader : F.Form → LineReader
+reader F.Form.Term = readLine
+reader F.Form.Text = readText
 
-  abbrev pub answered : Result Answer
-  answered = answerOf published request
+-- of the two buffers that are lent to be written, only their lengths are asked with
+abbrev pub request : List ℕ → List ℕ → ℕ → ℕ → List ℕ → List ℕ → List ℕ → Request
+request book line units budget schedule work output = record {
+  book = book;
+  line = line;
+  units = units;
+  budget = budget;
+  schedule = schedule;
+  work = length work;
+  output = length output;
+}
 
-  -- A is the answer of a run by the book that was read, from the term that the line is
-  pub record RunOf (A : Answer) : Type 0 where
+-- by either reader
+module _ (read : LineReader) (book line : List ℕ) (units budget : ℕ) (schedule work output : List ℕ) where
+  abbrev pub answeredBy : Result Answer
+  answeredBy = answerBy read published (request book line units budget schedule work output)
+
+  -- A is the answer of a run by the book that was read, from the term that the line is read as
+  pub record RunBy (A : Answer) : Type 0 where
     pub rules : Book
     pub term : Term
     pub book-read : readBook book ≡ accepted rules
-    pub line-read : readLine rules line ≡ accepted term
+    pub line-read : read rules line ≡ accepted term
     pub units-named : all-below units schedule ≡ true
     pub is : A ≡ run rules (limited budget) units schedule term
     -- demand 3 of this run, whole
@@ -85,16 +93,30 @@ module _ (book line : List ℕ) (units budget : ℕ) (schedule work output : Lis
     pub used : A .entries ≤ length schedule
     pub fits : length (preorder (A .term)) ≤ 1024
 
-  -- Book, line and schedule are lent to be read, so they are unchanged. The answer and the output are said by `answered`, which is asked with the
+  -- Book, line and schedule are lent to be read, so they are unchanged. The answer and the output are said by `answeredBy`, which is asked with the
   -- work area's length alone, so nothing depends on what it held (proofs/Laws, forgets).
-  pub record Reduced (work′ output′ : List ℕ) (r : D.Answer) : Type 0 where
+  pub record ReducedBy (work′ output′ : List ℕ) (r : D.Answer) : Type 0 where
     -- the answer is the definition's
-    pub answer : values r ≡ values-of answered
+    pub answer : values r ≡ values-of answeredBy
     -- on a refusal every lent buffer is unchanged
-    pub unchanged : (k : ℕ) → answered ≡ refused k → (work′ ≡ work) × (output′ ≡ output)
+    pub unchanged : (k : ℕ) → answeredBy ≡ refused k → (work′ ≡ work) × (output′ ≡ output)
     -- after an accepted run the work area is all zero, at its full length
-    pub cleared : (A : Answer) → answered ≡ accepted A → work′ ≡ replicate (length work) 0
+    pub cleared : (A : Answer) → answeredBy ≡ accepted A → work′ ≡ replicate (length work) 0
     -- the output has the present term in front, and its other bytes as they were
-    pub written : (A : Answer) → answered ≡ accepted A → output′ ≡ preorder (A .term) ++ drop (length (preorder (A .term))) output
+    pub written : (A : Answer) → answeredBy ≡ accepted A → output′ ≡ preorder (A .term) ++ drop (length (preorder (A .term))) output
     -- the answer is that of a run, of which demand 3 holds
-    pub run-of : (A : Answer) → answered ≡ accepted A → RunOf A
+    pub run-of : (A : Answer) → answeredBy ≡ accepted A → RunBy A
+
+-- of a line
+abbrev pub answered : List ℕ → List ℕ → ℕ → ℕ → List ℕ → List ℕ → List ℕ → Result Answer
+answered = answeredBy readLine
+
+abbrev pub RunOf : List ℕ → List ℕ → ℕ → ℕ → List ℕ → List ℕ → List ℕ → Answer → Type 0
+RunOf = RunBy readLine
+
+abbrev pub Reduced : List ℕ → List ℕ → ℕ → ℕ → List ℕ → List ℕ → List ℕ → List ℕ → List ℕ → D.Answer → Type 0
+Reduced = ReducedBy readLine
+
+-- of a payee's text
+abbrev pub PayeeReduced : List ℕ → List ℕ → ℕ → ℕ → List ℕ → List ℕ → List ℕ → List ℕ → List ℕ → D.Answer → Type 0
+PayeeReduced = ReducedBy readText

@@ -1,9 +1,11 @@
-// The entry point of a run: any book, line, units, budget, schedule, work area and output are taken. What is asked is checked in the order of
-// document 01's table, then the run is made; nothing lent is written before the last check has passed.
+// The entry points of a run: any book, line or text, units, budget, schedule, work area and output are taken. What is asked is checked in the order
+// of document 01's table, then the run is made; nothing lent is written before the last check has passed.
 use book::Book;
 use line::Line;
 use run::Run;
+use text::Text;
 use whole::Limits;
+ghost use mathlib.Core.Bool.{true};
 ghost use mathlib.Core.List.{_++_};
 ghost use mathlib.Core.Path.{_≡_};
 ghost use Prim.Native.Nat.{ℕ, _≤_, _<_};
@@ -24,10 +26,10 @@ pub enum Answer {
     Refused(u8),
 }
 
-// The term's working record: its symbols, of which the first length are in use.
-struct Term {
-    symbols: [u8; 1024],
-    length: usize,
+// What stands where the term stands: a term, or a payee's text.
+pub enum Form {
+    Term,
+    Text,
 }
 
 fn larger(x: u8, y: u8) -> u8
@@ -74,31 +76,27 @@ fn hand_out(symbols: &[u8; 1024], n: usize, output: &mut [u8])
     }
 }
 
-// The run of a line that is sound. The work area is cleared whole behind it.
+// The run of the term in front of the symbols. The work area is cleared whole behind it.
 fn post(
     book: &[u8],
     operators: &[u8; 4352],
     rules: &[u32; 1024],
-    line: &[u8],
+    symbols: &mut [u8; 1024],
+    length: usize,
     units: u8,
     budget: u32,
     schedule: &[u8],
     work: &mut [u8],
     output: &mut [u8],
 ) -> Run
-    requires { ⌜ C.Framed (now book) (now line) units budget (now schedule) (now work) (now output) ⌝ }
-    requires { ⌜ C.Checked (now book) (now operators) (now rules) (now line) units (now schedule) ⌝ }
-    ensures { λ r. ⌜ R.Reduced (now (book .entry)) (now (line .entry)) units budget (now (schedule .entry)) (now (work .entry)) (now (output .entry))
-        (now (work .exit)) (now (output .exit)) (D.Answer.Ran r) ⌝ }
+    requires { ⌜ C.Framed (now book) units (now work) (now output) ⌝ }
+    requires { ⌜ C.Loaded (now book) (now operators) (now rules) (now symbols) length ⌝ }
+    requires { ⌜ all-below units (now schedule) ≡ true ⌝ }
+    ensures { λ r. ⌜ R.Reduced (now (book .entry)) (take length (now (symbols .entry))) units budget (now (schedule .entry)) (now (work .entry))
+        (now (output .entry)) (now (work .exit)) (now (output .exit)) (D.Answer.Ran r) ⌝ }
 {
-    let mut term = Term {
-        symbols: [0; 1024],
-        length: line.len(),
-    };
     let mut scratch = [0; 1024];
     let mut cells = [0; 8];
-    load(&mut term.symbols, line);
-    let length = term.length;
     units::start(work, &mut cells);
     let limits = Limits {
         units: casts::index(units),
@@ -108,7 +106,7 @@ fn post(
         book,
         operators,
         rules,
-        &mut term.symbols,
+        symbols,
         &mut scratch,
         work,
         &mut cells,
@@ -116,54 +114,72 @@ fn post(
         limits,
         schedule,
     );
-    term.length = run.length;
-    let length = term.length;
-    hand_out(&term.symbols, length, output);
+    hand_out(symbols, run.length, output);
     units::clear(work);
     run
 }
 
-// A line, by the tables of a book of n operators.
-fn reduce_line(
+// The same, if the schedule names the units.
+fn run_checked(
     book: &[u8],
     operators: &[u8; 4352],
     rules: &[u32; 1024],
-    n: usize,
-    line: &[u8],
+    symbols: &mut [u8; 1024],
+    length: usize,
     units: u8,
     budget: u32,
     schedule: &[u8],
     work: &mut [u8],
     output: &mut [u8],
 ) -> Answer
-    requires { ⌜ C.Framed (now book) (now line) units budget (now schedule) (now work) (now output) ⌝ }
-    requires { ⌜ C.Opened (now book) (now operators) (now rules) n ⌝ }
-    ensures { λ r. ⌜ R.Reduced (now (book .entry)) (now (line .entry)) units budget (now (schedule .entry)) (now (work .entry)) (now (output .entry))
-        (now (work .exit)) (now (output .exit)) r ⌝ }
+    requires { ⌜ C.Framed (now book) units (now work) (now output) ⌝ }
+    requires { ⌜ C.Loaded (now book) (now operators) (now rules) (now symbols) length ⌝ }
+    ensures { λ r. ⌜ R.Reduced (now (book .entry)) (take length (now (symbols .entry))) units budget (now (schedule .entry)) (now (work .entry))
+        (now (output .entry)) (now (work .exit)) (now (output .exit)) r ⌝ }
 {
-    match line::check_line(line, n, operators) {
-        Line::Refused(k) => Answer::Refused(k),
-        Line::Sound => {
-            if !names_units(schedule, units) {
-                return Answer::Refused(14);
+    if !names_units(schedule, units) {
+        return Answer::Refused(14);
+    }
+    Answer::Ran(post(
+        book,
+        operators,
+        rules,
+        symbols,
+        length,
+        units,
+        budget,
+        schedule,
+        work,
+        output,
+    ))
+}
+
+// What stands where the term stands, by the table of a book of n operators, as the symbols of a term in front.
+fn read_term(
+    form: Form,
+    line: &[u8],
+    n: usize,
+    operators: &[u8; 4352],
+    symbols: &mut [u8; 1024],
+) -> Text
+    requires { ⌜ length (now symbols) ≡ 1024 ⌝ }
+    ensures { λ r. ⌜ C.Term-read (R.reader form) n (now (operators .entry)) (now (line .entry)) (now (symbols .exit)) r ⌝ }
+{
+    match form {
+        Form::Term => match line::check_line(line, n, operators) {
+            Line::Refused(k) => Text::Refused(k),
+            Line::Sound => {
+                load(symbols, line);
+                Text::Read(line.len())
             }
-            Answer::Ran(post(
-                book,
-                operators,
-                rules,
-                line,
-                units,
-                budget,
-                schedule,
-                work,
-                output,
-            ))
-        }
+        },
+        Form::Text => text::read_text(line, n, operators, symbols),
     }
 }
 
 // A book of at most 65,536 bytes.
 fn reduce_book(
+    form: Form,
     book: &[u8],
     line: &[u8],
     units: u8,
@@ -172,26 +188,30 @@ fn reduce_book(
     work: &mut [u8],
     output: &mut [u8],
 ) -> Answer
-    requires { ⌜ C.Framed (now book) (now line) units budget (now schedule) (now work) (now output) ⌝ }
-    ensures { λ r. ⌜ R.Reduced (now (book .entry)) (now (line .entry)) units budget (now (schedule .entry)) (now (work .entry)) (now (output .entry))
-        (now (work .exit)) (now (output .exit)) r ⌝ }
+    requires { ⌜ C.Framed (now book) units (now work) (now output) ⌝ }
+    ensures { λ r. ⌜ R.ReducedBy (R.reader form) (now (book .entry)) (now (line .entry)) units budget (now (schedule .entry)) (now (work .entry))
+        (now (output .entry)) (now (work .exit)) (now (output .exit)) r ⌝ }
 {
     let mut operators = [0u8; tables::OPERATORS];
     let mut rules = [0u32; tables::RULES];
+    let mut symbols = [0u8; 1024];
     match book::read_book(book, &mut operators, &mut rules) {
         Book::Refused(k) => Answer::Refused(k),
-        Book::Read(n) => reduce_line(
-            book,
-            &operators,
-            &rules,
-            n,
-            line,
-            units,
-            budget,
-            schedule,
-            work,
-            output,
-        ),
+        Book::Read(n) => match read_term(form, line, n, &operators, &mut symbols) {
+            Text::Refused(k) => Answer::Refused(k),
+            Text::Read(length) => run_checked(
+                book,
+                &operators,
+                &rules,
+                &mut symbols,
+                length,
+                units,
+                budget,
+                schedule,
+                work,
+                output,
+            ),
+        },
     }
 }
 
@@ -214,7 +234,41 @@ fn frame_fault(units: u8, work: usize, output: usize) -> u8
     0
 }
 
-// The run of a line by a book: `units` units share the work as the schedule says, and make at most `budget` rewrites.
+// The run of a line or text by a book: `units` units share the work as the schedule says, and make at most `budget` rewrites.
+pub fn reduce_form(
+    form: Form,
+    book: &[u8],
+    line: &[u8],
+    units: u8,
+    budget: u32,
+    schedule: &[u8],
+    work: &mut [u8],
+    output: &mut [u8],
+) -> Answer
+    ensures { λ r. ⌜ R.ReducedBy (R.reader form) (now (book .entry)) (now (line .entry)) units budget (now (schedule .entry)) (now (work .entry))
+        (now (output .entry)) (now (work .exit)) (now (output .exit)) r ⌝ }
+{
+    let fault = frame_fault(units, work.len(), output.len());
+    if fault != 0 {
+        return Answer::Refused(fault);
+    }
+    // What stands behind a book's first 65,536 bytes does not change what it reads as.
+    if 65536 < book.len() {
+        return reduce_book(
+            form,
+            &book[0..65536],
+            line,
+            units,
+            budget,
+            schedule,
+            work,
+            output,
+        );
+    }
+    reduce_book(form, book, line, units, budget, schedule, work, output)
+}
+
+// The run of a line by a book.
 pub fn reduce(
     book: &[u8],
     line: &[u8],
@@ -227,13 +281,39 @@ pub fn reduce(
     ensures { λ r. ⌜ R.Reduced (now (book .entry)) (now (line .entry)) units budget (now (schedule .entry)) (now (work .entry)) (now (output .entry))
         (now (work .exit)) (now (output .exit)) r ⌝ }
 {
-    let fault = frame_fault(units, work.len(), output.len());
-    if fault != 0 {
-        return Answer::Refused(fault);
-    }
-    // What stands behind a book's first 65,536 bytes does not change what it reads as.
-    if 65536 < book.len() {
-        return reduce_book(&book[0..65536], line, units, budget, schedule, work, output);
-    }
-    reduce_book(book, line, units, budget, schedule, work, output)
+    reduce_form(
+        Form::Term,
+        book,
+        line,
+        units,
+        budget,
+        schedule,
+        work,
+        output,
+    )
+}
+
+// The run of a payee's text, which stands where the line's term stood.
+pub fn payee(
+    book: &[u8],
+    text: &[u8],
+    units: u8,
+    budget: u32,
+    schedule: &[u8],
+    work: &mut [u8],
+    output: &mut [u8],
+) -> Answer
+    ensures { λ r. ⌜ R.PayeeReduced (now (book .entry)) (now (text .entry)) units budget (now (schedule .entry)) (now (work .entry)) (now (output .entry))
+        (now (work .exit)) (now (output .exit)) r ⌝ }
+{
+    reduce_form(
+        Form::Text,
+        book,
+        text,
+        units,
+        budget,
+        schedule,
+        work,
+        output,
+    )
 }

@@ -4,6 +4,7 @@ use mathlib.Core.Path.{_≡_, refl, ap, _∙_}
 use Prim.Native.Nat.{ℕ}
 use native.Mathlib.Omega.{arith}
 use lib.ListN.{length, set}
+use Rattle.paper.specs.Page.{LineReader}
 use Rattle.engine.specs.Spec as R
 use Rattle.engine.specs.declared.Answer as A
 use Rattle.writer.specs.Spec.{Answers}
@@ -28,10 +29,12 @@ five (v ∷ w ∷ x ∷ y ∷ z ∷ l) a b c d e h = ap (λ l. a ∷ b ∷ c ∷
     none (x ∷ l) h = absurd (omega arith)
 
 -- a run's answer as numbers
-pub reduced : {book line : List ℕ} {units budget : ℕ} {schedule work output work′ output′ answer′ : List ℕ} (r : A.Answer) →
-    R.Reduced book line units budget schedule work output work′ output′ r → answer′ ≡ X.value-numbers (R.values r) →
-    X.Reduced-in-numbers book line units budget schedule work output work′ output′ answer′ (X.refusal (R.values r))
-reduced r q e = record { number = ap X.refusal (q .answer); values = e ∙ ap X.value-numbers (q .answer); answer = r; buffers = q }
+pub reduced : {read : LineReader} {book line : List ℕ} {units budget : ℕ} {schedule work output work′ output′ answer′ : List ℕ} {n : ℕ} {r : A.Answer} →
+    R.ReducedBy read book line units budget schedule work output work′ output′ r →
+    (n ≡ X.refusal (R.values r)) × (answer′ ≡ X.value-numbers (R.values r)) →
+    X.Reduced-in-numbers-by read book line units budget schedule work output work′ output′ answer′ n
+reduced {r = r} q e =
+    record { number = e .0 ∙ ap X.refusal (q .answer); values = e .1 ∙ ap X.value-numbers (q .answer); answer = r; buffers = q }
 
 -- the writer's
 pub wrote : {book output output′ : List ℕ} (r : W.Written) (l : List ℕ) → Answers book output output′ r → length l ≡ 1 →

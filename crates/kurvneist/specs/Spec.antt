@@ -4,7 +4,9 @@ use mathlib.Core.List.{List, [], _∷_}
 use mathlib.Core.Path.{_≡_}
 use Prim.Native.Nat.{ℕ}
 use Rattle.paper.specs.Result.{Result, refused, accepted}
-use Rattle.paper.specs.Page.{ending-number}
+use Rattle.paper.specs.Line.{readLine}
+use Rattle.paper.specs.Text.{readText}
+use Rattle.paper.specs.Page.{LineReader, ending-number}
 use Rattle.engine.specs.Spec as R
 use Rattle.engine.specs.declared.Answer as A
 use Rattle.writer.specs.Spec.{Answers}
@@ -20,13 +22,23 @@ abbrev pub value-numbers : Result R.Values → List ℕ
 value-numbers (refused k) = 0 ∷ 0 ∷ 0 ∷ 0 ∷ 0 ∷ []
 value-numbers (accepted v) = ending-number (v .ending) ∷ v .rewrites ∷ v .entries ∷ v .granted ∷ v .length ∷ []
 
-pub record Reduced-in-numbers (book line : List ℕ) (units budget : ℕ) (schedule work output work′ output′ answer′ : List ℕ) (r : ℕ) : Type 0 where
-  -- the definition's number and values
-  pub number : r ≡ refusal (R.values-of (R.answered book line units budget schedule work output))
-  pub values : answer′ ≡ value-numbers (R.values-of (R.answered book line units budget schedule work output))
-  -- what becomes of the lent buffers, clause by clause
-  pub answer : A.Answer
-  pub buffers : R.Reduced book line units budget schedule work output work′ output′ answer
+-- by either reader
+module _ (read : LineReader) (book line : List ℕ) (units budget : ℕ) (schedule work output : List ℕ) where
+  pub record Reduced-in-numbers-by (work′ output′ answer′ : List ℕ) (r : ℕ) : Type 0 where
+    -- the definition's number and values
+    pub number : r ≡ refusal (R.values-of (R.answeredBy read book line units budget schedule work output))
+    pub values : answer′ ≡ value-numbers (R.values-of (R.answeredBy read book line units budget schedule work output))
+    -- what becomes of the lent buffers, clause by clause
+    pub answer : A.Answer
+    pub buffers : R.ReducedBy read book line units budget schedule work output work′ output′ answer
+
+-- of a line
+abbrev pub Reduced-in-numbers : List ℕ → List ℕ → ℕ → ℕ → List ℕ → List ℕ → List ℕ → List ℕ → List ℕ → List ℕ → ℕ → Type 0
+Reduced-in-numbers = Reduced-in-numbers-by readLine
+
+-- of a payee's text
+abbrev pub Payee-in-numbers : List ℕ → List ℕ → ℕ → ℕ → List ℕ → List ℕ → List ℕ → List ℕ → List ℕ → List ℕ → ℕ → Type 0
+Payee-in-numbers = Reduced-in-numbers-by readText
 
 -- the writer's answer
 abbrev pub written-refusal : W.Written → ℕ

@@ -9,7 +9,7 @@ ghost use mathlib.Core.List.{_∷_, []};
 ghost use lib.ListN.{length};
 ghost use Rattle.paper.specs.Page.{ending-number};
 ghost use Rattle.run.specs.Contracts.{ending};
-ghost use Rattle.engine.specs.Spec.{published};
+ghost use Rattle.engine.specs.Spec.{published, values};
 ghost use Rattle.kurvneist.specs.Spec as X;
 
 // The bytes of a work area.
@@ -57,23 +57,12 @@ fn put_numbers(
     answer[4] = size;
 }
 
-// A run: the refusal's number, or 0. The answer is ending, rewrites, entries, granted and length, or zeros.
-#[no_mangle]
-pub extern "C" fn kurvneist_reduce(
-    book: &[u8],
-    line: &[u8],
-    units: u8,
-    budget: u32,
-    schedule: &[u8],
-    work: &mut [u8],
-    output: &mut [u8],
-    answer: &mut [u64; 5],
-) -> u8
+// The refusal's number, or 0. The numbers are ending, rewrites, entries, granted and length, or zeros.
+fn put_answer(a: Answer, answer: &mut [u64; 5]) -> u8
     requires { ⌜ length (now answer) ≡ 5 ⌝ }
-    ensures { λ r. ⌜ X.Reduced-in-numbers (now (book .entry)) (now (line .entry)) units budget (now (schedule .entry)) (now (work .entry))
-        (now (output .entry)) (now (work .exit)) (now (output .exit)) (now (answer .exit)) r ⌝ }
+    ensures { λ r. ⌜ (r ≡ X.refusal (values a)) × (now (answer .exit) ≡ X.value-numbers (values a)) ⌝ }
 {
-    match engine::reduce(book, line, units, budget, schedule, work, output) {
+    match a {
         Answer::Refused(k) => {
             put_numbers(answer, 0, 0, 0, 0, 0);
             k
@@ -91,6 +80,46 @@ pub extern "C" fn kurvneist_reduce(
             0
         }
     }
+}
+
+// A run of a line: the refusal's number, or 0.
+#[no_mangle]
+pub extern "C" fn kurvneist_reduce(
+    book: &[u8],
+    line: &[u8],
+    units: u8,
+    budget: u32,
+    schedule: &[u8],
+    work: &mut [u8],
+    output: &mut [u8],
+    answer: &mut [u64; 5],
+) -> u8
+    requires { ⌜ length (now answer) ≡ 5 ⌝ }
+    ensures { λ r. ⌜ X.Reduced-in-numbers (now (book .entry)) (now (line .entry)) units budget (now (schedule .entry)) (now (work .entry))
+        (now (output .entry)) (now (work .exit)) (now (output .exit)) (now (answer .exit)) r ⌝ }
+{
+    let a = engine::reduce(book, line, units, budget, schedule, work, output);
+    put_answer(a, answer)
+}
+
+// A run of a payee's text.
+#[no_mangle]
+pub extern "C" fn kurvneist_payee(
+    book: &[u8],
+    text: &[u8],
+    units: u8,
+    budget: u32,
+    schedule: &[u8],
+    work: &mut [u8],
+    output: &mut [u8],
+    answer: &mut [u64; 5],
+) -> u8
+    requires { ⌜ length (now answer) ≡ 5 ⌝ }
+    ensures { λ r. ⌜ X.Payee-in-numbers (now (book .entry)) (now (text .entry)) units budget (now (schedule .entry)) (now (work .entry))
+        (now (output .entry)) (now (work .exit)) (now (output .exit)) (now (answer .exit)) r ⌝ }
+{
+    let a = engine::payee(book, text, units, budget, schedule, work, output);
+    put_answer(a, answer)
 }
 
 // The book's writer: the refusal's number, or 0 and how many bytes are written.

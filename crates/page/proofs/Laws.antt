@@ -9,7 +9,9 @@ use native.Mathlib.Decide.{decLt}
 use lib.ListN.{length, getD, take, drop, length-append, length-take, List·getD-eq-default}
 use lib.Seq.{take-all, take-length, getD-take}
 use Rattle.paper.specs.Result.{refused}
-use Rattle.paper.specs.Page.{number, read-request, pageOf}
+use Rattle.paper.specs.Line.{readLine}
+use Rattle.paper.specs.Text.{readText}
+use Rattle.paper.specs.Page.{LineReader, number, read-request, pageBy, pageOf, payeePageOf}
 use Rattle.page.specs.Spec.{Paged, Bytes, StandardInput, PagedFrom, begins, fixed-line}
 use Rattle.page.specs.Contracts.{Part-ends}
 use Rattle.page.specs.declared.PartEnd as E
@@ -17,9 +19,18 @@ use Rattle.page.proofs.Input.{number-two, counted-at, cut-over}
 use Rattle.page.proofs.Lines.{page-cut}
 use Rattle.page.proofs.Prefix.{begins-front}
 
-pub page-begins : (input : List ℕ) → begins fixed-line (pageOf input) ≡ true
+-- what the contracts call the page is the first program's, and the second's
+pub page-of : (input : List ℕ) → pageBy readLine input ≡ pageOf input
 unfolding pageOf
-page-begins input = begins-front fixed-line _
+page-of input = refl
+
+pub payee-page-of : (input : List ℕ) → pageBy readText input ≡ payeePageOf input
+unfolding payeePageOf
+payee-page-of input = refl
+
+pub page-begins : (read : LineReader) (input : List ℕ) → begins fixed-line (pageBy read input) ≡ true
+unfolding pageBy
+page-begins read input = begins-front fixed-line _
 
 bytes-take : (n : ℕ) (xs : List ℕ) → Bytes xs → Bytes (take n xs)
 bytes-take n xs h i = go (decLt i n)
@@ -50,28 +61,29 @@ long-refused input h k =
     cut-over input book line (omega arith) .is
 
 -- so that a program may stop reading there
-pub page-prefix : (input buffer : List ℕ) → Bytes input → take (length buffer) input ≡ buffer → 163848 ≤ length buffer → pageOf input ≡ pageOf buffer
-page-prefix input buffer h e k =
-    sym (page-cut input (long-refused input h (omega (arith, length-take (length buffer) input, ap length e))))
-    ∙ page-cut buffer (long-refused buffer (subst Bytes e (bytes-take (length buffer) input h)) k)
+pub page-prefix : (read : LineReader) (input buffer : List ℕ) → Bytes input → take (length buffer) input ≡ buffer → 163848 ≤ length buffer →
+    pageBy read input ≡ pageBy read buffer
+page-prefix read input buffer h e k =
+    sym (page-cut read input (long-refused input h (omega (arith, length-take (length buffer) input, ap length e))))
+    ∙ page-cut read buffer (long-refused buffer (subst Bytes e (bytes-take (length buffer) input h)) k)
 
 -- THE BUFFER
 
 -- a page lies within its buffer
-paged-within : {input page page′ : List ℕ} {r : ℕ} → Paged input page page′ r → r ≤ length page′
-paged-within {input} {page} {page′} {r} p = omega (arith, p .size, ap length (p .is), length-append (pageOf input) (drop r page))
+paged-within : {read : LineReader} {input page page′ : List ℕ} {r : ℕ} → Paged read input page page′ r → r ≤ length page′
+paged-within {read} {input} {page} {page′} {r} p = omega (arith, p .size, ap length (p .is), length-append (pageBy read input) (drop r page))
 
-module _ {buffer page page′ : List ℕ} {n r : ℕ} where
+module _ {read : LineReader} {buffer page page′ : List ℕ} {n r : ℕ} where
   -- the input was read to its end
-  pub paged-ended : n < length buffer → Paged (take n buffer) page page′ r → PagedFrom buffer n page page′ r
-  paged-ended h p = record { is = λ input s. subst (λ (i : List ℕ). Paged i page page′ r) (sym (s .ended h)) p; within = paged-within p }
+  pub paged-ended : n < length buffer → Paged read (take n buffer) page page′ r → PagedFrom read buffer n page page′ r
+  paged-ended h p = record { is = λ input s. subst (λ (i : List ℕ). Paged read i page page′ r) (sym (s .ended h)) p; within = paged-within p }
 
   -- the buffer is full
-  pub paged-filled : 163848 ≤ length buffer → length buffer ≤ n → Paged buffer page page′ r → PagedFrom buffer n page page′ r
+  pub paged-filled : 163848 ≤ length buffer → length buffer ≤ n → Paged read buffer page page′ r → PagedFrom read buffer n page page′ r
   paged-filled l h p =
       record {
         is = λ input s.
-            let e : pageOf input ≡ pageOf buffer = page-prefix input buffer (s .filled h .1) (s .filled h .0) l in
+            let e : pageBy read input ≡ pageBy read buffer = page-prefix read input buffer (s .filled h .1) (s .filled h .0) l in
             record { size = p .size ∙ ap length (sym e); is = p .is ∙ ap (λ (x : List ℕ). x ++ drop r page) (sym e) };
         within = paged-within p;
       }

@@ -8,7 +8,7 @@ use lib.Seq.{take-at}
 use Rattle.paper.specs.Result.{Result, refused, accepted, Read, then}
 use Rattle.paper.specs.Tree.{preorder}
 use Rattle.paper.specs.Run.{Answer}
-use Rattle.paper.specs.Page.{Request, frame-fault, run-checked, answerOf, read-request, ending-number, line, refused-word, end-word, rewrites-word, entries-word, granted-word, term-word, answer-lines, pageOf}
+use Rattle.paper.specs.Page.{Request, LineReader, frame-fault, run-checked, answerBy, read-request, ending-number, line, refused-word, end-word, rewrites-word, entries-word, granted-word, term-word, answer-lines, pageBy}
 use Rattle.run.specs.Contracts.{ending}
 use Rattle.engine.specs.Spec as R
 use Rattle.engine.specs.declared.Answer as A
@@ -61,14 +61,14 @@ fits-as (A.Answer.Ran r) (accepted a) output e l h =
     (omega (arith, h a refl), omega arith)
 
 -- with buffers of the lengths that are asked for, the published length of the work area does not matter
-same-answer : (q : Request) → q .work ≡ R.published → q .output ≡ 1024 →
-    answerOf R.published q ≡ answerOf 0 (asked (q .book) (q .line) (q .units) (q .budget) (q .schedule))
-unfolding answerOf frame-fault run-checked
-same-answer q e f = rw (e, f)
+same-answer : (read : LineReader) (q : Request) → q .work ≡ R.published → q .output ≡ 1024 →
+    answerBy read R.published q ≡ answerBy read 0 (asked (q .book) (q .line) (q .units) (q .budget) (q .schedule))
+unfolding answerBy frame-fault run-checked
+same-answer read q e f = rw (e, f)
 
-module _ {book line : List ℕ} {units budget : ℕ} {schedule work output work′ output′ : List ℕ} {r : A.Answer}
-    (d : R.Reduced book line units budget schedule work output work′ output′ r) where
-  front : (a : Answer) → R.answered book line units budget schedule work output ≡ accepted a →
+module _ {read : LineReader} {book line : List ℕ} {units budget : ℕ} {schedule work output work′ output′ : List ℕ} {r : A.Answer}
+    (d : R.ReducedBy read book line units budget schedule work output work′ output′ r) where
+  front : (a : Answer) → R.answeredBy read book line units budget schedule work output ≡ accepted a →
       take (length (preorder (a .term))) output′ ≡ preorder (a .term)
   front a e = ap (take (length (preorder (a .term)))) (d .written a e) ∙ take-at (preorder (a .term)) _ _ refl
 
@@ -76,22 +76,22 @@ module _ {book line : List ℕ} {units budget : ℕ} {schedule work output work�
   reduced-fits l = fits-as r _ output′ (d .answer) l (λ a e. d .run-of a e .fits)
 
   pub reduced-lines : (budget′ : ℕ) (schedule′ : List ℕ) → budget ≡ budget′ → schedule ≡ schedule′ → length work ≡ R.published → length output ≡ 1024 →
-      lines r output′ ≡ answer-lines (answerOf 0 (asked book line units budget′ schedule′))
+      lines r output′ ≡ answer-lines (answerBy read 0 (asked book line units budget′ schedule′))
   reduced-lines budget′ schedule′ b s e f =
       lines-as r _ output′ (d .answer) front
-      ∙ ap answer-lines (same-answer (R.request book line units budget schedule work output) e f)
-      ∙ ap₂ (λ (k : ℕ) (es : List ℕ). answer-lines (answerOf 0 (asked book line units k es))) b s
+      ∙ ap answer-lines (same-answer read (R.request book line units budget schedule work output) e f)
+      ∙ ap₂ (λ (k : ℕ) (es : List ℕ). answer-lines (answerBy read 0 (asked book line units k es))) b s
 
 -- THE PAGE
 
-pub page-cut : (input : List ℕ) → read-request input ≡ refused 17 → fixed-line ++ line refused-word (17 ∷ []) ≡ pageOf input
-unfolding pageOf answer-lines then
-page-cut input e = ap (λ (x : Result (Read Request)). fixed-line ++ answer-lines (then x (λ r. answerOf 0 (r .value)))) (sym e)
+pub page-cut : (read : LineReader) (input : List ℕ) → read-request input ≡ refused 17 → fixed-line ++ line refused-word (17 ∷ []) ≡ pageBy read input
+unfolding pageBy answer-lines then
+page-cut read input e = ap (λ (x : Result (Read Request)). fixed-line ++ answer-lines (then x (λ r. answerBy read 0 (r .value)))) (sym e)
 
-pub page-whole : (input : List ℕ) (q : Request) → read-request input ≡ accepted (record { value = q; left = [] }) →
-    fixed-line ++ answer-lines (answerOf 0 q) ≡ pageOf input
-unfolding pageOf then
-page-whole input q e = ap (λ (x : Result (Read Request)). fixed-line ++ answer-lines (then x (λ r. answerOf 0 (r .value)))) (sym e)
+pub page-whole : (read : LineReader) (input : List ℕ) (q : Request) → read-request input ≡ accepted (record { value = q; left = [] }) →
+    fixed-line ++ answer-lines (answerBy read 0 q) ≡ pageBy read input
+unfolding pageBy then
+page-whole read input q e = ap (λ (x : Result (Read Request)). fixed-line ++ answer-lines (then x (λ r. answerBy read 0 (r .value)))) (sym e)
 
-pub paged : {input page page′ : List ℕ} {r : ℕ} → Written-at 0 (pageOf input) page page′ r → Paged input page page′ r
+pub paged : {read : LineReader} {input page page′ : List ℕ} {r : ℕ} → Written-at 0 (pageBy read input) page page′ r → Paged read input page page′ r
 paged p = let e = p .ends in record { size = omega arith; is = p .is }

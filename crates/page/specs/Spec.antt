@@ -1,18 +1,19 @@
--- The page of a standard input, and what a buffer says of that input (document 01, 'The program and its page'). Assumes nothing.
+-- The page of a standard input by either reader, and what a buffer says of that input (document 01, 'The program and its page'; document 02,
+-- Change 1). Assumes nothing.
 use mathlib.Core.Bool.{Bool, true, false}
 use mathlib.Core.List.{List, [], _∷_, _++_}
 use mathlib.Core.Path.{_≡_}
 use Prim.Native.Nat.{ℕ, _≤_, _<_}
 use lib.Dec.{eqb}
 use lib.ListN.{length, getD, take, drop}
-use Rattle.paper.specs.Page.{line, reduce-word, pageOf}
+use Rattle.paper.specs.Page.{LineReader, line, reduce-word, pageBy}
 
 -- THE PAGE
 
 -- r bytes of the page are the definition's, and its other bytes stay
-pub record Paged (input page page′ : List ℕ) (r : ℕ) : Type 0 where
-  pub size : r ≡ length (pageOf input)
-  pub is : page′ ≡ pageOf input ++ drop r page
+pub record Paged (read : LineReader) (input page page′ : List ℕ) (r : ℕ) : Type 0 where
+  pub size : r ≡ length (pageBy read input)
+  pub is : page′ ≡ pageBy read input ++ drop r page
 
 -- the line that every page begins with
 abbrev pub fixed-line : List ℕ
@@ -37,6 +38,6 @@ pub record StandardInput (buffer : List ℕ) (n : ℕ) (input : List ℕ) : Type
   pub filled : length buffer ≤ n → (take (length buffer) input ≡ buffer) × Bytes input
 
 -- the page of whatever the standard input is; it lies within its buffer
-pub record PagedFrom (buffer : List ℕ) (n : ℕ) (page page′ : List ℕ) (r : ℕ) : Type 0 where
-  pub is : (input : List ℕ) → StandardInput buffer n input → Paged input page page′ r
+pub record PagedFrom (read : LineReader) (buffer : List ℕ) (n : ℕ) (page page′ : List ℕ) (r : ℕ) : Type 0 where
+  pub is : (input : List ℕ) → StandardInput buffer n input → Paged read input page page′ r
   pub within : r ≤ length page′

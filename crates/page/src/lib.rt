@@ -1,13 +1,15 @@
 // The program's page for its standard input (document 01, 'The program and its page').
 use engine::Answer;
+use engine::Form;
 use run::Ending;
 use run::Run;
 ghost use mathlib.Core.List.{_∷_, []};
 ghost use mathlib.Core.Path.{_≡_};
 ghost use Prim.Native.Nat.{_+_, _≤_, _<_};
 ghost use lib.ListN.{length, take, drop};
-ghost use Rattle.paper.specs.Page.{number, ending-number, spaced, line, term-word, answer-lines, answerOf};
+ghost use Rattle.paper.specs.Page.{number, ending-number, spaced, line, term-word, answer-lines, answerBy};
 ghost use Rattle.run.specs.Contracts.{ending};
+ghost use Rattle.engine.specs.Spec.{reader};
 ghost use Rattle.page.specs.Spec as S;
 ghost use Rattle.page.specs.Contracts as C;
 
@@ -210,9 +212,9 @@ fn answer(a: Answer, output: &[u8], page: &mut [u8; 8192], at: usize) -> usize
 }
 
 // The run of a whole input, and its lines. The buffers that are lent are of just the lengths that are asked for.
-fn run_page(input: &[u8], parts: Parts, page: &mut [u8; 8192], at: usize) -> usize
+fn run_page(form: Form, input: &[u8], parts: Parts, page: &mut [u8; 8192], at: usize) -> usize
     requires { ⌜ C.Parts-within (now input) parts × (length (now page) ≡ 8192) × (at ≤ 1000) ⌝ }
-    ensures { λ r. ⌜ C.Written-at at (answer-lines (answerOf 0 (C.request-of (now (input .entry)) parts))) (now (page .entry)) (now (page .exit)) r ⌝ }
+    ensures { λ r. ⌜ C.Written-at at (answer-lines (answerBy (reader form) 0 (C.request-of (now (input .entry)) parts))) (now (page .entry)) (now (page .exit)) r ⌝ }
 {
     let mut work = [0u8; engine::WORK];
     let mut output = [0u8; engine::OUTPUT];
@@ -221,7 +223,8 @@ fn run_page(input: &[u8], parts: Parts, page: &mut [u8; 8192], at: usize) -> usi
     let start = book + 2;
     let schedule = line + 5;
     let budget = quad(input, line + 1);
-    let a = engine::reduce(
+    let a = engine::reduce_form(
+        form,
         &input[2..book],
         &input[start..line],
         input[line],
@@ -234,28 +237,28 @@ fn run_page(input: &[u8], parts: Parts, page: &mut [u8; 8192], at: usize) -> usi
 }
 
 // The page of a whole standard input, at the front of the buffer; how many bytes it has.
-fn page(input: &[u8], page: &mut [u8; 8192]) -> usize
+fn page(form: Form, input: &[u8], page: &mut [u8; 8192]) -> usize
     requires { ⌜ length (now page) ≡ 8192 ⌝ }
-    ensures { λ r. ⌜ S.Paged (now (input .entry)) (now (page .entry)) (now (page .exit)) r ⌝ }
+    ensures { λ r. ⌜ S.Paged (reader form) (now (input .entry)) (now (page .entry)) (now (page .exit)) r ⌝ }
 {
     let at = put(b"REDUCE 1\n", page, 0);
     match parts_of(input) {
         InputParts::Refused => line(b"refused", 17, page, at),
-        InputParts::At(parts) => run_page(input, parts, page, at),
+        InputParts::At(parts) => run_page(form, input, parts, page, at),
     }
 }
 
 // The page of the standard input of which n bytes were read to the front of the buffer, up to its end or until the buffer was full. The page stands
 // at the front of the sheet; how many bytes it has.
-pub fn of_buffer(buffer: &[u8; INPUT], n: usize, sheet: &mut [u8; PAGE]) -> usize
+pub fn of_buffer(form: Form, buffer: &[u8; INPUT], n: usize, sheet: &mut [u8; PAGE]) -> usize
     requires { ⌜ length (now sheet) ≡ 8192 ⌝ }
-    ensures { λ r. ⌜ S.PagedFrom (now (buffer .entry)) n (now (sheet .entry)) (now (sheet .exit)) r ⌝ }
+    ensures { λ r. ⌜ S.PagedFrom (reader form) (now (buffer .entry)) n (now (sheet .entry)) (now (sheet .exit)) r ⌝ }
 {
     let bytes: &[u8] = buffer;
     if n < bytes.len() {
-        return page(&bytes[..n], sheet);
+        return page(form, &bytes[..n], sheet);
     }
-    page(bytes, sheet)
+    page(form, bytes, sheet)
 }
 
 // Do the bytes begin with this line?

@@ -21,7 +21,7 @@ returns c =
     let p = c .before .before .before .before .before .before in
     let s = p .before .before .before .before in
     let f = rw (c .before .before .before .enum-told .given .1) at (c .before .before .before .before .before .parts-of .ensures) in
-    paged (put-as (page-cut (now (s .args .input)) (f .is)) (put-both (p .put .ensures) (c .line .ensures .0)))
+    paged (put-as (page-cut _ (now (s .args .input)) (f .is)) (put-both (p .put .ensures) (c .line .ensures .0)))
 
 returns-2 : tie.Need-returns-2
 unfolding line
@@ -29,7 +29,7 @@ returns-2 c =
     let p = c .before .before .before .before .before .before in
     let s = p .before .before .before .before in
     let f = rw (c .before .before .before .parts .given .1) at (c .before .before .before .before .before .parts-of .ensures) in
-    paged (put-as (page-whole (now (s .args .input)) _ (f .is)) (put-both (p .put .ensures) (c .run-page .ensures)))
+    paged (put-as (page-whole _ (now (s .args .input)) _ (f .is)) (put-both (p .put .ensures) (c .run-page .ensures)))
 
 pub page-spec : {M : Type 1} → statement M
 page-spec =

@@ -16,7 +16,7 @@ answer-requires : tie.Need-answer-requires
 answer-requires c κs =
     let a = c .before .before .before .before in
     let s = c .before .before .before .before .before .before .before .before .before .before .before .before .before in
-    (reduced-fits (a .reduce .ensures) (a .reduce .kept .1 .1 .1 .1 .1 .1 .0 ∙ length-replicate {A = ℕ} 1024 0), s .pre .1, s .pre .2)
+    (reduced-fits (a .reduce-form .ensures) (a .reduce-form .kept .1 .1 .1 .1 .1 .1 .1 .0 ∙ length-replicate {A = ℕ} 1024 0), s .pre .1, s .pre .2)
 
 returns : tie.Need-returns
 returns c =
@@ -26,7 +26,7 @@ returns c =
     let n = s .args .parts .line + 5 in
     let l : List ℕ = now (s .args .input) in
     put-as
-    (reduced-lines (a .reduce .ensures) _ _ (q .quad .ensures) (take-all (length l - n) (drop n l) (omega (arith, length-drop n l)))
+    (reduced-lines (a .reduce-form .ensures) _ _ (q .quad .ensures) (take-all (length l - n) (drop n l) (omega (arith, length-drop n l)))
     (length-replicate {A = ℕ} 24624 0) (length-replicate {A = ℕ} 1024 0))
     (c .answer .ensures)
 

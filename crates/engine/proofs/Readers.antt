@@ -1,0 +1,130 @@
+-- A line or a text, once it is checked, is a term in front of the symbols, and the run of that term answers it. Assumes nothing.
+use mathlib.Core.List.{List, _++_}
+use mathlib.Core.Path.{_≡_, refl, sym, ap, _∙_}
+use Prim.Native.Nat.{ℕ, _≤_}
+use native.Mathlib.Omega.{arith}
+use lib.ListN.{length, take, drop, length-append, length-drop}
+use lib.Seq.{take-at}
+use Rattle.paper.specs.Result.{refused, accepted}
+use Rattle.paper.specs.Book.{Term, Book}
+use Rattle.paper.specs.Line.{readLine}
+use Rattle.paper.specs.Text.{squeezed, chain, readText}
+use Rattle.paper.specs.Run.{Answer}
+use Rattle.paper.specs.Page.{LineReader, run-checked}
+use Rattle.paper.proofs.Readers.{accepted-injective}
+use Rattle.paper.proofs.Text.{length-chain, text-correct, text-line}
+use Rattle.tables.specs.Layout.{arity-in}
+use Rattle.tables.specs.Tables.{book-of, Operators, TablesOf}
+use Rattle.line.specs.Line.{judgement}
+use Rattle.line.specs.declared.Line as L
+use Rattle.line.proofs.Checking as Lines
+use Rattle.text.specs.Contracts.{Text-read}
+use Rattle.text.specs.declared.Text as T
+use Rattle.text.proofs.Laws as Texts
+use Rattle.engine.specs.Spec.{values-of, request, answeredBy, RunBy, ReducedBy, answered, RunOf, Reduced}
+use Rattle.engine.specs.Contracts.{Framed, Loaded, Taken, Read-as, Term-read}
+use Rattle.engine.specs.declared.Answer as D
+use Rattle.engine.proofs.Frame.{framed}
+use Rattle.engine.proofs.Answers.{of-run}
+
+module _ (B : Book) {operators : List ℕ} {n : ℕ} (count : length (B .operators) ≡ n) (t : Operators (B .operators) operators) where
+  -- THE LINE, by the check's judgement, and behind load
+
+  module _ (line : List ℕ) where
+    pub line-refused : (k : ℕ) → judgement n (arity-in operators) line ≡ L.Line.Refused k → readLine B line ≡ refused k
+    line-refused k e = Lines.refused-refused B count t line k e
+
+    module _ (e : judgement n (arity-in operators) line ≡ L.Line.Sound) where
+      line-accepted : (t : Term) × (readLine B line ≡ accepted t)
+      line-accepted = Lines.sound-accepted B count t line e
+
+      short : length line ≤ 1024
+      short = Lines.sound-known n (arity-in operators) line e .1
+
+      pub line-taken : (base : List ℕ) {symbols : List ℕ} → length base ≡ 1024 → symbols ≡ line ++ drop (length line) base →
+          Taken readLine B line symbols (length line)
+      line-taken base b s = record {
+        long = ap length s ∙ length-append line (drop (length line) base) ∙ rw length-drop (omega (arith, b, short));
+        most = short;
+        term = line-accepted .0;
+        line-read = line-accepted .1;
+        term-read =
+            ap (λ (xs : List ℕ). readLine B xs)
+            (ap (take (length line)) s ∙ take-at line (drop (length line) base) (length line) refl)
+            ∙ line-accepted .1;
+      }
+
+  -- THE TEXT, by what the code reads of it
+
+  module _ {text symbols symbols′ : List ℕ} where
+    pub text-taken : {m : ℕ} → Text-read n (arity-in operators) text symbols symbols′ (T.Text.Read m) → Taken readText B text symbols′ m
+    text-taken r =
+        let (e, l, p) = Texts.text-accepted B count t r refl in
+        let u : Term = chain (squeezed text) in
+        let (c, q, h, a) = text-correct B text u e in
+        record {
+          long = r .long;
+          most = omega (arith, l, length-chain (squeezed text));
+          term = u;
+          line-read = e;
+          term-read = ap (λ (xs : List ℕ). readLine B xs) p ∙ text-line B text u e;
+        }
+
+    pub text-read : (r : T.Text) → Text-read n (arity-in operators) text symbols symbols′ r → Read-as readText B text symbols′ r
+    text-read (T.Text.Read m) q = text-taken q
+    text-read (T.Text.Refused k) q = Texts.text-refused B count t q refl
+
+-- by the book that was read
+pub by-tables : {read : LineReader} {book operators rules line symbols : List ℕ} {n : ℕ} {r : T.Text} → TablesOf book operators rules →
+    n ≡ length (book-of book .operators) → Term-read read n operators line symbols r → Read-as read (book-of book) line symbols r
+by-tables {book = book} tables e q = q .is (book-of book) (sym e) (tables .tables .operators-in)
+
+pub loaded : {read : LineReader} {book operators rules line symbols : List ℕ} {n : ℕ} → TablesOf book operators rules →
+    Taken read (book-of book) line symbols n → Loaded book operators rules symbols n
+loaded tables t = record { tables = tables; long = t .long; most = t .most; term = t .term; term-read = t .term-read }
+
+-- THE RUN of the term answers what it is read from
+
+module _ {read : LineReader} {line symbols : List ℕ} {m : ℕ} (budget : ℕ) (schedule : List ℕ) {book operators rules work output : List ℕ} {units : ℕ}
+    (f : Framed book units work output) (tables : TablesOf book operators rules) (t : Taken read (book-of book) line symbols m) where
+  abbrev front : List ℕ
+  front = take m symbols
+
+  same-term : answeredBy read book line units budget schedule work output ≡ answered book front units budget schedule work output
+  unfolding run-checked
+  same-term =
+      let b = tables .read in
+      of-run read (request book line units budget schedule work output) (framed _ (f .faultless)) (book-of book) b (t .term) (t .line-read)
+      ∙ sym (of-run readLine (request book front units budget schedule work output) (framed _ (f .faultless)) (book-of book) b (t .term) (t .term-read))
+
+  run-alike : (A : Answer) → RunOf book front units budget schedule work output A → RunBy read book line units budget schedule work output A
+  run-alike A r =
+      let e : book-of book ≡ r .rules = accepted-injective (sym (tables .read) ∙ r .book-read) in
+      record {
+        rules = r .rules;
+        term = r .term;
+        book-read = r .book-read;
+        line-read =
+            ap (λ (B : Book). read B line) (sym e)
+            ∙ t .line-read ∙ sym (t .term-read) ∙ ap (λ (B : Book). readLine B front) e ∙ r .line-read;
+        units-named = r .units-named;
+        is = r .is;
+        demand-3 = r .demand-3;
+        posting = r .posting;
+        grants = r .grants;
+        allowed = r .allowed;
+        used = r .used;
+        fits = r .fits;
+      }
+
+  pub reduced-alike : {work′ output′ : List ℕ} {r : D.Answer} → Reduced book front units budget schedule work output work′ output′ r →
+      ReducedBy read book line units budget schedule work output work′ output′ r
+  reduced-alike h =
+      let e = sym same-term in
+      record {
+        answer = h .answer ∙ ap values-of e;
+        unchanged = λ k x. h .unchanged k (e ∙ x);
+        cleared = λ A x. h .cleared A (e ∙ x);
+        written = λ A x. h .written A (e ∙ x);
+        run-of = λ A x. run-alike A (h .run-of A (e ∙ x));
+      }

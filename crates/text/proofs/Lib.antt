@@ -1,0 +1,4 @@
+pub mod Table
+pub mod Operators
+pub mod Pass
+pub mod Laws
