@@ -78,21 +78,16 @@ refuses k e = record {
   run-of = λ A h. absurd (refused-accepted (sym e ∙ h));
 }
 
--- WHAT STANDS BEHIND a book's first 65,536 bytes is not looked at
+-- ANOTHER BOOK AND LINE that are read as the same rules and term: what holds of the run is carried over whole
 
-module _ (read : LineReader) (book line : List ℕ) (units budget : ℕ) (schedule work output : List ℕ) (long : 65536 ≤ length book) where
-  same-answer : answeredBy read book line units budget schedule work output ≡ answeredBy read (take 65536 book) line units budget schedule work output
-  unfolding answerBy frame-fault run-checked
-  same-answer =
-      let q : Request = request book line units budget schedule work output in
-      ap (λ (x : Result Book). unless (frame-fault published q) (for-book read q x)) (read-prefix book long)
-
-  same-run : (A : Answer) → RunBy read (take 65536 book) line units budget schedule work output A → RunBy read book line units budget schedule work output A
-  same-run A r = record {
+module _ {read read₂ : LineReader} {book line book₂ line₂ : List ℕ} {units budget : ℕ} {schedule work output : List ℕ} where
+  run-carried : {A : Answer} (r : RunBy read book line units budget schedule work output A) → readBook book₂ ≡ accepted (r .rules) →
+      read₂ (r .rules) line₂ ≡ accepted (r .term) → RunBy read₂ book₂ line₂ units budget schedule work output A
+  run-carried r b l = record {
     rules = r .rules;
     term = r .term;
-    book-read = read-prefix book long ∙ r .book-read;
-    line-read = r .line-read;
+    book-read = b;
+    line-read = l;
     units-named = r .units-named;
     is = r .is;
     demand-3 = r .demand-3;
@@ -103,14 +98,34 @@ module _ (read : LineReader) (book line : List ℕ) (units budget : ℕ) (schedu
     fits = r .fits;
   }
 
+  pub carried : {work′ output′ : List ℕ} {r : D.Answer} →
+      answeredBy read₂ book₂ line₂ units budget schedule work output ≡ answeredBy read book line units budget schedule work output →
+      ((B : Book) → readBook book ≡ accepted B → readBook book₂ ≡ accepted B) →
+      ((B : Book) (t : Term) → readBook book ≡ accepted B → read B line ≡ accepted t → read₂ B line₂ ≡ accepted t) →
+      ReducedBy read book line units budget schedule work output work′ output′ r → ReducedBy read₂ book₂ line₂ units budget schedule work output work′ output′ r
+  carried same same-book same-line h =
+      let e = sym same in
+      record {
+        answer = h .answer ∙ ap values-of e;
+        unchanged = λ k x. h .unchanged k (e ∙ x);
+        cleared = λ A x. h .cleared A (e ∙ x);
+        written = λ A x. h .written A (e ∙ x);
+        run-of = λ A x.
+            let q = h .run-of A (e ∙ x) in
+            let b = q .book-read in
+            run-carried q (same-book (q .rules) b) (same-line (q .rules) (q .term) b (q .line-read));
+      }
+
+-- WHAT STANDS BEHIND a book's first 65,536 bytes is not looked at
+
+module _ (read : LineReader) (book line : List ℕ) (units budget : ℕ) (schedule work output : List ℕ) (long : 65536 ≤ length book) where
+  same-answer : answeredBy read book line units budget schedule work output ≡ answeredBy read (take 65536 book) line units budget schedule work output
+  unfolding answerBy frame-fault run-checked
+  same-answer =
+      let q : Request = request book line units budget schedule work output in
+      ap (λ (x : Result Book). unless (frame-fault published q) (for-book read q x)) (read-prefix book long)
+
 pub reduced-prefix : {read : LineReader} {book line : List ℕ} {units budget : ℕ} {schedule work output work′ output′ : List ℕ} {r : D.Answer} → 65536 ≤ length book →
     ReducedBy read (take 65536 book) line units budget schedule work output work′ output′ r → ReducedBy read book line units budget schedule work output work′ output′ r
 reduced-prefix {read} {book} {line} {units} {budget} {schedule} {work} {output} long h =
-    let e = sym (same-answer read book line units budget schedule work output long) in
-    record {
-      answer = h .answer ∙ ap values-of e;
-      unchanged = λ k x. h .unchanged k (e ∙ x);
-      cleared = λ A x. h .cleared A (e ∙ x);
-      written = λ A x. h .written A (e ∙ x);
-      run-of = λ A x. same-run read book line units budget schedule work output long A (h .run-of A (e ∙ x));
-    }
+    carried (same-answer read book line units budget schedule work output long) (λ B b. read-prefix book long ∙ b) (λ B t b l. l) h

@@ -9,7 +9,6 @@ use Rattle.paper.specs.Result.{refused, accepted}
 use Rattle.paper.specs.Book.{Term, Book}
 use Rattle.paper.specs.Line.{readLine}
 use Rattle.paper.specs.Text.{squeezed, chain, readText}
-use Rattle.paper.specs.Run.{Answer}
 use Rattle.paper.specs.Page.{LineReader, run-checked}
 use Rattle.paper.proofs.Readers.{accepted-injective}
 use Rattle.paper.proofs.Text.{length-chain, text-correct, text-line}
@@ -21,11 +20,11 @@ use Rattle.line.proofs.Checking as Lines
 use Rattle.text.specs.Contracts.{Text-read}
 use Rattle.text.specs.declared.Text as T
 use Rattle.text.proofs.Laws as Texts
-use Rattle.engine.specs.Spec.{values-of, request, answeredBy, RunBy, ReducedBy, answered, RunOf, Reduced}
+use Rattle.engine.specs.Spec.{request, answeredBy, ReducedBy, answered, Reduced}
 use Rattle.engine.specs.Contracts.{Framed, Loaded, Taken, Read-as, Term-read}
 use Rattle.engine.specs.declared.Answer as D
 use Rattle.engine.proofs.Frame.{framed}
-use Rattle.engine.proofs.Answers.{of-run}
+use Rattle.engine.proofs.Answers.{of-run, carried}
 
 module _ (B : Book) {operators : List ℕ} {n : ℕ} (count : length (B .operators) ≡ n) (t : Operators (B .operators) operators) where
   -- THE LINE, by the check's judgement, and behind load
@@ -97,34 +96,11 @@ module _ {read : LineReader} {line symbols : List ℕ} {m : ℕ} (budget : ℕ) 
       of-run read (request book line units budget schedule work output) (framed _ (f .faultless)) (book-of book) b (t .term) (t .line-read)
       ∙ sym (of-run readLine (request book front units budget schedule work output) (framed _ (f .faultless)) (book-of book) b (t .term) (t .term-read))
 
-  run-alike : (A : Answer) → RunOf book front units budget schedule work output A → RunBy read book line units budget schedule work output A
-  run-alike A r =
-      let e : book-of book ≡ r .rules = accepted-injective (sym (tables .read) ∙ r .book-read) in
-      record {
-        rules = r .rules;
-        term = r .term;
-        book-read = r .book-read;
-        line-read =
-            ap (λ (B : Book). read B line) (sym e)
-            ∙ t .line-read ∙ sym (t .term-read) ∙ ap (λ (B : Book). readLine B front) e ∙ r .line-read;
-        units-named = r .units-named;
-        is = r .is;
-        demand-3 = r .demand-3;
-        posting = r .posting;
-        grants = r .grants;
-        allowed = r .allowed;
-        used = r .used;
-        fits = r .fits;
-      }
-
   pub reduced-alike : {work′ output′ : List ℕ} {r : D.Answer} → Reduced book front units budget schedule work output work′ output′ r →
       ReducedBy read book line units budget schedule work output work′ output′ r
   reduced-alike h =
-      let e = sym same-term in
-      record {
-        answer = h .answer ∙ ap values-of e;
-        unchanged = λ k x. h .unchanged k (e ∙ x);
-        cleared = λ A x. h .cleared A (e ∙ x);
-        written = λ A x. h .written A (e ∙ x);
-        run-of = λ A x. run-alike A (h .run-of A (e ∙ x));
-      }
+      carried same-term (λ B b. b)
+      (λ B u b l.
+      let e : book-of book ≡ B = accepted-injective (sym (tables .read) ∙ b) in
+      ap (λ (X : Book). read X line) (sym e) ∙ t .line-read ∙ sym (t .term-read) ∙ ap (λ (X : Book). readLine X front) e ∙ l)
+      h
