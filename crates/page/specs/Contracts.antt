@@ -4,7 +4,7 @@ use mathlib.Core.Path.{_≡_}
 use Prim.Native.Nat.{ℕ, _+_, _-_, _≤_}
 use lib.ListN.{length, getD, take, drop}
 use Rattle.paper.specs.Result.{Result, refused, accepted, Read, Reader, _>>=_}
-use Rattle.paper.specs.Page.{Request, number, read-bytes, read-number, read-request, ending-number, decimal, line, refused-word, end-word, rewrites-word, entries-word, granted-word, term-word}
+use Rattle.paper.specs.Page.{Request, number, read-bytes, read-number, read-request, ending-number, decimal, line, refused-word, end-word, rewrites-word, entries-word, granted-word, kept-word, term-word}
 use Rattle.run.specs.Contracts.{ending}
 use Rattle.run.specs.declared.Run as D
 use Rattle.engine.specs.declared.Answer as A
@@ -86,7 +86,8 @@ abbrev pub run-lines : D.Run → List ℕ → List ℕ
 run-lines r term =
     line end-word (ending-number (ending (r .ending)) ∷ [])
     ++ (line rewrites-word (r .rewrites ∷ [])
-    ++ (line entries-word (r .entries ∷ []) ++ (line granted-word (r .granted ∷ []) ++ line term-word term)))
+    ++ (line entries-word (r .entries ∷ [])
+    ++ (line granted-word (r .granted ∷ []) ++ (line kept-word (r .kept ∷ []) ++ line term-word term))))
 
 -- the lines of the engine's answer, its term standing at the front of the output
 abbrev pub lines : A.Answer → List ℕ → List ℕ

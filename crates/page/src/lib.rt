@@ -1,4 +1,4 @@
-// The program's page for its standard input (document 01, 'The program and its page').
+// The program's page for its standard input (document 01, 'The program and its page'; document 02, Changes 1 and 2).
 use engine::Answer;
 use engine::Form;
 use run::Ending;
@@ -194,7 +194,8 @@ fn run_lines(r: Run, term: &[u8], page: &mut [u8; 8192], at: usize) -> usize
     let b = line(b"rewrites", casts::position(r.rewrites), page, a);
     let c = line(b"entries", r.entries, page, b);
     let d = line(b"granted", r.granted, page, c);
-    term_line(term, page, d)
+    let e = line(b"kept", r.kept, page, d);
+    term_line(term, page, e)
 }
 
 // The lines of the engine's answer, whose term stands at the front of the output.
