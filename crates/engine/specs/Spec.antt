@@ -19,6 +19,7 @@ use Rattle.paper.specs.Demand3.{Demand3}
 use Rattle.paper.specs.Page.{Request, LineReader, all-below, answerBy}
 use Rattle.entry.specs.State.{limited}
 use Rattle.run.specs.Contracts.{ending}
+use Rattle.run.specs.declared.Run as C
 use Rattle.engine.specs.declared.Answer as D
 use Rattle.engine.specs.declared.Form as F
 
@@ -38,18 +39,21 @@ pub record Values : Type 0 where
   pub kept : ℕ
   pub length : ℕ
 
+-- the values of the code's run
+abbrev pub run-values : C.Run → Values
+run-values r = record {
+  ending = ending (r .ending);
+  rewrites = r .rewrites;
+  entries = r .entries;
+  granted = r .granted;
+  kept = r .kept;
+  length = r .length;
+}
+
 -- document 01's number or values for each case of the code's answer
 abbrev pub values : D.Answer → Result Values
 values (D.Answer.Refused k) = refused k
-values (D.Answer.Ran r) =
-    accepted (record {
-      ending = ending (r .ending);
-      rewrites = r .rewrites;
-      entries = r .entries;
-      granted = r .granted;
-      kept = r .kept;
-      length = r .length;
-    })
+values (D.Answer.Ran r) = accepted (run-values r)
 
 -- and of the definition's
 abbrev pub values-of : Result Answer → Result Values

@@ -9,7 +9,7 @@ ghost use Prim.Native.Nat.{_+_, _≤_, _<_};
 ghost use lib.ListN.{length, take, drop};
 ghost use Rattle.paper.specs.Page.{number, ending-number, spaced, line, term-word, answer-lines, answerBy};
 ghost use Rattle.run.specs.Contracts.{ending};
-ghost use Rattle.engine.specs.Spec.{reader};
+ghost use Rattle.engine.specs.Spec.{run-values, reader};
 ghost use Rattle.page.specs.Spec as S;
 ghost use Rattle.page.specs.Contracts as C;
 
@@ -187,7 +187,7 @@ fn ending_number(e: Ending) -> usize
 // The lines of a run and its term.
 fn run_lines(r: Run, term: &[u8], page: &mut [u8; 8192], at: usize) -> usize
     requires { ⌜ (length (now term) ≤ 1024) × (length (now page) ≡ 8192) × (at ≤ 1000) ⌝ }
-    ensures { λ s. ⌜ C.Written-at at (C.run-lines r (now (term .entry))) (now (page .entry)) (now (page .exit)) s ⌝ }
+    ensures { λ s. ⌜ C.Written-at at (C.run-lines (run-values r) (now (term .entry))) (now (page .entry)) (now (page .exit)) s ⌝ }
 {
     let ending = r.ending;
     let a = line(b"end", ending_number(ending), page, at);
