@@ -78,12 +78,12 @@ refuses k e = record {
   run-of = λ A h. absurd (refused-accepted (sym e ∙ h));
 }
 
--- ANOTHER BOOK AND LINE that are read as the same rules and term: what holds of the run is carried over whole
+-- ANOTHER BOOK OR LINE that is answered alike
 
-module _ {read read₂ : LineReader} {book line book₂ line₂ : List ℕ} {units budget : ℕ} {schedule work output : List ℕ} where
-  run-carried : {A : Answer} (r : RunBy read book line units budget schedule work output A) → readBook book₂ ≡ accepted (r .rules) →
+module _ {read read₂ : LineReader} {book book₂ line line₂ : List ℕ} {units budget : ℕ} {schedule work output : List ℕ} where
+  pub run-as : {A : Answer} (r : RunBy read book line units budget schedule work output A) → readBook book₂ ≡ accepted (r .rules) →
       read₂ (r .rules) line₂ ≡ accepted (r .term) → RunBy read₂ book₂ line₂ units budget schedule work output A
-  run-carried r b l = record {
+  run-as r b l = record {
     rules = r .rules;
     term = r .term;
     book-read = b;
@@ -100,34 +100,31 @@ module _ {read read₂ : LineReader} {book line book₂ line₂ : List ℕ} {uni
     fits = r .fits;
   }
 
-  pub carried : {work′ output′ : List ℕ} {r : D.Answer} →
-      answeredBy read₂ book₂ line₂ units budget schedule work output ≡ answeredBy read book line units budget schedule work output →
-      ((B : Book) → readBook book ≡ accepted B → readBook book₂ ≡ accepted B) →
-      ((B : Book) (t : Term) → readBook book ≡ accepted B → read B line ≡ accepted t → read₂ B line₂ ≡ accepted t) →
-      ReducedBy read book line units budget schedule work output work′ output′ r → ReducedBy read₂ book₂ line₂ units budget schedule work output work′ output′ r
-  carried same same-book same-line h =
-      let e = sym same in
-      record {
-        answer = h .answer ∙ ap values-of e;
-        unchanged = λ k x. h .unchanged k (e ∙ x);
-        cleared = λ A x. h .cleared A (e ∙ x);
-        written = λ A x. h .written A (e ∙ x);
-        run-of = λ A x.
-            let q = h .run-of A (e ∙ x) in
-            let b = q .book-read in
-            run-carried q (same-book (q .rules) b) (same-line (q .rules) (q .term) b (q .line-read));
-      }
+  pub reduced-as : {work′ output′ : List ℕ} {r : D.Answer} →
+      answeredBy read book line units budget schedule work output ≡ answeredBy read₂ book₂ line₂ units budget schedule work output →
+      ((A : Answer) → RunBy read book line units budget schedule work output A → RunBy read₂ book₂ line₂ units budget schedule work output A) →
+      ReducedBy read book line units budget schedule work output work′ output′ r →
+      ReducedBy read₂ book₂ line₂ units budget schedule work output work′ output′ r
+  reduced-as e f h = record {
+    answer = h .answer ∙ ap values-of e;
+    unchanged = λ k x. h .unchanged k (e ∙ x);
+    cleared = λ A x. h .cleared A (e ∙ x);
+    written = λ A x. h .written A (e ∙ x);
+    run-of = λ A x. f A (h .run-of A (e ∙ x));
+  }
 
--- WHAT STANDS BEHIND a book's first 65,536 bytes is not looked at
+-- what stands behind a book's first 65,536 bytes is not looked at
+same-answer : (read : LineReader) (book line : List ℕ) (units budget : ℕ) (schedule work output : List ℕ) → 65536 ≤ length book →
+    answeredBy read book line units budget schedule work output ≡ answeredBy read (take 65536 book) line units budget schedule work output
+unfolding answerBy frame-fault run-checked
+same-answer read book line units budget schedule work output long =
+    let q : Request = request book line units budget schedule work output in
+    ap (λ (x : Result Book). unless (frame-fault published q) (for-book read q x)) (read-prefix book long)
 
-module _ (read : LineReader) (book line : List ℕ) (units budget : ℕ) (schedule work output : List ℕ) (long : 65536 ≤ length book) where
-  same-answer : answeredBy read book line units budget schedule work output ≡ answeredBy read (take 65536 book) line units budget schedule work output
-  unfolding answerBy frame-fault run-checked
-  same-answer =
-      let q : Request = request book line units budget schedule work output in
-      ap (λ (x : Result Book). unless (frame-fault published q) (for-book read q x)) (read-prefix book long)
-
-pub reduced-prefix : {read : LineReader} {book line : List ℕ} {units budget : ℕ} {schedule work output work′ output′ : List ℕ} {r : D.Answer} → 65536 ≤ length book →
-    ReducedBy read (take 65536 book) line units budget schedule work output work′ output′ r → ReducedBy read book line units budget schedule work output work′ output′ r
-reduced-prefix {read} {book} {line} {units} {budget} {schedule} {work} {output} long h =
-    carried (same-answer read book line units budget schedule work output long) (λ B b. read-prefix book long ∙ b) (λ B t b l. l) h
+pub reduced-prefix : {read : LineReader} {book line : List ℕ} {units budget : ℕ} {schedule work output work′ output′ : List ℕ} {r : D.Answer} →
+    65536 ≤ length book →
+    ReducedBy read (take 65536 book) line units budget schedule work output work′ output′ r →
+    ReducedBy read book line units budget schedule work output work′ output′ r
+reduced-prefix {read} {book} {line} {units} {budget} {schedule} {work} {output} long =
+    reduced-as (sym (same-answer read book line units budget schedule work output long))
+    (λ A r. run-as r (read-prefix book long ∙ r .book-read) (r .line-read))

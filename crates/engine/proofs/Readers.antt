@@ -24,7 +24,7 @@ use Rattle.engine.specs.Spec.{request, answeredBy, ReducedBy, answered, 
 use Rattle.engine.specs.Contracts.{Framed, Loaded, Taken, Read-as, Term-read}
 use Rattle.engine.specs.declared.Answer as D
 use Rattle.engine.proofs.Frame.{framed}
-use Rattle.engine.proofs.Answers.{of-run, carried}
+use Rattle.engine.proofs.Answers.{of-run, run-as, reduced-as}
 
 module _ (B : Book) {operators : List ℕ} {n : ℕ} (count : length (B .operators) ≡ n) (t : Operators (B .operators) operators) where
   -- THE LINE, by the check's judgement, and behind load
@@ -56,13 +56,13 @@ module _ (B : Book) {operators : List ℕ} {n : ℕ} (count : length (B .operato
   -- THE TEXT, by what the code reads of it
 
   module _ {text symbols symbols′ : List ℕ} where
-    pub text-taken : {m : ℕ} → Text-read n (arity-in operators) text symbols symbols′ (T.Text.Read m) → Taken readText B text symbols′ m
-    text-taken r =
-        let (e, l, p) = Texts.text-accepted B count t r refl in
+    text-taken : {m : ℕ} → Text-read n (arity-in operators) text symbols symbols′ (T.Text.Read m) → Taken readText B text symbols′ m
+    text-taken q =
+        let (e, l, p) = Texts.text-accepted B count t q refl in
         let u : Term = chain (squeezed text) in
-        let (c, q, h, a) = text-correct B text u e in
+        let (c, o, h, a) = text-correct B text u e in
         record {
-          long = r .long;
+          long = q .long;
           most = omega (arith, l, length-chain (squeezed text));
           term = u;
           line-read = e;
@@ -98,9 +98,7 @@ module _ {read : LineReader} {line symbols : List ℕ} {m : ℕ} (budget : ℕ) 
 
   pub reduced-alike : {work′ output′ : List ℕ} {r : D.Answer} → Reduced book front units budget schedule work output work′ output′ r →
       ReducedBy read book line units budget schedule work output work′ output′ r
-  reduced-alike h =
-      carried same-term (λ B b. b)
-      (λ B u b l.
-      let e : book-of book ≡ B = accepted-injective (sym (tables .read) ∙ b) in
-      ap (λ (X : Book). read X line) (sym e) ∙ t .line-read ∙ sym (t .term-read) ∙ ap (λ (X : Book). readLine X front) e ∙ l)
-      h
+  reduced-alike = reduced-as (sym same-term) (λ A r.
+      let e : book-of book ≡ r .rules = accepted-injective (sym (tables .read) ∙ r .book-read) in
+      run-as r (r .book-read)
+      (ap (λ (B : Book). read B line) (sym e) ∙ t .line-read ∙ sym (t .term-read) ∙ ap (λ (B : Book). readLine B front) e ∙ r .line-read))

@@ -119,7 +119,7 @@ fn post(
     run
 }
 
-// The same, if the schedule names the units.
+// The same, if every entry of the schedule names one of the units.
 fn run_checked(
     book: &[u8],
     operators: &[u8; 4352],
@@ -154,7 +154,7 @@ fn run_checked(
     ))
 }
 
-// What stands where the term stands, by the table of a book of n operators, as the symbols of a term in front.
+// Reads what stands where the term stands, by the table of a book of n operators, to the front of the symbols.
 fn read_term(
     form: Form,
     line: &[u8],
