@@ -93,8 +93,10 @@ module _ {read read₂ : LineReader} {book book₂ line line₂ : List ℕ} {uni
     demand-3 = r .demand-3;
     posting = r .posting;
     grants = r .grants;
+    accounted = r .accounted;
     allowed = r .allowed;
     used = r .used;
+    forks-within = r .forks-within;
     fits = r .fits;
   }
 

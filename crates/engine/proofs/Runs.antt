@@ -18,8 +18,8 @@ use Rattle.paper.proofs.Readers.{accepted-injective, refused-accepted}
 use Rattle.paper.proofs.Books.{read-sound}
 use Rattle.paper.proofs.Line.{line-correct}
 use Rattle.paper.proofs.Trees.{size-preorder}
-use Rattle.paper.proofs.Demand3.{demand-3}
-use Rattle.paper.proofs.OneUnit.{grants}
+use Rattle.paper.proofs.Demand3.{demand-3, forks-within}
+use Rattle.paper.proofs.OneUnit.{grants, accounted}
 use Rattle.flat.specs.Machine.{FlatState, flat-start, with-units}
 use Rattle.flat.specs.Run.{FlatAnswer, flat-run, flat-run-from, Reached, flatten}
 use Rattle.flat.proofs.Run.{same-run-read}
@@ -124,11 +124,12 @@ module _ (budget : ℕ) (schedule : List ℕ) {book operators rules symbols work
       unfolding flatten
       values-are =
           ap₂ (λ (a : FlatAnswer) (n : ℕ).
-          accepted (record { ending = a .ending; rewrites = a .rewrites; entries = a .entries; granted = a .granted; length = n })) answer-is length-is
+          accepted (record { ending = a .ending; rewrites = a .rewrites; entries = a .entries; granted = a .granted; kept = a .kept; length = n })) answer-is length-is
 
       run-of : RunOf book line units budget schedule work output A
       run-of =
           let d = demand-3 book line B (s .term) (s .tables .read) (s .term-read) units budget schedule in
+          let sound = read-sound book B (s .tables .read) in
           record {
             rules = B;
             term = s .term;
@@ -138,9 +139,11 @@ module _ (budget : ℕ) (schedule : List ℕ) {book operators rules symbols work
             is = refl;
             demand-3 = d;
             posting = d .posting;
-            grants = grants B (read-sound book B (s .tables .read)) (s .term) (of-line .0) (limited budget) units schedule;
+            grants = grants B sound (s .term) (of-line .0) (limited budget) units schedule;
+            accounted = accounted B sound (s .term) (of-line .0) (limited budget) units schedule;
             allowed = omega (arith, rewrites-are, bounded .allowed, limit);
             used = omega (arith, entries-are, bounded .used);
+            forks-within = forks-within B sound (s .term) (of-line .0) (limited budget) units schedule;
             fits = omega (arith, length-is, bounded .most);
           }
 

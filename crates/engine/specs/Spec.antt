@@ -1,9 +1,9 @@
 -- The entry points of a run: which definition their answers equal, and what becomes of the lent buffers (document 01, 'What is checked where', 'How a
--- run ends', 'What a reviewer will try, in order'; document 02, Change 1). Assumes nothing.
+-- run ends', 'What a reviewer will try, in order'; document 02, Changes 1 and 2). Assumes nothing.
 use mathlib.Core.Bool.{true}
 use mathlib.Core.List.{List, _++_}
 use mathlib.Core.Path.{_≡_}
-use Prim.Native.Nat.{ℕ, _≤_}
+use Prim.Native.Nat.{ℕ, _+_, _≤_}
 use lib.ListN.{length, drop, replicate}
 use Rattle.paper.specs.Result.{Result, refused, accepted}
 use Rattle.paper.specs.Tree.{preorder}
@@ -14,11 +14,12 @@ use Rattle.paper.specs.Text.{readText}
 use Rattle.paper.specs.Reduction.{rewrites, Reduces}
 use Rattle.paper.specs.Machine.{Ending}
 use Rattle.paper.specs.Run.{Answer, run}
-use Rattle.paper.specs.OneUnit.{Grants}
+use Rattle.paper.specs.OneUnit.{Grants, Accounted}
 use Rattle.paper.specs.Demand3.{Demand3}
 use Rattle.paper.specs.Page.{Request, LineReader, all-below, answerBy}
 use Rattle.entry.specs.State.{limited}
 use Rattle.run.specs.Contracts.{ending}
+use Rattle.run.specs.declared.Run as C
 use Rattle.engine.specs.declared.Answer as D
 use Rattle.engine.specs.declared.Form as F
 
@@ -28,26 +29,44 @@ published = 24624
 
 -- ANSWERS
 
--- what an accepted run answers: ending (its number is ending-number of the paper's page), rewrites made, entries used, FORKs granted, the
--- present term's length
+-- what an accepted run answers: ending (its number is ending-number of the paper's page), rewrites made, entries used, FORKs granted, FORKs kept
+-- (those that found nobody idle), the present term's length
 pub record Values : Type 0 where
   pub ending : Ending
   pub rewrites : ℕ
   pub entries : ℕ
   pub granted : ℕ
+  pub kept : ℕ
   pub length : ℕ
+
+-- the values of the code's run
+abbrev pub run-values : C.Run → Values
+run-values r = record {
+  ending = ending (r .ending);
+  rewrites = r .rewrites;
+  entries = r .entries;
+  granted = r .granted;
+  kept = r .kept;
+  length = r .length;
+}
 
 -- document 01's number or values for each case of the code's answer
 abbrev pub values : D.Answer → Result Values
 values (D.Answer.Refused k) = refused k
-values (D.Answer.Ran r) =
-    accepted (record { ending = ending (r .ending); rewrites = r .rewrites; entries = r .entries; granted = r .granted; length = r .length })
+values (D.Answer.Ran r) = accepted (run-values r)
 
 -- and of the definition's
 abbrev pub values-of : Result Answer → Result Values
 values-of (refused k) = refused k
 values-of (accepted A) =
-    accepted (record { ending = A .ending; rewrites = A .rewrites; entries = A .entries; granted = A .granted; length = length (preorder (A .term)) })
+    accepted (record {
+      ending = A .ending;
+      rewrites = A .rewrites;
+      entries = A .entries;
+      granted = A .granted;
+      kept = A .kept;
+      length = length (preorder (A .term));
+    })
 
 -- THE ENTRY POINTS
 
@@ -87,10 +106,14 @@ module _ (read : LineReader) (book line : List ℕ) (units budget : ℕ) (schedu
     pub posting : A .ending ≡ Ending.finished → Reduces rules rewrites term (A .rewrites) (A .term)
     -- FORKs granted in a finished run are at most the FORK orders of a one-unit run without symbol limit
     pub grants : A .ending ≡ Ending.finished → Grants rules budget term A
+    -- every FORK accounted for: in a finished run grants and kept together are exactly the FORKs of a one-unit run without symbol limit
+    pub accounted : A .ending ≡ Ending.finished → Accounted rules budget term A
     -- The papers leave free which ending comes where one order of units ends full and another finishes: it is that of this schedule. Whichever
     -- comes, these hold.
     pub allowed : A .rewrites ≤ budget
     pub used : A .entries ≤ length schedule
+    -- FORKs granted and FORKs that found nobody idle are together at most the entries used, so neither count can pass them
+    pub forks-within : A .granted + A .kept ≤ A .entries
     pub fits : length (preorder (A .term)) ≤ 1024
 
   -- Book, line and schedule are lent to be read, so they are unchanged. The answer and the output are said by `answeredBy`, which is asked with the

@@ -16,13 +16,15 @@ one [] a h = absurd (omega arith)
 one (x ∷ []) a h = refl
 one (x ∷ y ∷ l) a h = absurd (omega arith)
 
-pub five : (l : List ℕ) (a b c d e : ℕ) → length l ≡ 5 → set (set (set (set (set l 0 a) 1 b) 2 c) 3 d) 4 e ≡ a ∷ b ∷ c ∷ d ∷ e ∷ []
-five [] a b c d e h = absurd (omega arith)
-five (v ∷ []) a b c d e h = absurd (omega arith)
-five (v ∷ w ∷ []) a b c d e h = absurd (omega arith)
-five (v ∷ w ∷ x ∷ []) a b c d e h = absurd (omega arith)
-five (v ∷ w ∷ x ∷ y ∷ []) a b c d e h = absurd (omega arith)
-five (v ∷ w ∷ x ∷ y ∷ z ∷ l) a b c d e h = ap (λ l. a ∷ b ∷ c ∷ d ∷ e ∷ l) (none l (omega arith))
+pub six : (l : List ℕ) (a b c d e f : ℕ) → length l ≡ 6 →
+    set (set (set (set (set (set l 0 a) 1 b) 2 c) 3 d) 4 e) 5 f ≡ a ∷ b ∷ c ∷ d ∷ e ∷ f ∷ []
+six [] a b c d e f h = absurd (omega arith)
+six (u ∷ []) a b c d e f h = absurd (omega arith)
+six (u ∷ v ∷ []) a b c d e f h = absurd (omega arith)
+six (u ∷ v ∷ w ∷ []) a b c d e f h = absurd (omega arith)
+six (u ∷ v ∷ w ∷ x ∷ []) a b c d e f h = absurd (omega arith)
+six (u ∷ v ∷ w ∷ x ∷ y ∷ []) a b c d e f h = absurd (omega arith)
+six (u ∷ v ∷ w ∷ x ∷ y ∷ z ∷ l) a b c d e f h = ap (λ l. a ∷ b ∷ c ∷ d ∷ e ∷ f ∷ l) (none l (omega arith))
   where
     none : (l : List ℕ) → length l ≡ 0 → l ≡ []
     none [] h = refl

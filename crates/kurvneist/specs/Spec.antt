@@ -17,10 +17,10 @@ abbrev pub refusal : Result R.Values → ℕ
 refusal (refused k) = k
 refusal (accepted v) = 0
 
--- ending, rewrites, entries, granted, length
+-- ending, rewrites, entries, granted, kept, length
 abbrev pub value-numbers : Result R.Values → List ℕ
-value-numbers (refused k) = 0 ∷ 0 ∷ 0 ∷ 0 ∷ 0 ∷ []
-value-numbers (accepted v) = ending-number (v .ending) ∷ v .rewrites ∷ v .entries ∷ v .granted ∷ v .length ∷ []
+value-numbers (refused k) = 0 ∷ 0 ∷ 0 ∷ 0 ∷ 0 ∷ 0 ∷ []
+value-numbers (accepted v) = ending-number (v .ending) ∷ v .rewrites ∷ v .entries ∷ v .granted ∷ v .kept ∷ v .length ∷ []
 
 -- by either reader
 module _ (read : LineReader) (book line : List ℕ) (units budget : ℕ) (schedule work output : List ℕ) where

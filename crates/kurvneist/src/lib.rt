@@ -40,31 +40,33 @@ fn ending_number(e: Ending) -> u64
 }
 
 fn put_numbers(
-    answer: &mut [u64; 5],
+    answer: &mut [u64; 6],
     ending: u64,
     rewrites: u64,
     entries: u64,
     granted: u64,
+    kept: u64,
     size: u64,
 )
-    requires { ⌜ length (now answer) ≡ 5 ⌝ }
-    ensures { λ _. ⌜ now (answer .exit) ≡ ending ∷ rewrites ∷ entries ∷ granted ∷ size ∷ [] ⌝ }
+    requires { ⌜ length (now answer) ≡ 6 ⌝ }
+    ensures { λ _. ⌜ now (answer .exit) ≡ ending ∷ rewrites ∷ entries ∷ granted ∷ kept ∷ size ∷ [] ⌝ }
 {
     answer[0] = ending;
     answer[1] = rewrites;
     answer[2] = entries;
     answer[3] = granted;
-    answer[4] = size;
+    answer[4] = kept;
+    answer[5] = size;
 }
 
-// The refusal's number, or 0. The numbers are ending, rewrites, entries, granted and length, or zeros.
-fn put_answer(a: Answer, answer: &mut [u64; 5]) -> u8
-    requires { ⌜ length (now answer) ≡ 5 ⌝ }
+// The refusal's number, or 0. The numbers are ending, rewrites, entries, granted, kept and length, or zeros.
+fn put_answer(a: Answer, answer: &mut [u64; 6]) -> u8
+    requires { ⌜ length (now answer) ≡ 6 ⌝ }
     ensures { λ r. ⌜ (r ≡ X.refusal (values a)) × (now (answer .exit) ≡ X.value-numbers (values a)) ⌝ }
 {
     match a {
         Answer::Refused(k) => {
-            put_numbers(answer, 0, 0, 0, 0, 0);
+            put_numbers(answer, 0, 0, 0, 0, 0, 0);
             k
         }
         Answer::Ran(run) => {
@@ -75,6 +77,7 @@ fn put_answer(a: Answer, answer: &mut [u64; 5]) -> u8
                 run.rewrites as u64,
                 run.entries as u64,
                 run.granted as u64,
+                run.kept as u64,
                 run.length as u64,
             );
             0
@@ -92,9 +95,9 @@ pub extern "C" fn kurvneist_reduce(
     schedule: &[u8],
     work: &mut [u8],
     output: &mut [u8],
-    answer: &mut [u64; 5],
+    answer: &mut [u64; 6],
 ) -> u8
-    requires { ⌜ length (now answer) ≡ 5 ⌝ }
+    requires { ⌜ length (now answer) ≡ 6 ⌝ }
     ensures { λ r. ⌜ X.Reduced-in-numbers (now (book .entry)) (now (line .entry)) units budget (now (schedule .entry)) (now (work .entry))
         (now (output .entry)) (now (work .exit)) (now (output .exit)) (now (answer .exit)) r ⌝ }
 {
@@ -112,9 +115,9 @@ pub extern "C" fn kurvneist_payee(
     schedule: &[u8],
     work: &mut [u8],
     output: &mut [u8],
-    answer: &mut [u64; 5],
+    answer: &mut [u64; 6],
 ) -> u8
-    requires { ⌜ length (now answer) ≡ 5 ⌝ }
+    requires { ⌜ length (now answer) ≡ 6 ⌝ }
     ensures { λ r. ⌜ X.Payee-in-numbers (now (book .entry)) (now (text .entry)) units budget (now (schedule .entry)) (now (work .entry))
         (now (output .entry)) (now (work .exit)) (now (output .exit)) (now (answer .exit)) r ⌝ }
 {

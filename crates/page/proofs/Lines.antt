@@ -8,21 +8,18 @@ use lib.Seq.{take-at}
 use Rattle.paper.specs.Result.{Result, refused, accepted, Read, then}
 use Rattle.paper.specs.Tree.{preorder}
 use Rattle.paper.specs.Run.{Answer}
-use Rattle.paper.specs.Page.{Request, LineReader, frame-fault, run-checked, answerBy, read-request, ending-number, line, refused-word, end-word, rewrites-word, entries-word, granted-word, term-word, answer-lines, pageBy}
-use Rattle.run.specs.Contracts.{ending}
+use Rattle.paper.specs.Page.{Request, LineReader, frame-fault, run-checked, answerBy, read-request, line, refused-word, answer-lines, pageBy}
 use Rattle.engine.specs.Spec as R
 use Rattle.engine.specs.declared.Answer as A
 use Rattle.page.specs.Spec.{Paged, fixed-line}
-use Rattle.page.specs.Contracts.{asked, Written-at, lines, Term-fits}
+use Rattle.page.specs.Contracts.{asked, Written-at, run-lines, lines, Term-fits}
 
 -- THE ANSWER
 
--- the values of an accepted run
-abbrev the-lines : R.Values → List ℕ → List ℕ
-the-lines v term =
-    line end-word (ending-number (v .ending) ∷ [])
-    ++ (line rewrites-word (v .rewrites ∷ [])
-    ++ (line entries-word (v .entries ∷ []) ++ (line granted-word (v .granted ∷ []) ++ line term-word term)))
+-- the same values give the same lines, where the term stands at the front of the output
+same-lines : {v w : R.Values} (output : List ℕ) {term : List ℕ} → v ≡ w → take (w .length) output ≡ term →
+    run-lines v (take (v .length) output) ≡ run-lines w term
+same-lines {w = w} output e h = ap (λ (v : R.Values). run-lines v (take (v .length) output)) e ∙ ap (run-lines w) h
 
 same-values : {v w : R.Values} → _≡_ {A = Result R.Values} (accepted v) (accepted w) → v ≡ w
 same-values e = cc
@@ -42,15 +39,7 @@ unfolding answer-lines
 lines-as (A.Answer.Refused k) (refused n) output e h = ap (λ (i : ℕ). line refused-word (i ∷ [])) (same-number e)
 lines-as (A.Answer.Refused k) (accepted a) output e h = absurd (apart e)
 lines-as (A.Answer.Ran r) (refused n) output e h = absurd (apart (sym e))
-lines-as (A.Answer.Ran r) (accepted a) output e h =
-    ap (λ (v : R.Values). the-lines v (take (v .length) output)) (same-values e)
-    ∙ ap (λ (term : List ℕ). the-lines (record {
-      ending = a .ending;
-      rewrites = a .rewrites;
-      entries = a .entries;
-      granted = a .granted;
-      length = length (preorder (a .term));
-    }) term) (h a refl)
+lines-as (A.Answer.Ran r) (accepted a) output e h = same-lines output (same-values e) (h a refl)
 
 fits-as : (r : A.Answer) (x : Result Answer) (output : List ℕ) → R.values r ≡ R.values-of x → length output ≡ 1024 →
     ((a : Answer) → x ≡ accepted a → length (preorder (a .term)) ≤ 1024) → Term-fits r output

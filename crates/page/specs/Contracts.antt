@@ -4,9 +4,8 @@ use mathlib.Core.Path.{_≡_}
 use Prim.Native.Nat.{ℕ, _+_, _-_, _≤_}
 use lib.ListN.{length, getD, take, drop}
 use Rattle.paper.specs.Result.{Result, refused, accepted, Read, Reader, _>>=_}
-use Rattle.paper.specs.Page.{Request, number, read-bytes, read-number, read-request, ending-number, decimal, line, refused-word, end-word, rewrites-word, entries-word, granted-word, term-word}
-use Rattle.run.specs.Contracts.{ending}
-use Rattle.run.specs.declared.Run as D
+use Rattle.paper.specs.Page.{Request, number, read-bytes, read-number, read-request, ending-number, decimal, line, refused-word, end-word, rewrites-word, entries-word, granted-word, kept-word, term-word}
+use Rattle.engine.specs.Spec as R
 use Rattle.engine.specs.declared.Answer as A
 use Rattle.page.specs.declared.PartEnd as E
 use Rattle.page.specs.declared.Parts as P
@@ -82,16 +81,17 @@ abbrev pub decimal-field : ℕ → List ℕ
 decimal-field v = 32 ∷ decimal v
 
 -- the lines of a run's values and its term
-abbrev pub run-lines : D.Run → List ℕ → List ℕ
-run-lines r term =
-    line end-word (ending-number (ending (r .ending)) ∷ [])
-    ++ (line rewrites-word (r .rewrites ∷ [])
-    ++ (line entries-word (r .entries ∷ []) ++ (line granted-word (r .granted ∷ []) ++ line term-word term)))
+abbrev pub run-lines : R.Values → List ℕ → List ℕ
+run-lines v term =
+    line end-word (ending-number (v .ending) ∷ [])
+    ++ (line rewrites-word (v .rewrites ∷ [])
+    ++ (line entries-word (v .entries ∷ [])
+    ++ (line granted-word (v .granted ∷ []) ++ (line kept-word (v .kept ∷ []) ++ line term-word term))))
 
 -- the lines of the engine's answer, its term standing at the front of the output
 abbrev pub lines : A.Answer → List ℕ → List ℕ
 lines (A.Answer.Refused k) output = line refused-word (k ∷ [])
-lines (A.Answer.Ran r) output = run-lines r (take (r .length) output)
+lines (A.Answer.Ran r) output = run-lines (R.run-values r) (take (r .length) output)
 
 -- the answer's term fits the output and the page
 abbrev pub Term-fits : A.Answer → List ℕ → Type 0

@@ -1,4 +1,4 @@
-// The program's page for its standard input (document 01, 'The program and its page').
+// The program's page for its standard input (document 01, 'The program and its page'; document 02, Changes 1 and 2).
 use engine::Answer;
 use engine::Form;
 use run::Ending;
@@ -9,7 +9,7 @@ ghost use Prim.Native.Nat.{_+_, _≤_, _<_};
 ghost use lib.ListN.{length, take, drop};
 ghost use Rattle.paper.specs.Page.{number, ending-number, spaced, line, term-word, answer-lines, answerBy};
 ghost use Rattle.run.specs.Contracts.{ending};
-ghost use Rattle.engine.specs.Spec.{reader};
+ghost use Rattle.engine.specs.Spec.{run-values, reader};
 ghost use Rattle.page.specs.Spec as S;
 ghost use Rattle.page.specs.Contracts as C;
 
@@ -187,14 +187,15 @@ fn ending_number(e: Ending) -> usize
 // The lines of a run and its term.
 fn run_lines(r: Run, term: &[u8], page: &mut [u8; 8192], at: usize) -> usize
     requires { ⌜ (length (now term) ≤ 1024) × (length (now page) ≡ 8192) × (at ≤ 1000) ⌝ }
-    ensures { λ s. ⌜ C.Written-at at (C.run-lines r (now (term .entry))) (now (page .entry)) (now (page .exit)) s ⌝ }
+    ensures { λ s. ⌜ C.Written-at at (C.run-lines (run-values r) (now (term .entry))) (now (page .entry)) (now (page .exit)) s ⌝ }
 {
     let ending = r.ending;
     let a = line(b"end", ending_number(ending), page, at);
     let b = line(b"rewrites", casts::position(r.rewrites), page, a);
     let c = line(b"entries", r.entries, page, b);
     let d = line(b"granted", r.granted, page, c);
-    term_line(term, page, d)
+    let e = line(b"kept", r.kept, page, d);
+    term_line(term, page, e)
 }
 
 // The lines of the engine's answer, whose term stands at the front of the output.

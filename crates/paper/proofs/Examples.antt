@@ -19,7 +19,7 @@ use Rattle.paper.specs.Match.{rewrite}
 use Rattle.paper.specs.Machine.{Order, unit-state, Event, Ending}
 use Rattle.paper.specs.Run.{Answer, run, Moment, moments, events}
 use Rattle.paper.specs.Page.{answerBy, answerOf, pageOf, writtenOf}
-use Rattle.paper.proofs.Starred.{ascii, P-bytes, input-on, input, one-of, two-of, x, y, P-operators, P, end, tick, both, Q, dup, limits}
+use Rattle.paper.proofs.Starred.{ascii, P-bytes, input-on, input, turns, one-of, two-of, x, y, P-operators, P, end, tick, both, Q, dup, limits}
 
 -- Pages and answers
 
@@ -46,7 +46,7 @@ end-page units schedule = pageOf (input (0 ∷ []) units 9 schedule)
 -- the page of that run, finished
 unfoldable pub end-finished : List ℕ
 unfolding ascii
-end-finished = ascii "REDUCE 1\nend 0\nrewrites 0\nentries 3\ngranted 0\nterm 0\n"
+end-finished = ascii "REDUCE 1\nend 0\nrewrites 0\nentries 3\ngranted 0\nkept 0\nterm 0\n"
 
 -- the length that the engine publishes for a work area
 abbrev pub published : ℕ
@@ -350,8 +350,8 @@ pub record Bounds : Type 0 where
   pub side-64 : readBook (writeBook (long 63)) ≡ accepted (long 63)
   pub side-65 : readBook (writeBook (long 64)) ≡ refused 8
   -- a rewrite that leaves 1,024 symbols; one that would leave 1,025
-  pub symbols-1024 : grow-page 3 1 ≡ tree-after "REDUCE 1\nend 3\nrewrites 1\nentries 2\ngranted 0\nterm 1"
-  pub symbols-1025 : grow-page 4 1 ≡ tree-after "REDUCE 1\nend 2\nrewrites 0\nentries 2\ngranted 0\nterm 4"
+  pub symbols-1024 : grow-page 3 1 ≡ tree-after "REDUCE 1\nend 3\nrewrites 1\nentries 2\ngranted 0\nkept 0\nterm 1"
+  pub symbols-1025 : grow-page 4 1 ≡ tree-after "REDUCE 1\nend 2\nrewrites 0\nentries 2\ngranted 0\nkept 0\nterm 4"
 
 pub bounds : Bounds
 unfolding refusal end-page end-finished library chain long readLine readBook writeBook grow-page tree-after
@@ -386,7 +386,7 @@ pub record Runs : Type 0 where
   pub just-fits : run Q (limits 7) 1 (replicate 99 0) (dup (tick (tick end))) ≡
       record { ending = Ending.finished; rewrites = 1; entries = 19; granted = 0; kept = 1; term = both (tick (tick end)) (tick (tick end)) }
   -- a WHOLE that is both spent and full is spent: the rewrite of `symbols-1025`, with budget 0
-  pub spent-and-full : grow-page 4 0 ≡ tree-after "REDUCE 1\nend 1\nrewrites 0\nentries 2\ngranted 0\nterm 4"
+  pub spent-and-full : grow-page 4 0 ≡ tree-after "REDUCE 1\nend 1\nrewrites 0\nentries 2\ngranted 0\nkept 0\nterm 4"
   -- a rewrite forgets its own term's orders, here VISIT and WHOLE of the part dup(end), and no other
   pub forgotten : map (λ (m : Moment). m .state .units) (drop 2 (moments Q (limits 9) 1 (replicate 3 0) (tick (dup end)))) ≡
       (unit-state true (Order.visit (0 ∷ []) ∷ Order.whole [] 0 ∷ Order.bingo ∷ []) ∷ []) ∷ []
@@ -399,16 +399,21 @@ pub record Runs : Type 0 where
       ∷ []
   pub lists-written : writtenOf lists-bytes ≡ accepted lists-bytes
   -- pair(tick(end), tick(end)) is reduced, first the first argument (as a budget of 1 shows) and last the whole term
-  pub none-given : lists-page (2 ∷ 1 ∷ 0 ∷ 1 ∷ 0 ∷ []) 9 ≡ ascii "REDUCE 1\nend 0\nrewrites 3\nentries 17\ngranted 0\nterm 0\n"
-  pub first-argument : lists-page (2 ∷ 1 ∷ 0 ∷ 1 ∷ 0 ∷ []) 1 ≡ ascii "REDUCE 1\nend 1\nrewrites 1\nentries 11\ngranted 0\nterm 2 0 1 0\n"
+  pub none-given : lists-page (2 ∷ 1 ∷ 0 ∷ 1 ∷ 0 ∷ []) 9 ≡ ascii "REDUCE 1\nend 0\nrewrites 3\nentries 17\ngranted 0\nkept 0\nterm 0\n"
+  pub first-argument : lists-page (2 ∷ 1 ∷ 0 ∷ 1 ∷ 0 ∷ []) 1 ≡ ascii "REDUCE 1\nend 1\nrewrites 1\nentries 11\ngranted 0\nkept 0\nterm 2 0 1 0\n"
   -- in shut(tick(end), tick(end)) nothing is
-  pub empty-given : lists-page (3 ∷ 1 ∷ 0 ∷ 1 ∷ 0 ∷ []) 9 ≡ ascii "REDUCE 1\nend 0\nrewrites 0\nentries 2\ngranted 0\nterm 3 1 0 1 0\n"
+  pub empty-given : lists-page (3 ∷ 1 ∷ 0 ∷ 1 ∷ 0 ∷ []) 9 ≡ ascii "REDUCE 1\nend 0\nrewrites 0\nentries 2\ngranted 0\nkept 0\nterm 3 1 0 1 0\n"
   -- a FORK goes to the lowest-numbered idle unit: the part is unit 1's, and unit 2 has nothing to do
   pub lowest-idle : pageOf (input (2 ∷ 0 ∷ 0 ∷ []) 3 9 (0 ∷ 0 ∷ 1 ∷ 1 ∷ 1 ∷ replicate 7 0)) ≡
-      ascii "REDUCE 1\nend 0\nrewrites 1\nentries 12\ngranted 1\nterm 0\n"
+      ascii "REDUCE 1\nend 0\nrewrites 1\nentries 12\ngranted 1\nkept 0\nterm 0\n"
   -- from 1 up: unit 0 waits at its JOIN, and the FORK of unit 1 finds nobody
   pub never-unit-0 : pageOf (input (2 ∷ 2 ∷ 0 ∷ 0 ∷ 0 ∷ []) 2 9 (0 ∷ 0 ∷ 0 ∷ 0 ∷ 0 ∷ 1 ∷ 1 ∷ [])) ≡
-      ascii "REDUCE 1\nend 3\nrewrites 0\nentries 7\ngranted 1\nterm 2 2 0 0 0\n"
+      ascii "REDUCE 1\nend 3\nrewrites 0\nentries 7\ngranted 1\nkept 1\nterm 2 2 0 0 0\n"
+  -- every FORK accounted for: of the two, two units grant one and keep one, and one unit keeps both
+  pub forks-of-two : pageOf (input (2 ∷ 2 ∷ 0 ∷ 0 ∷ 0 ∷ []) 2 9 (turns 99)) ≡
+      ascii "REDUCE 1\nend 0\nrewrites 2\nentries 33\ngranted 1\nkept 1\nterm 0\n"
+  pub forks-of-one : pageOf (input (2 ∷ 2 ∷ 0 ∷ 0 ∷ 0 ∷ []) 1 9 (replicate 99 0)) ≡
+      ascii "REDUCE 1\nend 0\nrewrites 2\nentries 19\ngranted 0\nkept 2\nterm 0\n"
   -- a group of three: the first EXIT takes the JOIN's count from 2 to 1, and its unit stays idle; the second takes it to 0, and the JOIN passes
   pub three-parts : drop 5 (done three-bytes (1 ∷ 0 ∷ 0 ∷ 0 ∷ []) 3 (0 ∷ 0 ∷ 0 ∷ 0 ∷ 0 ∷ 0 ∷ 1 ∷ 1 ∷ 1 ∷ 0 ∷ 2 ∷ 2 ∷ 2 ∷ 0 ∷ [])) ≡
       Event.waited
@@ -423,16 +428,16 @@ pub record Runs : Type 0 where
       ∷ []
   -- so on the page: unit 1 waits for units 3 and 4. Unit 3 has exited: unit 1 is idle, and takes the FORK of unit 0's last entry
   pub still-idle : three-page (0 ∷ 0 ∷ 0 ∷ 1 ∷ 1 ∷ 1 ∷ 1 ∷ 1 ∷ 1 ∷ 3 ∷ 3 ∷ 3 ∷ 0 ∷ 0 ∷ []) ≡
-      ascii "REDUCE 1\nend 3\nrewrites 0\nentries 14\ngranted 5\nterm 1 1 0 0 0 0 1 0 0 0\n"
+      ascii "REDUCE 1\nend 3\nrewrites 0\nentries 14\ngranted 5\nkept 0\nterm 1 1 0 0 0 0 1 0 0 0\n"
   -- both have: unit 1 is busy, and nobody takes it
   pub awake : three-page (0 ∷ 0 ∷ 0 ∷ 1 ∷ 1 ∷ 1 ∷ 1 ∷ 1 ∷ 1 ∷ 3 ∷ 3 ∷ 3 ∷ 4 ∷ 4 ∷ 4 ∷ 0 ∷ 0 ∷ []) ≡
-      ascii "REDUCE 1\nend 3\nrewrites 0\nentries 17\ngranted 4\nterm 1 1 0 0 0 0 1 0 0 0\n"
+      ascii "REDUCE 1\nend 3\nrewrites 0\nentries 17\ngranted 4\nkept 1\nterm 1 1 0 0 0 0 1 0 0 0\n"
   -- the outer JOIN's part exits and its unit wakes; on top of that unit is the inner JOIN, whose part has not exited
   pub woken : drop 9 (events (moments P (limits 9) 3 (0 ∷ 0 ∷ 0 ∷ 0 ∷ 0 ∷ 0 ∷ 0 ∷ 1 ∷ 1 ∷ 1 ∷ 0 ∷ []) (both end (both end end)))) ≡
       Event.exited (0 ∷ []) 0 ∷ Event.waited ∷ []
 
 pub runs : Runs
-unfolding ascii input pageOf readBook writtenOf rewrite run moments events strategies grow-page tree-after lists-page done three-page
+unfolding ascii input turns pageOf readBook writtenOf rewrite run moments events strategies grow-page tree-after lists-page done three-page
 runs = record {
   first-general = refl;
   first-special = refl;
@@ -447,6 +452,8 @@ runs = record {
   empty-given = refl;
   lowest-idle = refl;
   never-unit-0 = refl;
+  forks-of-two = refl;
+  forks-of-one = refl;
   three-parts = refl;
   still-idle = refl;
   awake = refl;

@@ -1,4 +1,5 @@
--- The starred cases of document 01 ('The program and its page') in one statement, all of them computed; proofs/Examples has more. Assumes nothing.
+-- The starred cases of document 01 ('The program and its page') in one statement, all of them computed, with the page's line `kept` of document 02,
+-- Change 2; proofs/Examples has more. Assumes nothing.
 use mathlib.Core.List.{List, [], _∷_, _++_}
 use mathlib.Core.Option.{some}
 use mathlib.Core.Path.{_≡_, refl}
@@ -119,13 +120,13 @@ limits n = record { budget = 9; symbols = some n }
 
 pub record Starred : Type 0 where
   -- the page; with 28 entries; with budget 1
-  pub page : pageOf (input P-line 1 9 (replicate 29 0)) ≡ ascii "REDUCE 1\nend 0\nrewrites 2\nentries 29\ngranted 0\nterm 1 1 0\n"
-  pub cut : pageOf (input P-line 1 9 (replicate 28 0)) ≡ ascii "REDUCE 1\nend 3\nrewrites 2\nentries 28\ngranted 0\nterm 1 1 0\n"
-  pub spent : pageOf (input P-line 1 1 (replicate 29 0)) ≡ ascii "REDUCE 1\nend 1\nrewrites 1\nentries 23\ngranted 0\nterm 1 2 0 1 0\n"
+  pub page : pageOf (input P-line 1 9 (replicate 29 0)) ≡ ascii "REDUCE 1\nend 0\nrewrites 2\nentries 29\ngranted 0\nkept 2\nterm 1 1 0\n"
+  pub cut : pageOf (input P-line 1 9 (replicate 28 0)) ≡ ascii "REDUCE 1\nend 3\nrewrites 2\nentries 28\ngranted 0\nkept 2\nterm 1 1 0\n"
+  pub spent : pageOf (input P-line 1 1 (replicate 29 0)) ≡ ascii "REDUCE 1\nend 1\nrewrites 1\nentries 23\ngranted 0\nkept 2\nterm 1 2 0 1 0\n"
   -- U = 2, 100 entries of 0
-  pub waits : pageOf (input P-line 2 9 (replicate 100 0)) ≡ ascii "REDUCE 1\nend 3\nrewrites 0\nentries 100\ngranted 1\nterm 2 1 0 1 0\n"
+  pub waits : pageOf (input P-line 2 9 (replicate 100 0)) ≡ ascii "REDUCE 1\nend 3\nrewrites 0\nentries 100\ngranted 1\nkept 0\nterm 2 1 0 1 0\n"
   -- U = 2, 13 entries 0 1 0 1 ..: the page, and what the last entry did, P and its line being what is read
-  pub turned : pageOf (input P-line 2 9 (turns 13)) ≡ ascii "REDUCE 1\nend 3\nrewrites 0\nentries 13\ngranted 1\nterm 2 1 0 1 0\n"
+  pub turned : pageOf (input P-line 2 9 (turns 13)) ≡ ascii "REDUCE 1\nend 3\nrewrites 0\nentries 13\ngranted 1\nkept 0\nterm 2 1 0 1 0\n"
   pub book-read : readBook P-bytes ≡ accepted P
   pub line-read : readLine P P-line ≡ accepted (both (tick end) (tick end))
   pub passed : drop 12 (events (moments P (limits 1024) 2 (turns 13) (both (tick end) (tick end)))) ≡ Event.passed 0 ∷ []

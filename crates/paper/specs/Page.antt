@@ -149,16 +149,21 @@ entries-word = 101 ∷ 110 ∷ 116 ∷ 114 ∷ 105 ∷ 101 ∷ 115 ∷ []
 abbrev pub granted-word : List ℕ
 granted-word = 103 ∷ 114 ∷ 97 ∷ 110 ∷ 116 ∷ 101 ∷ 100 ∷ []
 
+abbrev pub kept-word : List ℕ
+kept-word = 107 ∷ 101 ∷ 112 ∷ 116 ∷ []
+
 abbrev pub term-word : List ℕ
 term-word = 116 ∷ 101 ∷ 114 ∷ 109 ∷ []
 
+-- `kept` counts the FORKs that found nobody idle so far, in every ending (document 02, Change 2)
 unfoldable pub answer-lines : Result Answer → List ℕ
 unfolding line preorder
 answer-lines (refused n) = line refused-word (n ∷ [])
 answer-lines (accepted a) =
     line end-word (ending-number (a .ending) ∷ [])
     ++ (line rewrites-word (a .rewrites ∷ [])
-    ++ (line entries-word (a .entries ∷ []) ++ (line granted-word (a .granted ∷ []) ++ line term-word (preorder (a .term)))))
+    ++ (line entries-word (a .entries ∷ [])
+    ++ (line granted-word (a .granted ∷ []) ++ (line kept-word (a .kept ∷ []) ++ line term-word (preorder (a .term))))))
 
 -- the whole page for a whole standard input
 unfoldable pub pageBy : LineReader → List ℕ → List ℕ

@@ -106,6 +106,8 @@ fn say_run(run: Run, output: &[u8])
     say_number(run.entries);
     say(b" granted ");
     say_number(run.granted);
+    say(b" kept ");
+    say_number(run.kept);
     say(b" term ");
     say_front(output, run.length);
 }
