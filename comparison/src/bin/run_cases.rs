@@ -101,7 +101,7 @@ fn line(case: &Case) -> String {
 }
 
 fn forks(answer: &Answer) -> String {
-    format!("granted {}", answer.granted)
+    format!("granted {} kept {}", answer.granted, answer.kept)
 }
 
 fn answer(case: &Case) -> Result<Answer, u8> {
@@ -143,6 +143,7 @@ fn check(cases: &[Case]) {
         Slip::Copies,
         Slip::Order,
         Slip::Padding,
+        Slip::Kept,
         Slip::Twice,
     ] {
         let shows = |case: &Case| shows(case, slip);
@@ -642,6 +643,9 @@ fn slip_cases() -> Vec<Case> {
             .line([1, 1, 0, 0, 0])
             .units(2)
             .schedule([&[0; 5][..], &[1; 8], &[0, 1].repeat(10)].concat()),
+        case("a FORK is kept, and its JOIN not reached", nodes_book())
+            .line([1, 0, 0])
+            .zeros(2),
         stacked("a part on top of a waiting JOIN"),
         case("a rewrite forgets its own term's orders", forgets)
             .line([3, 2, 0, 2, 0])
