@@ -8,9 +8,11 @@ use std::time::{Duration, Instant};
 use comparison::model::Form;
 use kurvneist::{Answer, Ending, Engine, Request};
 
-use crate::letters;
+use crate::json::Json;
 use crate::line;
 use crate::mistake::Mistake;
+use crate::outcome::Outcome;
+use crate::profile::Profile;
 use crate::progress::Progress;
 use crate::text::check::Named;
 use crate::text::lexer::is_blank;
@@ -26,6 +28,24 @@ pub struct Settings<'a> {
     pub counts: bool,
     /// The lines are ISO 8859-1.
     pub latin1: bool,
+    /// An object in JSON for each line.
+    pub json: bool,
+    /// Counts each rule's rewrites.
+    pub profile: Option<&'a Profile>,
+}
+
+impl Settings<'_> {
+    /// What became of the line with that number, counted from 1.
+    fn told(&self, line: usize, outcome: &Outcome) -> String {
+        match self.json {
+            true => {
+                let mut fields = outcome.fields();
+                fields.insert(0, ("line", line.into()));
+                Json::from(fields).to_string()
+            }
+            false => outcome.text(self.counts),
+        }
+    }
 }
 
 #[derive(Clone, Copy, Debug, Default)]
@@ -49,7 +69,17 @@ impl Summary {
         self.unfinished.iter().sum::<usize>() + self.refused + self.mistaken
     }
 
-    fn count(&mut self, answer: &Answer) {
+    fn count(&mut self, outcome: &Outcome) {
+        self.lines += 1;
+        match outcome {
+            Outcome::Empty(_) => self.empty += 1,
+            Outcome::Mistyped { .. } => self.mistaken += 1,
+            Outcome::Refused(_) => self.refused += 1,
+            Outcome::Ran { answer, .. } => self.count_run(answer),
+        }
+    }
+
+    fn count_run(&mut self, answer: &Answer) {
         self.rewrites += u64::from(answer.rewrites);
         self.entries += answer.entries;
         self.granted += answer.granted;
@@ -118,13 +148,12 @@ pub fn run_form(
     let mut summary = Summary::default();
     let lines = lines(input);
     for line in &lines {
-        let text = decoded(line, settings.latin1);
-        let told = match &text {
-            Ok(text) => told(form, text, settings, &mut engine, &mut summary),
-            Err(reason) => mistaken(reason, &mut summary),
+        let outcome = match decoded(line, settings.latin1) {
+            Ok(text) => outcome(form, &text, settings, &mut engine),
+            Err(mistyped) => mistyped,
         };
-        writeln!(output, "{told}")?;
-        summary.lines += 1;
+        summary.count(&outcome);
+        writeln!(output, "{}", settings.told(summary.lines, &outcome))?;
         let note = format!(" lines, {} not posted", summary.not_posted());
         progress.tell(summary.lines, lines.len(), &note);
     }
@@ -145,37 +174,29 @@ fn lines(input: &[u8]) -> Vec<&[u8]> {
         .collect()
 }
 
-fn decoded(line: &[u8], latin1: bool) -> Result<String, String> {
+fn decoded(line: &[u8], latin1: bool) -> Result<String, Outcome> {
     if latin1 {
         return Ok(line.iter().copied().map(char::from).collect());
     }
     String::from_utf8(line.to_vec()).map_err(|error| {
         let good = error.utf8_error().valid_up_to();
-        let column = String::from_utf8_lossy(&line[..good]).chars().count() + 1;
-        format!(
-            "column {column}: the byte {:02X} is not UTF-8; expected UTF-8, or --latin1",
-            line[good]
-        )
+        Outcome::Mistyped {
+            column: String::from_utf8_lossy(&line[..good]).chars().count() + 1,
+            message: format!(
+                "the byte {:02X} is not UTF-8; expected UTF-8, or --latin1",
+                line[good]
+            ),
+        }
     })
 }
 
-fn told(
-    form: Form,
-    text: &str,
-    settings: &Settings,
-    engine: &mut Engine,
-    summary: &mut Summary,
-) -> String {
+fn outcome(form: Form, text: &str, settings: &Settings, engine: &mut Engine) -> Outcome {
     if is_blank(text) {
-        summary.empty += 1;
-        return text.to_owned();
+        return Outcome::Empty(text.to_owned());
     }
     match read(form, text, settings) {
-        Ok(line) => posted(form, &line, settings, engine, summary),
-        Err(mistake) => {
-            let (_, column) = mistake.place(text);
-            mistaken(&format!("column {column}: {}", mistake.message()), summary)
-        }
+        Ok(line) => run_line(form, &line, settings, engine),
+        Err(mistake) => Outcome::mistyped(&mistake, text),
     }
 }
 
@@ -188,18 +209,7 @@ fn read(form: Form, text: &str, settings: &Settings) -> Result<Vec<u8>, Mistake>
     }
 }
 
-fn mistaken(reason: &str, summary: &mut Summary) -> String {
-    summary.mistaken += 1;
-    format!("! {reason}")
-}
-
-fn posted(
-    form: Form,
-    line: &[u8],
-    settings: &Settings,
-    engine: &mut Engine,
-    summary: &mut Summary,
-) -> String {
+fn run_line(form: Form, line: &[u8], settings: &Settings, engine: &mut Engine) -> Outcome {
     let request = Request {
         book: &settings.named.book,
         line,
@@ -211,31 +221,16 @@ fn posted(
         Form::Line => engine.post(&request),
         Form::Text => engine.post_payee(&request),
     };
-    let posting = match posting {
-        Ok(posting) => posting,
-        Err(refusal) => {
-            summary.refused += 1;
-            return format!("! {}", letters::told(&refusal));
+    match posting {
+        Ok(posting) => {
+            if let Some(profile) = settings.profile {
+                profile.add(form, &request, &posting);
+            }
+            Outcome::Ran {
+                answer: posting.answer,
+                term: printer::term(posting.term, &settings.named.names),
+            }
         }
-    };
-    let answer = posting.answer;
-    summary.count(&answer);
-    let term = printer::term(posting.term, &settings.named.names);
-    let told = match answer.ending {
-        Ending::Finished => term,
-        Ending::Spent => format!("! spent after {} rewrites at {term}", answer.rewrites),
-        Ending::Full => format!("! full after {} rewrites at {term}", answer.rewrites),
-        Ending::Cut => format!("! cut after {} entries at {term}", answer.entries),
-    };
-    match settings.counts {
-        true => format!("{told}  # {}", counts(&answer)),
-        false => told,
+        Err(refusal) => Outcome::Refused(refusal),
     }
-}
-
-pub fn counts(answer: &Answer) -> String {
-    format!(
-        "rewrites {}, entries {}, granted {}, kept {}",
-        answer.rewrites, answer.entries, answer.granted, answer.kept
-    )
 }

@@ -4,17 +4,25 @@
 //! - `text`: the text form of books: `lexer`, `parser`, `check`, `sides` from
 //!   text to book, `printer` from book to text.
 //! - `names`, `line`, `letters`, `schedule`, `mistake`: what the commands share.
-//! - `trace`: a run entry by entry, as text and as a picture.
-//! - `batch`, `progress`: many lines against one book.
+//! - `warnings`: what a book may not mean.
+//! - `trace`: a run entry by entry, as text and as a picture; `explain`: its
+//!   rewrites.
+//! - `batch`, `outcome`, `profile`, `progress`: many lines against one book.
+//! - `json`: JSON, written.
 //! - `cli`: the commands, their options and help.
 
 pub mod batch;
 pub mod cli;
+pub mod explain;
+pub mod json;
 pub mod letters;
 pub mod line;
 pub mod mistake;
 pub mod names;
+pub mod outcome;
+pub mod profile;
 pub mod progress;
 pub mod schedule;
 pub mod text;
 pub mod trace;
+pub mod warnings;

@@ -40,6 +40,8 @@ fn output_line_k_belongs_to_input_line_k() {
         schedule: &schedule,
         counts: false,
         latin1: false,
+        json: false,
+        profile: None,
     };
     let mut random = Random::new(5);
     for ending in ["", "\n", "\r\n"] {

@@ -67,13 +67,23 @@ pub fn output(parsed: &Parsed) -> Result<Box<dyn Write>, Stop> {
 
 /// The book of a text, or all its mistakes.
 pub fn named_text(name: &str) -> Result<Named, Stop> {
+    let (source, read) = read_text(name)?;
+    read.map_err(|mistakes| mistaken(name, &source, &mistakes))
+}
+
+/// A text, and its book or all its mistakes.
+pub fn read_text(name: &str) -> Result<(String, Result<Named, Vec<Mistake>>), Stop> {
     let bytes = bytes(name)?;
-    let source = String::from_utf8_lossy(&bytes);
+    let source = String::from_utf8_lossy(&bytes).into_owned();
     let read = match std::str::from_utf8(&bytes) {
         Ok(source) => check::read(source),
         Err(error) => Err(vec![not_utf8(&bytes, error.valid_up_to())]),
     };
-    read.map_err(|mistakes| Stop::new(Status::Input, shown(name, &source, &mistakes)))
+    Ok((source, read))
+}
+
+pub fn mistaken(name: &str, source: &str, mistakes: &[Mistake]) -> Stop {
+    Stop::new(Status::Input, shown(name, source, mistakes))
 }
 
 /// The bad byte became a character of three bytes in the shown source.
@@ -108,7 +118,11 @@ pub fn named_packed(
     let names = match names {
         None => made_up(&read),
         Some(text) => {
-            let names = named_text(text)?.names;
+            let named = named_text(text)?;
+            let names = match named.book == book {
+                true => named.names,
+                false => named.names.without_variables(),
+            };
             if !names.fit(&read) {
                 let message = format!("{text}: its operators' number or arities aren't {name}'s");
                 return Err(Stop::new(Status::Input, message));

@@ -7,11 +7,13 @@ use crate::schedule;
 
 const STATUS: &str = "\
 Exit status
-  0  done; in post, trace and batch: every run finished
+  0  done; in post, explain, trace and batch: every run finished
   1  a line was refused, mistyped, or its run didn't finish
   2  the command line is wrong
-  3  a book is mistaken or refused, or a file can't be used
-  4  a trace differs from the engine, or a text from its book
+  3  a book is mistaken or refused, has a warning in check --strict, or a file
+     can't be used
+  4  a trace, explanation or profile differs from the engine, or a text from its
+     book
 ";
 
 const FORM: &str = "\
@@ -86,11 +88,60 @@ it is shown. Books keep no names: with --names the operators are called as in
 that text, which must declare as many, with the same arities.
 ";
 
+pub const CHECK: &str = "\
+A warning has the form of a mistake, with line and column. Its kinds:
+  never-first       rules before it match all that the rule matches
+  equal-left        a rule before it has this left side, up to variables' names
+  never-tried       the strategy of the left side's operator has no 0
+  rewritten-before  a part of the left side, which the strategy visits before 0,
+                    is such that a rule always rewrites it: what is left to be
+                    matched never has that part
+  same-sides        the right side is the left side
+  unused-operator   no rule names it; lines may, so this one is a guess. Those of
+                    op letters are left out
+  unused-variable   no rule names it
+  skipped-argument  a strategy leaves out an argument, which then stays as it is
+What is not called a guess is so for every line. Whether several rules together
+match all that a later one does is not told where it takes too long to find out.
+
+With --json, one object:
+  book         the text's name
+  errors       how many there are, and so warnings
+  diagnostics  a list, in the order of the text, of objects with level (error or
+               warning), kind, certain (false for a guess), line, column and
+               message. A mistake has the kind mistake, and refusal, a number or
+               null.
+";
+
+pub const EXPLAIN: &str = "\
+Shows each rewrite: the rule by its number and its line in the text, its place in
+the term, what its variables stand for, and the term before and after, with the
+rewritten part in brackets. The place is the arguments to follow from the root:
+2.1 is argument 1 of argument 2, and 1*5 is five times argument 1. The rewrites
+come from a plain model; after every rewrite its term and counts are compared
+with what the proved engine answers for the schedule cut there.
+
+With --json, one object: line, steps, and the fields of post. Each step has
+  step, rule, rule_line  numbers from 1; rule_line is null for a packed book
+  position               a list of arguments' numbers
+  sides                  the rule by names
+  entry, unit            which entry of the schedule, and its unit
+  substitution           a list of objects with variable and term
+  part, becomes          the rewritten part before and after
+  before, after          the whole term before and after
+With --rules-only it ends with position. Where the budget or the room ended the
+run, stopped has the rule and rule_line that would have come next.
+";
+
 pub const POST: &str = "\
 Shows how the run ended (finished, spent, full or cut), the rewrites and entries,
 the FORKs that were granted and those that found nobody idle and were kept, and
 the term. It is a posting if the run finished; granted and kept together are then
 the same for any number of units and any schedule.
+
+With --json, one object: end, rewrites, entries, granted, kept and term; or error,
+an object with kind (mistyped or refused), column or refusal, and message. Terms
+are by names, as in the text.
 ";
 
 pub const TRACE: &str = "\
@@ -115,6 +166,14 @@ comment line as it was; or ! and why there is no posting:
 A line that can't be posted doesn't stop the others. A summary goes to standard
 error, and a progress bar if that is a terminal. With --payee too, blank lines
 and those that begin with # stay as they are.
+
+With --json, each output line is an object: line, its number from 1, and the
+fields of post; a blank or comment line has comment, the text as it was.
+
+The profile has a row for each rule, the most used first: its rewrites, the lines
+in which it rewrote, and the rule. With --json it is an object with rules, a list
+of objects with rule, rule_line, sides, rewrites and lines. The engine counts no
+rules, so each run is made again by the plain model and compared at its end.
 ";
 
 pub fn general() -> String {
@@ -125,12 +184,12 @@ pub fn general() -> String {
     for command in COMMANDS {
         put(
             &mut text,
-            &format!("  {:<7}{}\n", command.name, command.about),
+            &format!("  {:<9}{}\n", command.name, command.about),
         );
     }
     put(
         &mut text,
-        "  help   this text; 'help COMMAND' for one command\n",
+        "  help     this text; 'help COMMAND' for one command\n",
     );
     for command in COMMANDS {
         let arguments = arguments(command);

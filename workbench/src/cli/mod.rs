@@ -1,6 +1,8 @@
 //! The program: commands, their options and help from one table.
 
+mod checking;
 mod commands;
+mod explaining;
 mod files;
 pub mod help;
 pub mod options;
@@ -23,7 +25,8 @@ pub enum Status {
     Difference = 4,
 }
 
-/// Why a command stopped: its status and what is told on standard error.
+/// Why a command stopped: its status and what is told on standard error, if it
+/// isn't told already.
 #[derive(Debug)]
 pub struct Stop {
     pub status: Status,
@@ -43,7 +46,9 @@ pub fn main(arguments: Vec<String>) -> ExitCode {
     let status = match run(&arguments) {
         Ok(status) => status,
         Err(stop) => {
-            eprintln!("{}", stop.message.trim_end());
+            if !stop.message.is_empty() {
+                eprintln!("{}", stop.message.trim_end());
+            }
             stop.status
         }
     };
@@ -81,7 +86,9 @@ fn run_command(command: &Command, rest: &[String]) -> Result<Status, Stop> {
     let run = match command.name {
         "book" => commands::book,
         "text" => commands::text,
+        "check" => checking::check,
         "post" => commands::post,
+        "explain" => explaining::explain,
         "trace" => commands::trace,
         _ => commands::batch,
     };

@@ -54,6 +54,9 @@ const OUTPUT: Flag = flag(
     "write to this file (default -, standard output)",
 );
 
+const JSON: Flag = flag("--json", None, "write an object in JSON");
+const RULES_ONLY: Flag = flag("--rules-only", None, "only which rules rewrote, and where");
+const TEXT: (&str, &str) = ("TEXT", "a book in text form; - is standard input");
 const LINE: (&str, &str) = (
     "LINE",
     "a term by the operators' names, or a payee with --payee",
@@ -64,7 +67,7 @@ pub const COMMANDS: &[Command] = &[
     Command {
         name: "book",
         about: "turn a text into a packed book, or check a text",
-        arguments: &[("TEXT", "a book in text form; - is standard input")],
+        arguments: &[TEXT],
         flags: &[flag(
             "-o",
             Some("FILE"),
@@ -87,11 +90,48 @@ pub const COMMANDS: &[Command] = &[
         more: super::help::TEXT,
     },
     Command {
+        name: "check",
+        about: "warn of rules that never rewrite, and of what nothing uses",
+        arguments: &[TEXT],
+        flags: &[
+            flag("--strict", None, "warnings are errors"),
+            flag(
+                "--allow",
+                Some("KIND,.."),
+                "leave out warnings of these kinds",
+            ),
+            JSON,
+        ],
+        more: super::help::CHECK,
+    },
+    Command {
         name: "post",
         about: "reduce one line and show its posting",
         arguments: &[BOOK, LINE],
-        flags: &[PAYEE, UNITS, BUDGET, SCHEDULE, PACKED, NAMES],
+        flags: &[PAYEE, JSON, UNITS, BUDGET, SCHEDULE, PACKED, NAMES],
         more: super::help::POST,
+    },
+    Command {
+        name: "explain",
+        about: "show which rules rewrote what, in order",
+        arguments: &[BOOK, LINE],
+        flags: &[
+            PAYEE,
+            RULES_ONLY,
+            JSON,
+            flag(
+                "--check",
+                Some("N"),
+                "compare with the engine after every Nth rewrite (default 1)",
+            ),
+            OUTPUT,
+            UNITS,
+            BUDGET,
+            SCHEDULE,
+            PACKED,
+            NAMES,
+        ],
+        more: super::help::EXPLAIN,
     },
     Command {
         name: "trace",
@@ -105,6 +145,11 @@ pub const COMMANDS: &[Command] = &[
                 "write the units over time as a picture",
             ),
             flag("--no-text", None, "don't write the entries as text"),
+            flag(
+                "--rules-only",
+                None,
+                "of the text, only the entries at which a rule acts",
+            ),
             flag(
                 "--width",
                 Some("N"),
@@ -145,6 +190,12 @@ pub const COMMANDS: &[Command] = &[
                 "--counts",
                 None,
                 "say each run's counts, as a comment behind the posting",
+            ),
+            flag("--json", None, "write an object in JSON for each line"),
+            flag(
+                "--profile",
+                Some("FILE"),
+                "write to this file how often each rule rewrote",
             ),
             flag("--latin1", None, "LINES is ISO 8859-1 and not UTF-8"),
             flag("--quiet", None, "no progress bar and no summary"),

@@ -2,13 +2,15 @@
 //! reader's conditions checked where a place can be told. The proved writer
 //! has the last word on the packed bytes.
 
-use comparison::draft::{Draft, OperatorDraft};
+use std::collections::HashMap;
+
+use comparison::draft::{Draft, OperatorDraft, Symbol};
 
 use crate::letters;
 use crate::mistake::{place_of, Mistake, Span};
 use crate::names::Names;
 use crate::text::lexer::is_name_character;
-use crate::text::parser::{meant_letters, parse, Name, Statement, Strategy, Words};
+use crate::text::parser::{meant_letters, parse, Name, Statement, Strategy, Word, Words};
 use crate::text::sides::{self, Meaning, Meanings};
 
 /// A book with the names that it was written with.
@@ -37,7 +39,10 @@ pub fn read(source: &str) -> Result<Named, Vec<Mistake>> {
         if let Statement::Rule { left, right, .. } = statement {
             let [left, right] = [left, right].map(|side| reader.with_letters(side));
             match sides::rule(&mut reader.meanings, &left, &right) {
-                Ok(rule) => reader.draft.rules.push(rule),
+                Ok(rule) => {
+                    reader.names.add_rule(variables(&left, &rule.left));
+                    reader.draft.rules.push(rule);
+                }
                 Err(mistake) => mistakes.push(mistake),
             }
         }
@@ -52,6 +57,15 @@ pub fn read(source: &str) -> Result<Named, Vec<Mistake>> {
     }
     mistakes.sort_by_key(|mistake| mistake.span.start);
     Err(mistakes)
+}
+
+/// What a left side calls its variables, by their numbers.
+fn variables(words: &Words, symbols: &[Symbol]) -> HashMap<u8, String> {
+    let name = |(word, symbol): (&Word, &Symbol)| match symbol {
+        Symbol::Variable(number) => Some((*number, word.name.text.clone())),
+        Symbol::Operator(_) => None,
+    };
+    words.iter().zip(symbols).filter_map(name).collect()
 }
 
 #[derive(Default)]

@@ -11,7 +11,7 @@ use std::fmt;
 use std::rc::Rc;
 
 use comparison::model::{self, ending, Book, Form, Machine, Order, Term};
-use kurvneist::{Ending, Engine, Refusal, Request};
+use kurvneist::{Ending, Engine, Posting, Refusal, Request};
 
 use crate::letters;
 use crate::progress::Progress;
@@ -110,6 +110,31 @@ pub struct Told {
     pub term: Vec<u8>,
 }
 
+impl Told {
+    pub fn of(posting: &Posting) -> Told {
+        Told {
+            ending: posting.answer.ending,
+            rewrites: posting.answer.rewrites.into(),
+            entries: posting.answer.entries,
+            granted: posting.answer.granted,
+            kept: posting.answer.kept,
+            term: posting.term.to_vec(),
+        }
+    }
+
+    /// What the model stands at; `Cut` where nothing has ended it.
+    pub(crate) fn of_model(machine: &Machine, ended: Option<Ending>) -> Told {
+        Told {
+            ending: ended.unwrap_or(Ending::Cut),
+            rewrites: machine.rewrites,
+            entries: machine.entries,
+            granted: machine.granted,
+            kept: machine.kept,
+            term: machine.term.preorder(),
+        }
+    }
+}
+
 impl fmt::Display for Told {
     fn fmt(&self, f: &mut fmt::Formatter) -> fmt::Result {
         write!(
@@ -136,22 +161,16 @@ pub fn run_form(
     stride: usize,
     progress: &mut Progress,
 ) -> Result<Trace, Failure> {
+    run_form_against(form, &mut engine_of(form), request, stride, progress)
+}
+
+/// The proved engine, for requests of that form.
+pub(crate) fn engine_of(form: Form) -> impl FnMut(&Request) -> Result<Told, Refusal> {
     let mut engine = Engine::new();
-    let mut answering = |asked: &Request| {
-        let posting = match form {
-            Form::Line => engine.post(asked)?,
-            Form::Text => engine.post_payee(asked)?,
-        };
-        Ok(Told {
-            ending: posting.answer.ending,
-            rewrites: posting.answer.rewrites.into(),
-            entries: posting.answer.entries,
-            granted: posting.answer.granted,
-            kept: posting.answer.kept,
-            term: posting.term.to_vec(),
-        })
-    };
-    run_form_against(form, &mut answering, request, stride, progress)
+    move |asked| match form {
+        Form::Line => engine.post(asked).map(|posting| Told::of(&posting)),
+        Form::Text => engine.post_payee(asked).map(|posting| Told::of(&posting)),
+    }
 }
 
 /// Traces a term's run against anything that answers as an engine should.
@@ -199,7 +218,7 @@ fn run_form_against(
 }
 
 /// The engine asked again, with the schedule cut where the model stands.
-fn compare(
+pub(crate) fn compare(
     engine: &mut Answering,
     request: &Request,
     machine: &Machine,
@@ -211,14 +230,7 @@ fn compare(
         ..*request
     };
     let engine = engine(&cut).map_err(Failure::Refused)?;
-    let model = Told {
-        ending: ended.unwrap_or(Ending::Cut),
-        rewrites: machine.rewrites,
-        entries: machine.entries,
-        granted: machine.granted,
-        kept: machine.kept,
-        term: machine.term.preorder(),
-    };
+    let model = Told::of_model(machine, ended);
     match engine == model {
         true => Ok(()),
         false => Err(Failure::Difference {
@@ -268,7 +280,7 @@ fn step(machine: &mut Machine, unit: usize, before: &Rc<[u8]>) -> (Step, Option<
     (step, ended)
 }
 
-fn shown_ending(number: u8) -> Ending {
+pub(crate) fn shown_ending(number: u8) -> Ending {
     match number {
         ending::FINISHED => Ending::Finished,
         ending::SPENT => Ending::Spent,
@@ -352,7 +364,7 @@ impl Watch {
     }
 }
 
-fn rule_number(book: &Book, term: &Term, at: &[u8]) -> Option<usize> {
+pub(crate) fn rule_number(book: &Book, term: &Term, at: &[u8]) -> Option<usize> {
     let (found, _) = book.first_match(term.part(at)?)?;
     let place = book.rules.iter().position(|rule| std::ptr::eq(rule, found));
     place.map(|place| place + 1)
@@ -366,7 +378,7 @@ fn count_of(order: &Order) -> usize {
 }
 
 /// Where a part starts in preorder.
-fn offset(term: &Term, at: &[u8]) -> usize {
+pub(crate) fn offset(term: &Term, at: &[u8]) -> usize {
     let Some((&argument, rest)) = at.split_first() else {
         return 0;
     };
