@@ -59,6 +59,7 @@ impl Summary {
             Ending::Spent => self.unfinished[0] += 1,
             Ending::Full => self.unfinished[1] += 1,
             Ending::Cut => self.unfinished[2] += 1,
+            other => unreachable!("an ending of a later engine: {other}"),
         }
     }
 }
@@ -200,13 +201,10 @@ fn posted(
     engine: &mut Engine,
     summary: &mut Summary,
 ) -> String {
-    let request = Request {
-        book: &settings.named.book,
-        line,
-        units: settings.units,
-        budget: settings.budget,
-        schedule: settings.schedule,
-    };
+    let request = Request::new(&settings.named.book, line)
+        .units(settings.units)
+        .budget(settings.budget)
+        .schedule(settings.schedule);
     let posting = match form {
         Form::Line => engine.post(&request),
         Form::Text => engine.post_payee(&request),
@@ -225,7 +223,7 @@ fn posted(
         Ending::Finished => term,
         Ending::Spent => format!("! spent after {} rewrites at {term}", answer.rewrites),
         Ending::Full => format!("! full after {} rewrites at {term}", answer.rewrites),
-        Ending::Cut => format!("! cut after {} entries at {term}", answer.entries),
+        other => format!("! {other} after {} entries at {term}", answer.entries),
     };
     match settings.counts {
         true => format!("{told}  # {}", counts(&answer)),
