@@ -17,6 +17,7 @@ use crate::progress::Progress;
 use crate::text::check::Named;
 use crate::text::lexer::is_blank;
 use crate::text::printer;
+use crate::trace::Told;
 
 /// What all lines of a batch share.
 pub struct Settings<'a> {
@@ -89,6 +90,7 @@ impl Summary {
             Ending::Spent => self.unfinished[0] += 1,
             Ending::Full => self.unfinished[1] += 1,
             Ending::Cut => self.unfinished[2] += 1,
+            other => unreachable!("an ending of a later engine: {other}"),
         }
     }
 }
@@ -210,13 +212,10 @@ fn read(form: Form, text: &str, settings: &Settings) -> Result<Vec<u8>, Mistake>
 }
 
 fn run_line(form: Form, line: &[u8], settings: &Settings, engine: &mut Engine) -> Outcome {
-    let request = Request {
-        book: &settings.named.book,
-        line,
-        units: settings.units,
-        budget: settings.budget,
-        schedule: settings.schedule,
-    };
+    let request = Request::new(&settings.named.book, line)
+        .units(settings.units)
+        .budget(settings.budget)
+        .schedule(settings.schedule);
     let posting = match form {
         Form::Line => engine.post(&request),
         Form::Text => engine.post_payee(&request),
@@ -224,7 +223,7 @@ fn run_line(form: Form, line: &[u8], settings: &Settings, engine: &mut Engine) -
     match posting {
         Ok(posting) => {
             if let Some(profile) = settings.profile {
-                profile.add(form, &request, &posting);
+                profile.add(form, &request, &Told::of(&posting.answer, posting.term));
             }
             Outcome::Ran {
                 answer: posting.answer,

@@ -78,7 +78,7 @@ fn ran(answer: &Answer, term: &str) -> String {
         Ending::Finished => term.to_owned(),
         Ending::Spent => format!("! spent after {} rewrites at {term}", answer.rewrites),
         Ending::Full => format!("! full after {} rewrites at {term}", answer.rewrites),
-        Ending::Cut => format!("! cut after {} entries at {term}", answer.entries),
+        other => format!("! {other} after {} entries at {term}", answer.entries),
     }
 }
 

@@ -6,7 +6,7 @@
 use std::sync::Mutex;
 
 use comparison::model::{self, Book, Form, Machine};
-use kurvneist::{Posting, Request};
+use kurvneist::Request;
 
 use crate::explain::{due_rule, rule_fields};
 use crate::json::{Fields, Json};
@@ -49,8 +49,8 @@ impl Profile {
     }
 
     /// Counts the rules of a run that the engine has made.
-    pub fn add(&self, form: Form, request: &Request, posting: &Posting) {
-        let counted = self.counted(form, request, &Told::of(posting));
+    pub fn add(&self, form: Form, request: &Request, engine: &Told) {
+        let counted = self.counted(form, request, engine);
         let mut counts = self.counts.lock().expect("counting doesn't fail");
         match counted {
             Ok(rewrites) => {

@@ -86,13 +86,10 @@ fn alone(line: &[u8], settings: &Settings) -> String {
         }
     };
     let mut engine = Engine::new();
-    let request = Request {
-        book: &settings.named.book,
-        line: &symbols,
-        units: settings.units,
-        budget: settings.budget,
-        schedule: settings.schedule,
-    };
+    let request = Request::new(&settings.named.book, &symbols)
+        .units(settings.units)
+        .budget(settings.budget)
+        .schedule(settings.schedule);
     match engine.post(&request) {
         Err(refusal) => format!("! {refusal}"),
         Ok(posting) => {

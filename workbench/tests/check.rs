@@ -11,6 +11,7 @@ use kurvneist::{Engine, Request};
 use workbench::profile::Profile;
 use workbench::text::check::{self, Named};
 use workbench::text::printer;
+use workbench::trace::Told;
 use workbench::warnings::{self, Kind, Warning};
 
 fn warned(source: &str) -> Vec<Warning> {
@@ -154,7 +155,7 @@ fn terms(book: &Book, depth: usize) -> Vec<Term> {
                 let row = row.clone();
                 parts
                     .iter()
-                    .map(move |part| [&row[..], &[part.clone()]].concat())
+                    .map(move |part| [&row[..], std::slice::from_ref(part)].concat())
             };
             rows = rows.iter().flat_map(longer).collect();
         }
@@ -224,6 +225,7 @@ fn rules_that_never_rewrite_never_do() {
     ];
     let mut random = Random::new(16);
     let mut engine = Engine::new();
+    let schedule = [0, 1].repeat(60);
     let (mut before, mut used) = (0, 0);
     for _ in 0..200 {
         let bytes = kurvneist::written_book(&draft(&mut random).encode()).unwrap();
@@ -235,15 +237,14 @@ fn rules_that_never_rewrite_never_do() {
         before += of_kinds(&found, &[Kind::RewrittenBefore], &source, &named).len();
         let profile = Profile::new(&bytes);
         for term in terms(&book, 4) {
-            let request = Request {
-                book: &bytes,
-                line: &term.preorder(),
-                units: 2,
-                budget: 20,
-                schedule: &[0, 1].repeat(60),
-            };
+            let line = term.preorder();
+            let request = Request::new(&bytes, &line)
+                .units(2)
+                .budget(20)
+                .schedule(&schedule);
             let posting = engine.post(&request).unwrap();
-            profile.add(Form::Line, &request, &posting);
+            let told = Told::of(&posting.answer, posting.term);
+            profile.add(Form::Line, &request, &told);
         }
         assert!(profile.difference().is_none());
         for (rule, count) in profile.rules() {

@@ -22,13 +22,10 @@ fn runs(mut with: impl FnMut(Form, &Request, Explained)) {
         let Ok(book) = kurvneist::written_book(&case.book()) else {
             continue;
         };
-        let request = Request {
-            book: &book,
-            line: &case.line,
-            units: case.units,
-            budget: case.budget,
-            schedule: &case.schedule[..case.schedule.len().min(400)],
-        };
+        let request = Request::new(&book, &case.line)
+            .units(case.units)
+            .budget(case.budget)
+            .schedule(&case.schedule[..case.schedule.len().min(400)]);
         match explain::run(case.form, &request, 1, &mut Progress::hidden()) {
             Ok(explained) => with(case.form, &request, explained),
             Err(Failure::Refused(_)) => {}
@@ -127,7 +124,8 @@ fn profiles_count_what_explanations_show() {
                 Form::Line => engine.post(request),
                 Form::Text => engine.post_payee(request),
             };
-            profile.add(form, request, &posting.unwrap());
+            let posting = posting.unwrap();
+            profile.add(form, request, &Told::of(&posting.answer, posting.term));
         }
         assert!(profile.difference().is_none());
         for (rule, count) in profile.rules() {
@@ -150,13 +148,8 @@ fn profiles_count_what_explanations_show() {
 fn ticks(line: &str, with: impl FnOnce(&Request)) {
     let named = check::read(&std::fs::read_to_string("examples/ticks.book").unwrap()).unwrap();
     let line = line::read(line, &named.names).unwrap();
-    with(&Request {
-        book: &named.book,
-        line: &line,
-        units: 1,
-        budget: 9,
-        schedule: &[0; 200],
-    });
+    let request = Request::new(&named.book, &line).budget(9);
+    with(&request.schedule(&[0; 200]));
 }
 
 /// An engine that says otherwise is told, at a rewrite and at the end.
@@ -166,7 +159,8 @@ fn a_difference_stops_the_explanation() {
         let mut engine = kurvneist::Engine::new();
         for (rewrites, stride) in [(1, 1), (2, 2), (3, 1000)] {
             let mut lying = |asked: &Request| {
-                let mut told = Told::of(&engine.post(asked).unwrap());
+                let posting = engine.post(asked).unwrap();
+                let mut told = Told::of(&posting.answer, posting.term);
                 if told.rewrites == rewrites {
                     told.term[0] ^= 1;
                 }
@@ -187,11 +181,8 @@ fn a_difference_spoils_the_profile() {
         let profile = Profile::new(request.book);
         let mut engine = kurvneist::Engine::new();
         let posting = engine.post(request).unwrap();
-        let other = Request {
-            budget: 1,
-            ..*request
-        };
-        profile.add(Form::Line, &other, &posting);
+        let told = Told::of(&posting.answer, posting.term);
+        profile.add(Form::Line, &request.budget(1), &told);
         assert!(profile.difference().is_some());
         assert!(profile.rules().iter().all(|(_, count)| count.rewrites == 0));
     });
@@ -380,7 +371,7 @@ fn traces_by_rules_only() {
     let ran = kurvneist(&[&trace[..], &["--rules-only"]].concat());
     assert_eq!(ran.status, 1);
     let kept = |line: &&str| {
-        !line.contains("WHOLE") && !line.starts_with(|c: char| c == ' ')
+        !line.starts_with(' ')
             || line.contains("the line")
             || line.contains("replaced by rule")
             || line.contains("budget spent")

@@ -103,13 +103,10 @@ impl Asked {
     }
 
     pub fn request(&self) -> Request<'_> {
-        Request {
-            book: &self.named.book,
-            line: &self.line,
-            units: self.units,
-            budget: self.budget,
-            schedule: &self.schedule,
-        }
+        Request::new(&self.named.book, &self.line)
+            .units(self.units)
+            .budget(self.budget)
+            .schedule(&self.schedule)
     }
 }
 

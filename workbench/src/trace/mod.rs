@@ -11,7 +11,7 @@ use std::fmt;
 use std::rc::Rc;
 
 use comparison::model::{self, ending, Book, Form, Machine, Order, Term};
-use kurvneist::{Ending, Engine, Posting, Refusal, Request};
+use kurvneist::{Answer, Ending, Engine, Refusal, Request};
 
 use crate::letters;
 use crate::progress::Progress;
@@ -111,14 +111,14 @@ pub struct Told {
 }
 
 impl Told {
-    pub fn of(posting: &Posting) -> Told {
+    pub fn of(answer: &Answer, term: &[u8]) -> Told {
         Told {
-            ending: posting.answer.ending,
-            rewrites: posting.answer.rewrites.into(),
-            entries: posting.answer.entries,
-            granted: posting.answer.granted,
-            kept: posting.answer.kept,
-            term: posting.term.to_vec(),
+            ending: answer.ending,
+            rewrites: answer.rewrites.into(),
+            entries: answer.entries,
+            granted: answer.granted,
+            kept: answer.kept,
+            term: term.to_vec(),
         }
     }
 
@@ -167,9 +167,12 @@ pub fn run_form(
 /// The proved engine, for requests of that form.
 pub(crate) fn engine_of(form: Form) -> impl FnMut(&Request) -> Result<Told, Refusal> {
     let mut engine = Engine::new();
-    move |asked| match form {
-        Form::Line => engine.post(asked).map(|posting| Told::of(&posting)),
-        Form::Text => engine.post_payee(asked).map(|posting| Told::of(&posting)),
+    move |asked| {
+        let posting = match form {
+            Form::Line => engine.post(asked),
+            Form::Text => engine.post_payee(asked),
+        };
+        posting.map(|posting| Told::of(&posting.answer, posting.term))
     }
 }
 
@@ -225,10 +228,7 @@ pub(crate) fn compare(
     ended: Option<Ending>,
 ) -> Result<(), Failure> {
     let entry = machine.entries as usize;
-    let cut = Request {
-        schedule: &request.schedule[..entry],
-        ..*request
-    };
+    let cut = request.schedule(&request.schedule[..entry]);
     let engine = engine(&cut).map_err(Failure::Refused)?;
     let model = Told::of_model(machine, ended);
     match engine == model {
