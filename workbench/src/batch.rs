@@ -1,16 +1,20 @@
-//! Many lines against one book, with one work area: a line of output for each
-//! line of input, whatever becomes of it.
+//! Many lines against one book: a line of output for each line of input,
+//! whatever becomes of it. Lines are read, posted and written a few at a time,
+//! so that memory doesn't grow with their number.
 
 use std::fmt;
-use std::io::{self, Write};
+use std::io::{self, BufRead, Write};
 use std::time::{Duration, Instant};
 
 use comparison::model::Form;
 use kurvneist::{Answer, Ending, Engine, Request};
 
+use crate::jobs;
 use crate::letters;
 use crate::line;
+use crate::lines::{Line, Lines, LONGEST};
 use crate::mistake::Mistake;
+use crate::posting::Schedules;
 use crate::progress::Progress;
 use crate::text::check::Named;
 use crate::text::lexer::is_blank;
@@ -19,13 +23,24 @@ use crate::text::printer;
 /// What all lines of a batch share.
 pub struct Settings<'a> {
     pub named: &'a Named,
-    pub units: u8,
     pub budget: u32,
-    pub schedule: &'a [u8],
+    pub schedules: &'a Schedules,
     /// Says the counts behind each posting, as a comment.
     pub counts: bool,
     /// The lines are ISO 8859-1.
     pub latin1: bool,
+    /// So many threads, each with an engine of its own.
+    pub jobs: usize,
+}
+
+/// Lines that go to a thread together, as few as don't make handing on count.
+const BLOCK: usize = 64;
+
+/// Why a batch stopped.
+#[derive(Debug)]
+pub enum Failure {
+    Read(io::Error),
+    Write(io::Error),
 }
 
 #[derive(Clone, Copy, Debug, Default)]
@@ -33,6 +48,8 @@ pub struct Summary {
     pub lines: usize,
     pub empty: usize,
     pub posted: usize,
+    /// Of those, by one unit in the place of several.
+    pub alone: usize,
     /// By ending: spent, full, cut.
     pub unfinished: [usize; 3],
     pub refused: usize,
@@ -47,6 +64,22 @@ pub struct Summary {
 impl Summary {
     pub fn not_posted(&self) -> usize {
         self.unfinished.iter().sum::<usize>() + self.refused + self.mistaken
+    }
+
+    fn add(&mut self, more: &Summary) {
+        self.lines += more.lines;
+        self.empty += more.empty;
+        self.posted += more.posted;
+        self.alone += more.alone;
+        for (sum, more) in self.unfinished.iter_mut().zip(more.unfinished) {
+            *sum += more;
+        }
+        self.refused += more.refused;
+        self.mistaken += more.mistaken;
+        self.rewrites += more.rewrites;
+        self.entries += more.entries;
+        self.granted += more.granted;
+        self.kept += more.kept;
     }
 
     fn count(&mut self, answer: &Answer) {
@@ -83,6 +116,13 @@ impl fmt::Display for Summary {
                 self.refused, self.mistaken
             )?;
         }
+        if self.alone > 0 {
+            let alone = self.alone;
+            writeln!(
+                f,
+                "posted by one unit, where more ended full or cut: {alone}"
+            )?;
+        }
         write!(
             f,
             "rewrites {}, entries {}, FORKs granted {}, kept {}, {:.2} s",
@@ -98,52 +138,109 @@ impl fmt::Display for Summary {
 /// Posts every line of `input`, a term by names, and writes what became of it
 /// as that line of the output.
 pub fn run(
-    input: &[u8],
+    mut input: &[u8],
     settings: &Settings,
     output: &mut dyn Write,
     progress: &mut Progress,
-) -> io::Result<Summary> {
-    run_form(Form::Line, input, settings, output, progress)
+) -> Result<Summary, Failure> {
+    run_form(Form::Line, &mut input, settings, output, progress)
 }
 
 /// The same where each line is a payee's text, or a term by names, as said.
 pub fn run_form(
     form: Form,
-    input: &[u8],
+    input: &mut dyn BufRead,
     settings: &Settings,
     output: &mut dyn Write,
     progress: &mut Progress,
-) -> io::Result<Summary> {
+) -> Result<Summary, Failure> {
     let started = Instant::now();
-    let mut engine = Engine::new();
-    let mut summary = Summary::default();
-    let lines = lines(input);
-    for line in &lines {
-        let text = decoded(line, settings.latin1);
-        let told = match &text {
-            Ok(text) => told(form, text, settings, &mut engine, &mut summary),
-            Err(reason) => mistaken(reason, &mut summary),
-        };
-        writeln!(output, "{told}")?;
-        summary.lines += 1;
-        let note = format!(" lines, {} not posted", summary.not_posted());
-        progress.tell(summary.lines, lines.len(), &note);
+    let mut sum = Summary::default();
+    let mut lines = Lines::new(input);
+    let mut put = |told: Told| {
+        sum.add(&told.summary);
+        let note = format!(", {} not posted", sum.not_posted());
+        progress.tell(sum.lines, "lines", &note, told.end);
+        let written = output.write_all(told.text.as_bytes());
+        written.and_then(|()| output.flush())
+    };
+    if settings.jobs == 1 {
+        let mut engine = Engine::new();
+        while let Some(block) = block(&mut lines, 1).map_err(Failure::Read)? {
+            put(all_told(form, block, settings, &mut engine)).map_err(Failure::Write)?;
+        }
+    } else {
+        jobs::in_order(
+            settings.jobs,
+            || block(&mut lines, BLOCK).map_err(Failure::Read),
+            Engine::new,
+            |engine, block| all_told(form, block, settings, engine),
+            |told| put(told).map_err(Failure::Write),
+        )?;
     }
     progress.clear();
-    summary.time = started.elapsed();
-    Ok(summary)
+    sum.time = started.elapsed();
+    Ok(sum)
 }
 
-/// Lines end in 0A or 0D 0A; the last one need not.
-fn lines(input: &[u8]) -> Vec<&[u8]> {
-    let mut lines: Vec<&[u8]> = input.split(|byte| *byte == b'\n').collect();
-    if lines.last().is_some_and(|last| last.is_empty()) {
-        lines.pop();
+/// Lines that follow each other, and how much of the input they end at.
+struct Block {
+    lines: Vec<Line>,
+    end: u64,
+}
+
+/// What became of a block, as lines of output.
+struct Told {
+    text: String,
+    summary: Summary,
+    end: u64,
+}
+
+/// The next lines: so many, or fewer where they are long.
+fn block(lines: &mut Lines, most: usize) -> io::Result<Option<Block>> {
+    let mut block = Vec::new();
+    let before = lines.read;
+    while block.len() < most && lines.read - before < LONGEST as u64 {
+        match lines.line()? {
+            Some(line) => block.push(line),
+            None => break,
+        }
     }
-    lines
-        .into_iter()
-        .map(|line| line.strip_suffix(b"\r").unwrap_or(line))
-        .collect()
+    let end = lines.read;
+    Ok((!block.is_empty()).then_some(Block { lines: block, end }))
+}
+
+fn all_told(form: Form, block: Block, settings: &Settings, engine: &mut Engine) -> Told {
+    let mut summary = Summary::default();
+    let mut text = String::new();
+    for line in block.lines {
+        text.push_str(&line_told(form, line, settings, engine, &mut summary));
+        text.push('\n');
+        summary.lines += 1;
+    }
+    Told {
+        text,
+        summary,
+        end: block.end,
+    }
+}
+
+fn line_told(
+    form: Form,
+    line: Line,
+    settings: &Settings,
+    engine: &mut Engine,
+    summary: &mut Summary,
+) -> String {
+    let Line::Whole(line) = line else {
+        let reason = format!("the line has over {LONGEST} bytes; expected at most so many");
+        return mistaken(&reason, summary);
+    };
+    let line = line.strip_suffix(b"\r").unwrap_or(&line);
+    match decoded(line, settings.latin1) {
+        Ok(text) => told(form, &text, settings, engine, summary),
+        Err(reason) => mistaken(&reason, summary),
+    }
 }
 
 fn decoded(line: &[u8], latin1: bool) -> Result<String, String> {
@@ -201,29 +298,29 @@ fn posted(
     engine: &mut Engine,
     summary: &mut Summary,
 ) -> String {
-    let request = Request::new(&settings.named.book, line)
-        .units(settings.units)
-        .budget(settings.budget)
-        .schedule(settings.schedule);
-    let posting = match form {
-        Form::Line => engine.post(&request),
-        Form::Text => engine.post_payee(&request),
-    };
-    let posting = match posting {
-        Ok(posting) => posting,
+    let request = Request::new(&settings.named.book, line).budget(settings.budget);
+    let posted = match settings.schedules.post(engine, form, &request) {
+        Ok(posted) => posted,
         Err(refusal) => {
             summary.refused += 1;
             return format!("! {}", letters::told(&refusal));
         }
     };
-    let answer = posting.answer;
+    let answer = posted.answer;
     summary.count(&answer);
-    let term = printer::term(posting.term, &settings.named.names);
+    summary.alone += usize::from(posted.instead_of.is_some());
+    let term = printer::term(&posted.term, &settings.named.names);
     let told = match answer.ending {
         Ending::Finished => term,
         Ending::Spent => format!("! spent after {} rewrites at {term}", answer.rewrites),
         Ending::Full => format!("! full after {} rewrites at {term}", answer.rewrites),
-        other => format!("! {other} after {} entries at {term}", answer.entries),
+        other => {
+            let advice = settings.schedules.advice();
+            format!(
+                "! {other} after {} entries ({advice}) at {term}",
+                answer.entries
+            )
+        }
     };
     match settings.counts {
         true => format!("{told}  # {}", counts(&answer)),

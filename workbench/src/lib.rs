@@ -5,15 +5,21 @@
 //!   text to book, `printer` from book to text.
 //! - `names`, `line`, `letters`, `schedule`, `mistake`: what the commands share.
 //! - `trace`: a run entry by entry, as text and as a picture.
-//! - `batch`, `progress`: many lines against one book.
+//! - `posting`: a line's run, by a given schedule or by longer and longer ones.
+//! - `batch`, `lines`, `jobs`, `progress`: many lines against one book.
+//! - `output`: files that are whole or not there.
 //! - `cli`: the commands, their options and help.
 
 pub mod batch;
 pub mod cli;
+pub mod jobs;
 pub mod letters;
 pub mod line;
+pub mod lines;
 pub mod mistake;
 pub mod names;
+pub mod output;
+pub mod posting;
 pub mod progress;
 pub mod schedule;
 pub mod text;
