@@ -1,34 +1,38 @@
-//! Many lines against one book, with one work area: a line of output for each
-//! line of input, whatever becomes of it.
+//! Many lines against one book: a line of output for each line of input,
+//! whatever becomes of it. Lines are read, posted and written a few at a time,
+//! so that memory doesn't grow with their number.
 
 use std::fmt;
-use std::io::{self, Write};
+use std::io::{self, BufRead, Write};
 use std::time::{Duration, Instant};
 
 use comparison::model::Form;
 use kurvneist::{Answer, Ending, Engine, Request};
 
+use crate::jobs;
 use crate::json::Json;
 use crate::line;
+use crate::lines::{Line, Lines, LONGEST};
 use crate::mistake::Mistake;
 use crate::outcome::Outcome;
+use crate::posting::Schedules;
 use crate::profile::Profile;
 use crate::progress::Progress;
 use crate::text::check::Named;
 use crate::text::lexer::is_blank;
-use crate::text::printer;
 use crate::trace::Told;
 
 /// What all lines of a batch share.
 pub struct Settings<'a> {
     pub named: &'a Named,
-    pub units: u8,
     pub budget: u32,
-    pub schedule: &'a [u8],
+    pub schedules: &'a Schedules,
     /// Says the counts behind each posting, as a comment.
     pub counts: bool,
     /// The lines are ISO 8859-1.
     pub latin1: bool,
+    /// So many threads, each with an engine of its own.
+    pub jobs: usize,
     /// An object in JSON for each line.
     pub json: bool,
     /// Counts each rule's rewrites.
@@ -44,9 +48,19 @@ impl Settings<'_> {
                 fields.insert(0, ("line", line.into()));
                 Json::from(fields).to_string()
             }
-            false => outcome.text(self.counts),
+            false => outcome.text(self.counts, self.schedules.advice()),
         }
     }
+}
+
+/// Lines that go to a thread together, as few as don't make handing on count.
+const BLOCK: usize = 64;
+
+/// Why a batch stopped.
+#[derive(Debug)]
+pub enum Failure {
+    Read(io::Error),
+    Write(io::Error),
 }
 
 #[derive(Clone, Copy, Debug, Default)]
@@ -54,6 +68,8 @@ pub struct Summary {
     pub lines: usize,
     pub empty: usize,
     pub posted: usize,
+    /// Of those, by one unit in the place of several.
+    pub alone: usize,
     /// By ending: spent, full, cut.
     pub unfinished: [usize; 3],
     pub refused: usize,
@@ -70,13 +86,34 @@ impl Summary {
         self.unfinished.iter().sum::<usize>() + self.refused + self.mistaken
     }
 
+    fn add(&mut self, more: &Summary) {
+        self.lines += more.lines;
+        self.empty += more.empty;
+        self.posted += more.posted;
+        self.alone += more.alone;
+        for (sum, more) in self.unfinished.iter_mut().zip(more.unfinished) {
+            *sum += more;
+        }
+        self.refused += more.refused;
+        self.mistaken += more.mistaken;
+        self.rewrites += more.rewrites;
+        self.entries += more.entries;
+        self.granted += more.granted;
+        self.kept += more.kept;
+    }
+
     fn count(&mut self, outcome: &Outcome) {
         self.lines += 1;
         match outcome {
             Outcome::Empty(_) => self.empty += 1,
             Outcome::Mistyped { .. } => self.mistaken += 1,
             Outcome::Refused(_) => self.refused += 1,
-            Outcome::Ran { answer, .. } => self.count_run(answer),
+            Outcome::Ran {
+                answer, instead_of, ..
+            } => {
+                self.alone += usize::from(instead_of.is_some());
+                self.count_run(answer);
+            }
         }
     }
 
@@ -114,6 +151,13 @@ impl fmt::Display for Summary {
                 self.refused, self.mistaken
             )?;
         }
+        if self.alone > 0 {
+            let alone = self.alone;
+            writeln!(
+                f,
+                "posted by one unit, where more ended full or cut: {alone}"
+            )?;
+        }
         write!(
             f,
             "rewrites {}, entries {}, FORKs granted {}, kept {}, {:.2} s",
@@ -129,51 +173,111 @@ impl fmt::Display for Summary {
 /// Posts every line of `input`, a term by names, and writes what became of it
 /// as that line of the output.
 pub fn run(
-    input: &[u8],
+    mut input: &[u8],
     settings: &Settings,
     output: &mut dyn Write,
     progress: &mut Progress,
-) -> io::Result<Summary> {
-    run_form(Form::Line, input, settings, output, progress)
+) -> Result<Summary, Failure> {
+    run_form(Form::Line, &mut input, settings, output, progress)
 }
 
 /// The same where each line is a payee's text, or a term by names, as said.
 pub fn run_form(
     form: Form,
-    input: &[u8],
+    input: &mut dyn BufRead,
     settings: &Settings,
     output: &mut dyn Write,
     progress: &mut Progress,
-) -> io::Result<Summary> {
+) -> Result<Summary, Failure> {
     let started = Instant::now();
-    let mut engine = Engine::new();
-    let mut summary = Summary::default();
-    let lines = lines(input);
-    for line in &lines {
-        let outcome = match decoded(line, settings.latin1) {
-            Ok(text) => outcome(form, &text, settings, &mut engine),
-            Err(mistyped) => mistyped,
-        };
-        summary.count(&outcome);
-        writeln!(output, "{}", settings.told(summary.lines, &outcome))?;
-        let note = format!(" lines, {} not posted", summary.not_posted());
-        progress.tell(summary.lines, lines.len(), &note);
+    let mut sum = Summary::default();
+    let mut lines = Lines::new(input);
+    let mut put = |told: Lot| {
+        sum.add(&told.summary);
+        let note = format!(", {} not posted", sum.not_posted());
+        progress.tell(sum.lines, "lines", &note, told.end);
+        let written = output.write_all(told.text.as_bytes());
+        written.and_then(|()| output.flush())
+    };
+    if settings.jobs == 1 {
+        let mut engine = Engine::new();
+        while let Some(block) = block(&mut lines, 1).map_err(Failure::Read)? {
+            put(all_told(form, block, settings, &mut engine)).map_err(Failure::Write)?;
+        }
+    } else {
+        jobs::in_order(
+            settings.jobs,
+            || block(&mut lines, BLOCK).map_err(Failure::Read),
+            Engine::new,
+            |engine, block| all_told(form, block, settings, engine),
+            |told| put(told).map_err(Failure::Write),
+        )?;
     }
     progress.clear();
-    summary.time = started.elapsed();
-    Ok(summary)
+    sum.time = started.elapsed();
+    Ok(sum)
 }
 
-/// Lines end in 0A or 0D 0A; the last one need not.
-fn lines(input: &[u8]) -> Vec<&[u8]> {
-    let mut lines: Vec<&[u8]> = input.split(|byte| *byte == b'\n').collect();
-    if lines.last().is_some_and(|last| last.is_empty()) {
-        lines.pop();
+/// Lines that follow each other, the number of the first, counted from 1, and
+/// how much of the input they end at.
+struct Block {
+    first: usize,
+    lines: Vec<Line>,
+    end: u64,
+}
+
+/// What became of a block, as lines of output.
+struct Lot {
+    text: String,
+    summary: Summary,
+    end: u64,
+}
+
+/// The next lines: so many, or fewer where they are long.
+fn block(lines: &mut Lines, most: usize) -> io::Result<Option<Block>> {
+    let mut block = Vec::new();
+    let first = lines.count + 1;
+    let before = lines.read;
+    while block.len() < most && lines.read - before < LONGEST as u64 {
+        match lines.line()? {
+            Some(line) => block.push(line),
+            None => break,
+        }
     }
-    lines
-        .into_iter()
-        .map(|line| line.strip_suffix(b"\r").unwrap_or(line))
-        .collect()
+    let end = lines.read;
+    let lines = block;
+    Ok((!lines.is_empty()).then_some(Block { first, lines, end }))
+}
+
+fn all_told(form: Form, block: Block, settings: &Settings, engine: &mut Engine) -> Lot {
+    let mut summary = Summary::default();
+    let mut text = String::new();
+    for (number, line) in (block.first..).zip(block.lines) {
+        let outcome = line_outcome(form, line, settings, engine);
+        summary.count(&outcome);
+        text.push_str(&settings.told(number, &outcome));
+        text.push('\n');
+    }
+    Lot {
+        text,
+        summary,
+        end: block.end,
+    }
+}
+
+fn line_outcome(form: Form, line: Line, settings: &Settings, engine: &mut Engine) -> Outcome {
+    let Line::Whole(line) = line else {
+        let message = format!("the line has over {LONGEST} bytes; expected at most so many");
+        return Outcome::Mistyped {
+            column: None,
+            message,
+        };
+    };
+    let line = line.strip_suffix(b"\r").unwrap_or(&line);
+    match decoded(line, settings.latin1) {
+        Ok(text) => outcome(form, &text, settings, engine),
+        Err(mistyped) => mistyped,
+    }
 }
 
 fn decoded(line: &[u8], latin1: bool) -> Result<String, Outcome> {
@@ -183,7 +287,7 @@ fn decoded(line: &[u8], latin1: bool) -> Result<String, Outcome> {
     String::from_utf8(line.to_vec()).map_err(|error| {
         let good = error.utf8_error().valid_up_to();
         Outcome::Mistyped {
-            column: String::from_utf8_lossy(&line[..good]).chars().count() + 1,
+            column: Some(String::from_utf8_lossy(&line[..good]).chars().count() + 1),
             message: format!(
                 "the byte {:02X} is not UTF-8; expected UTF-8, or --latin1",
                 line[good]
@@ -212,23 +316,15 @@ fn read(form: Form, text: &str, settings: &Settings) -> Result<Vec<u8>, Mistake>
 }
 
 fn run_line(form: Form, line: &[u8], settings: &Settings, engine: &mut Engine) -> Outcome {
-    let request = Request::new(&settings.named.book, line)
-        .units(settings.units)
-        .budget(settings.budget)
-        .schedule(settings.schedule);
-    let posting = match form {
-        Form::Line => engine.post(&request),
-        Form::Text => engine.post_payee(&request),
-    };
-    match posting {
-        Ok(posting) => {
+    let request = Request::new(&settings.named.book, line).budget(settings.budget);
+    match settings.schedules.post(engine, form, &request) {
+        Ok(posted) => {
             if let Some(profile) = settings.profile {
-                profile.add(form, &request, &Told::of(&posting.answer, posting.term));
+                let (units, schedule) = settings.schedules.used(&posted);
+                let made = request.units(units).schedule(schedule);
+                profile.add(form, &made, &Told::of(&posted.answer, &posted.term));
             }
-            Outcome::Ran {
-                answer: posting.answer,
-                term: printer::term(posting.term, &settings.named.names),
-            }
+            Outcome::ran(&posted, &settings.named.names)
         }
         Err(refusal) => Outcome::Refused(refusal),
     }

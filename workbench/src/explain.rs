@@ -75,6 +75,7 @@ pub fn run_against(
         .expect("the engine has read the line");
     let mut machine = Machine::new(&book, line, request.units, request.budget);
     let line: Rc<[u8]> = machine.term.preorder().into();
+    progress.expect(Some(request.schedule.len() as u64));
     let mut rewrites: Vec<Rewrite> = Vec::new();
     let mut stopped = None;
     let mut ended = None;
@@ -92,7 +93,7 @@ pub fn run_against(
                 }
             }
         }
-        progress.tell(machine.entries as usize, request.schedule.len(), " entries");
+        progress.tell(machine.entries as usize, "entries", "", machine.entries);
         if ended.is_some() {
             break;
         }

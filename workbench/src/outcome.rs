@@ -5,13 +5,17 @@ use kurvneist::{Answer, Ending, Refusal};
 use crate::json::{Fields, Json};
 use crate::letters;
 use crate::mistake::Mistake;
+use crate::names::Names;
+use crate::posting::Posted;
+use crate::text::printer;
 
 #[derive(Clone, Debug)]
 pub enum Outcome {
     /// A blank line or a comment, as it was.
     Empty(String),
     Mistyped {
-        column: usize,
+        /// None where it is the whole line.
+        column: Option<usize>,
         message: String,
     },
     Refused(Refusal),
@@ -19,27 +23,44 @@ pub enum Outcome {
     Ran {
         answer: Answer,
         term: String,
+        /// How the run by several units ended, if one unit made this one in
+        /// its place.
+        instead_of: Option<Ending>,
     },
 }
 
 impl Outcome {
     pub fn mistyped(mistake: &Mistake, text: &str) -> Outcome {
         Outcome::Mistyped {
-            column: mistake.place(text).1,
+            column: Some(mistake.place(text).1),
             message: mistake.message(),
         }
     }
 
-    /// In one line, as a batch tells it.
-    pub fn text(&self, counts: bool) -> String {
+    pub fn ran(posted: &Posted, names: &Names) -> Outcome {
+        Outcome::Ran {
+            answer: posted.answer,
+            term: printer::term(&posted.term, names),
+            instead_of: posted.instead_of,
+        }
+    }
+
+    /// In one line, as a batch tells it, with what to try where a run was cut.
+    pub fn text(&self, counts: bool, advice: &str) -> String {
         match self {
             Outcome::Empty(text) => text.clone(),
-            Outcome::Mistyped { column, message } => format!("! column {column}: {message}"),
-            Outcome::Refused(refusal) => format!("! {}", letters::told(refusal)),
-            Outcome::Ran { answer, term } => match counts {
-                true => format!("{}  # {}", ran(answer, term), counted(answer)),
-                false => ran(answer, term),
+            Outcome::Mistyped { column, message } => match column {
+                Some(column) => format!("! column {column}: {message}"),
+                None => format!("! {message}"),
             },
+            Outcome::Refused(refusal) => format!("! {}", letters::told(refusal)),
+            Outcome::Ran { answer, term, .. } => {
+                let told = ran(answer, term, advice);
+                match counts {
+                    true => format!("{told}  # {}", counted(answer)),
+                    false => told,
+                }
+            }
         }
     }
 
@@ -57,14 +78,24 @@ impl Outcome {
                 ("refusal", refusal.number().into()),
                 ("message", letters::told(refusal).into()),
             ])],
-            Outcome::Ran { answer, term } => vec![
-                ("end", answer.ending.to_string().into()),
-                ("rewrites", answer.rewrites.into()),
-                ("entries", answer.entries.into()),
-                ("granted", answer.granted.into()),
-                ("kept", answer.kept.into()),
-                ("term", term.as_str().into()),
-            ],
+            Outcome::Ran {
+                answer,
+                term,
+                instead_of,
+            } => {
+                let mut fields: Fields = vec![
+                    ("end", answer.ending.to_string().into()),
+                    ("rewrites", answer.rewrites.into()),
+                    ("entries", answer.entries.into()),
+                    ("granted", answer.granted.into()),
+                    ("kept", answer.kept.into()),
+                    ("term", term.as_str().into()),
+                ];
+                if let Some(ending) = instead_of {
+                    fields.push(("instead_of", ending.to_string().into()));
+                }
+                fields
+            }
         }
     }
 }
@@ -73,12 +104,15 @@ fn error(fields: Fields) -> (&'static str, Json) {
     ("error", fields.into())
 }
 
-fn ran(answer: &Answer, term: &str) -> String {
+fn ran(answer: &Answer, term: &str, advice: &str) -> String {
     match answer.ending {
         Ending::Finished => term.to_owned(),
         Ending::Spent => format!("! spent after {} rewrites at {term}", answer.rewrites),
         Ending::Full => format!("! full after {} rewrites at {term}", answer.rewrites),
-        other => format!("! {other} after {} entries at {term}", answer.entries),
+        other => format!(
+            "! {other} after {} entries ({advice}) at {term}",
+            answer.entries
+        ),
     }
 }
 

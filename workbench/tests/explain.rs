@@ -421,11 +421,75 @@ fn profiles_of_a_batch() {
         (numbers(first), numbers(second)),
         ([1, 7, 3, 2], [2, 8, 2, 2])
     );
+}
 
-    // Postings and profile don't mix.
-    for place in [&["--profile", "-"][..], &["--profile", "x", "-o", "x"]] {
-        let command = ["batch", "examples/ticks.book", &lines];
-        let ran = kurvneist(&[&command[..], place].concat());
-        assert_eq!((ran.status, ran.output.as_str()), (2, ""));
+/// Threads share the counting.
+#[test]
+fn profiles_are_the_same_for_any_jobs() {
+    let mut random = Random::new(18);
+    let line = |_| {
+        let count = random.below(6);
+        let (ticks, close) = ("tick(".repeat(count), ")".repeat(count));
+        format!("both({ticks}end{close}, end)\n")
+    };
+    let lines = file("jobs.lines", (0..500).map(line).collect::<String>());
+    let profile = |jobs: &str| {
+        let [output, profile] = ["jobs.postings", "jobs.profile"].map(|name| file(name, ""));
+        let batch = [
+            "batch",
+            "examples/ticks.book",
+            &lines,
+            "--json",
+            "--jobs",
+            jobs,
+        ];
+        let places = ["-o", &output, "--profile", &profile];
+        assert_eq!(kurvneist(&[&batch[..], &places].concat()).status, 0);
+        [output, profile].map(|name| std::fs::read_to_string(name).unwrap())
+    };
+    let [postings, counts] = profile("1");
+    assert_eq!(profile("3"), [postings.clone(), counts]);
+    for (number, line) in (1..).zip(postings.lines()) {
+        assert_eq!(common::json::read(line).get("line").number(), number);
     }
+}
+
+/// What is explained is the run that posts the line, also where that is a
+/// longer one, or one unit's in the place of two that had no room.
+#[test]
+fn the_run_that_posts_is_explained() {
+    let long = format!("both({}end{}, end)", "tick(".repeat(200), ")".repeat(200));
+    let ran = kurvneist(&["explain", "examples/ticks.book", &long, "--rules-only"]);
+    assert_eq!((ran.status, ran.errors.as_str()), (0, ""));
+    assert!(ran.output.contains("\nfinished: rewrites 201, entries "));
+
+    let sixty = "t(".repeat(60) + "Y" + &")".repeat(60);
+    let book = format!(
+        "op z/0 op s t/1 op grow/2 (0) op pair/2 ({{1 2}} 0) var X Y\n\
+         rule grow(s(X), Y) = grow(X, {sixty})\nrule grow(z, Y) = z\n"
+    );
+    let book = file("explained.book", book);
+    let part = format!("grow({}z{}, z)", "s(".repeat(10), ")".repeat(10));
+    let line = format!("pair({part}, {part})");
+    let run = |command: &str| {
+        let ran = kurvneist(&[command, &book, &line, "--units=2", "--json"]);
+        assert_eq!(ran.status, 0);
+        let note = "posted by one unit, since the run by 2 ended full\n";
+        assert_eq!(ran.errors, note);
+        read_line(&ran.output)
+    };
+    let (posted, explained) = (run("post"), run("explain"));
+    assert_eq!(posted.get("instead_of").text(), "full");
+    for name in ["end", "rewrites", "entries", "granted", "kept", "term"] {
+        assert_eq!(posted.get(name), explained.get(name));
+    }
+    assert_eq!(explained.get("steps").list().len(), 22);
+
+    // One that goes on for ever is explained as far as it can be read.
+    let ever = file("ever-explained.book", "op a/0 rule a = a");
+    let ran = kurvneist(&["explain", &ever, "a", "--rules-only"]);
+    assert_eq!(ran.status, 1);
+    assert!(ran
+        .output
+        .contains("\ncut: rewrites 16384, entries 32768, "));
 }

@@ -8,14 +8,15 @@ use crate::mistake::Mistake;
 use crate::warnings::{self, Kind, Warning};
 
 pub fn check(parsed: &Parsed) -> Result<Status, Stop> {
-    let name = &parsed.arguments[0];
+    let text_name = &parsed.arguments[0];
+    let name = &*text_name.to_string_lossy();
     let strict = parsed.has("--strict");
     let allowed = allowed(parsed.value("--allow").unwrap_or("")).map_err(usage)?;
-    let (source, read) = files::read_text(name)?;
+    let (source, read) = files::read_text(text_name)?;
     let named = match read {
         Ok(named) => named,
         Err(mistakes) if parsed.has("--json") => return mistaken(name, &source, &mistakes),
-        Err(mistakes) => return Err(files::mistaken(name, &source, &mistakes)),
+        Err(mistakes) => return Err(files::mistaken(text_name, &source, &mistakes)),
     };
     let mut found = warnings::of(&source, &named);
     found.retain(|warning| !allowed.contains(&warning.kind));

@@ -5,9 +5,10 @@ use std::fmt::Write;
 use crate::cli::options::{Command, COMMANDS};
 use crate::schedule;
 
-const STATUS: &str = "\
+pub const STATUS: &str = "\
 Exit status
-  0  done; in post, explain, trace and batch: every run finished
+  0  done; in post, explain, trace and batch: every run finished, or the reader of
+     the postings went away, as head does
   1  a line was refused, mistyped, or its run didn't finish
   2  the command line is wrong
   3  a book is mistaken or refused, has a warning in check --strict, or a file
@@ -118,8 +119,10 @@ Shows each rewrite: the rule by its number and its line in the text, its place i
 the term, what its variables stand for, and the term before and after, with the
 rewritten part in brackets. The place is the arguments to follow from the root:
 2.1 is argument 1 of argument 2, and 1*5 is five times argument 1. The rewrites
-come from a plain model; after every rewrite its term and counts are compared
-with what the proved engine answers for the schedule cut there.
+come from a plain model; after every rewrite, or after 256 of those of a long
+run, its term and counts are compared with what the proved engine answers for the
+schedule cut there. Without --schedule, of a run of over 262144 entries the first
+32768 are explained.
 
 With --json, one object: line, steps, and the fields of post. Each step has
   step, rule, rule_line  numbers from 1; rule_line is null for a packed book
@@ -139,9 +142,10 @@ the FORKs that were granted and those that found nobody idle and were kept, and
 the term. It is a posting if the run finished; granted and kept together are then
 the same for any number of units and any schedule.
 
-With --json, one object: end, rewrites, entries, granted, kept and term; or error,
-an object with kind (mistyped or refused), column or refusal, and message. Terms
-are by names, as in the text.
+With --json, one object: end, rewrites, entries, granted, kept and term, and
+instead_of, an ending, if one unit posted in the place of several whose run ended
+so; or error, an object with kind (mistyped or refused), column or refusal, and
+message. Terms are by names, as in the text.
 ";
 
 pub const TRACE: &str = "\
@@ -157,15 +161,30 @@ waits at a JOIN, a thin line while it is idle, with arrows for FORKs and EXITs.
 Each cell says its entry when the pointer rests on it.
 ";
 
+const TURNS: &str = "\
+Without --schedule the units act in turn, and a run that is cut is made again
+with more entries: 32768, 262144, 2097152, at most 16777216 (a trace has at most
+262144, or shows the first 32768). A line that several units then leave full or
+cut is posted by one unit, if that finishes it, and this is told. So more units
+never make a line fail.
+";
+
 pub const BATCH: &str = "\
 Output line k belongs to input line k. It is the posting by names; a blank or
 comment line as it was; or ! and why there is no posting:
   ! column 7: 'muller' is unknown; expected an operator that is declared
   ! refused 12: the line has over 1,024 bytes
   ! spent after 1000 rewrites at TERM     (also full, and cut after N entries)
+  ! the line has over 1048576 bytes; expected at most so many
 A line that can't be posted doesn't stop the others. A summary goes to standard
-error, and a progress bar if that is a terminal. With --payee too, blank lines
-and those that begin with # stay as they are.
+error, and progress with rate and time left if that is a terminal, but not one
+with TERM=dumb; COLUMNS says how wide it is. With --payee too, blank lines and
+those that begin with # stay as they are.
+
+Lines are read and written one by one, or with --jobs in blocks of 64, so LINES
+may have any length. With -o the postings stand in FILE.PID-0.part until all are
+there, and FILE is as it was if the batch is interrupted. No output may be an
+input, also not through a link.
 
 With --json, each output line is an object: line, its number from 1, and the
 fields of post; a blank or comment line has comment, the text as it was.
@@ -239,7 +258,7 @@ fn options(command: &Command) -> String {
 }
 
 fn schedules() -> String {
-    format!("Forms of a schedule\n{}\n", schedule::FORMS)
+    format!("Forms of a schedule\n{}\n\n{TURNS}", schedule::FORMS)
 }
 
 fn put(text: &mut String, more: &str) {
