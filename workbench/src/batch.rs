@@ -8,13 +8,12 @@ use std::time::{Duration, Instant};
 use comparison::model::Form;
 use kurvneist::{Answer, Ending, Engine, Request};
 
+use crate::items::{BadHeader, Content, Item, Items, Raw, Reading};
 use crate::letters;
-use crate::line;
-use crate::mistake::Mistake;
 use crate::progress::Progress;
 use crate::text::check::Named;
-use crate::text::lexer::is_blank;
 use crate::text::printer;
+use crate::told::counted;
 
 /// What all lines of a batch share.
 pub struct Settings<'a> {
@@ -24,13 +23,15 @@ pub struct Settings<'a> {
     pub schedule: &'a [u8],
     /// Says the counts behind each posting, as a comment.
     pub counts: bool,
-    /// The lines are ISO 8859-1.
-    pub latin1: bool,
+    pub reading: &'a Reading,
 }
 
 #[derive(Clone, Copy, Debug, Default)]
 pub struct Summary {
+    /// Of a bank export, records.
     pub lines: usize,
+    pub is_export: bool,
+    /// Blank lines, comments and headers.
     pub empty: usize,
     pub posted: usize,
     /// By ending: spent, full, cut.
@@ -66,11 +67,14 @@ impl Summary {
 impl fmt::Display for Summary {
     fn fmt(&self, f: &mut fmt::Formatter) -> fmt::Result {
         let [spent, full, cut] = self.unfinished;
+        let [one, many, kept] = match self.is_export {
+            true => ["record", "records", "header or blank"],
+            false => ["line", "lines", "blank or comment"],
+        };
         writeln!(
             f,
-            "{} {}: {} posted, {} not, {} blank or comment",
-            self.lines,
-            if self.lines == 1 { "line" } else { "lines" },
+            "{}: {} posted, {} not, {} {kept}",
+            counted(self.lines as u64, one, many),
             self.posted,
             self.not_posted(),
             self.empty
@@ -94,39 +98,48 @@ impl fmt::Display for Summary {
     }
 }
 
-/// Posts every line of `input`, a term by names, and writes what became of it
-/// as that line of the output.
+/// Why a batch ended early.
+#[derive(Debug)]
+pub enum Failure {
+    Output(io::Error),
+    Header(BadHeader),
+}
+
+impl From<io::Error> for Failure {
+    fn from(error: io::Error) -> Failure {
+        Failure::Output(error)
+    }
+}
+
+impl From<BadHeader> for Failure {
+    fn from(header: BadHeader) -> Failure {
+        Failure::Header(header)
+    }
+}
+
+/// Posts every line of `input` and writes what became of it as that line of
+/// the output; of a bank export, every record.
 pub fn run(
     input: &[u8],
     settings: &Settings,
     output: &mut dyn Write,
     progress: &mut Progress,
-) -> io::Result<Summary> {
-    run_form(Form::Line, input, settings, output, progress)
-}
-
-/// The same where each line is a payee's text, or a term by names, as said.
-pub fn run_form(
-    form: Form,
-    input: &[u8],
-    settings: &Settings,
-    output: &mut dyn Write,
-    progress: &mut Progress,
-) -> io::Result<Summary> {
+) -> Result<Summary, Failure> {
     let started = Instant::now();
     let mut engine = Engine::new();
-    let mut summary = Summary::default();
+    let mut summary = Summary {
+        is_export: settings.reading.columns.is_some(),
+        ..Summary::default()
+    };
     let lines = lines(input);
-    for line in &lines {
-        let text = decoded(line, settings.latin1);
-        let told = match &text {
-            Ok(text) => told(form, text, settings, &mut engine, &mut summary),
-            Err(reason) => mistaken(reason, &mut summary),
-        };
-        writeln!(output, "{told}")?;
+    let mut items = Items::new(settings.reading);
+    let mut rest = lines.iter();
+    while let Some(item) = items.next(|| Ok::<_, Failure>(rest.next().map(raw)))? {
+        let told = told(&item, settings, &mut engine, &mut summary);
+        write!(output, "{told}{}", item.ending)?;
         summary.lines += 1;
         let note = format!(" lines, {} not posted", summary.not_posted());
-        progress.tell(summary.lines, lines.len(), &note);
+        progress.tell(lines.len() - rest.len(), lines.len(), &note);
     }
     progress.clear();
     summary.time = started.elapsed();
@@ -135,56 +148,32 @@ pub fn run_form(
 
 /// Lines end in 0A or 0D 0A; the last one need not.
 fn lines(input: &[u8]) -> Vec<&[u8]> {
-    let mut lines: Vec<&[u8]> = input.split(|byte| *byte == b'\n').collect();
-    if lines.last().is_some_and(|last| last.is_empty()) {
-        lines.pop();
-    }
-    lines
-        .into_iter()
-        .map(|line| line.strip_suffix(b"\r").unwrap_or(line))
-        .collect()
+    input.split_inclusive(|byte| *byte == b'\n').collect()
 }
 
-fn decoded(line: &[u8], latin1: bool) -> Result<String, String> {
-    if latin1 {
-        return Ok(line.iter().copied().map(char::from).collect());
+fn raw(line: &&[u8]) -> Raw {
+    let text = line.strip_suffix(b"\n");
+    Raw {
+        bytes: Ok(text.unwrap_or(line).to_vec()),
+        ended: text.is_some(),
     }
-    String::from_utf8(line.to_vec()).map_err(|error| {
-        let good = error.utf8_error().valid_up_to();
-        let column = String::from_utf8_lossy(&line[..good]).chars().count() + 1;
-        format!(
-            "column {column}: the byte {:02X} is not UTF-8; expected UTF-8, or --latin1",
-            line[good]
-        )
-    })
 }
 
-fn told(
-    form: Form,
-    text: &str,
-    settings: &Settings,
-    engine: &mut Engine,
-    summary: &mut Summary,
-) -> String {
-    if is_blank(text) {
-        summary.empty += 1;
-        return text.to_owned();
-    }
-    match read(form, text, settings) {
-        Ok(line) => posted(form, &line, settings, engine, summary),
-        Err(mistake) => {
-            let (_, column) = mistake.place(text);
-            mistaken(&format!("column {column}: {}", mistake.message()), summary)
+fn told(item: &Item, settings: &Settings, engine: &mut Engine, summary: &mut Summary) -> String {
+    let told = match &item.content {
+        Content::Kept(text) => {
+            summary.empty += 1;
+            return text.clone();
         }
-    }
-}
-
-/// Editors on Windows begin a file with the mark U+FEFF, which is no character
-/// of a payee.
-fn read(form: Form, text: &str, settings: &Settings) -> Result<Vec<u8>, Mistake> {
-    match form {
-        Form::Line => line::read(text, &settings.named.names),
-        Form::Text => line::read_payee(text.strip_prefix('\u{feff}').unwrap_or(text)),
+        Content::Bad(reason) => mistaken(reason, summary),
+        Content::Texts(texts) => match settings.reading.line(texts, &settings.named.names) {
+            Ok(line) => posted(&line, settings, engine, summary),
+            Err(reason) => mistaken(&reason, summary),
+        },
+    };
+    match (item.line, told.strip_prefix("! ")) {
+        (Some(line), Some(reason)) => format!("! line {line}: {reason}"),
+        _ => told,
     }
 }
 
@@ -193,13 +182,7 @@ fn mistaken(reason: &str, summary: &mut Summary) -> String {
     format!("! {reason}")
 }
 
-fn posted(
-    form: Form,
-    line: &[u8],
-    settings: &Settings,
-    engine: &mut Engine,
-    summary: &mut Summary,
-) -> String {
+fn posted(line: &[u8], settings: &Settings, engine: &mut Engine, summary: &mut Summary) -> String {
     let request = Request {
         book: &settings.named.book,
         line,
@@ -207,7 +190,7 @@ fn posted(
         budget: settings.budget,
         schedule: settings.schedule,
     };
-    let posting = match form {
+    let posting = match settings.reading.form {
         Form::Line => engine.post(&request),
         Form::Text => engine.post_payee(&request),
     };
@@ -223,14 +206,21 @@ fn posted(
     let term = printer::term(posting.term, &settings.named.names);
     let told = match answer.ending {
         Ending::Finished => term,
-        Ending::Spent => format!("! spent after {} rewrites at {term}", answer.rewrites),
-        Ending::Full => format!("! full after {} rewrites at {term}", answer.rewrites),
-        Ending::Cut => format!("! cut after {} entries at {term}", answer.entries),
+        Ending::Spent => format!("! spent after {} at {term}", rewrites(&answer)),
+        Ending::Full => format!("! full after {} at {term}", rewrites(&answer)),
+        Ending::Cut => {
+            let entries = counted(answer.entries, "entry", "entries");
+            format!("! cut after {entries} at {term}")
+        }
     };
     match settings.counts {
         true => format!("{told}  # {}", counts(&answer)),
         false => told,
     }
+}
+
+fn rewrites(answer: &Answer) -> String {
+    counted(answer.rewrites.into(), "rewrite", "rewrites")
 }
 
 pub fn counts(answer: &Answer) -> String {

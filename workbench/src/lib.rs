@@ -4,17 +4,26 @@
 //! - `text`: the text form of books: `lexer`, `parser`, `check`, `sides` from
 //!   text to book, `printer` from book to text.
 //! - `names`, `line`, `letters`, `schedule`, `mistake`: what the commands share.
+//! - `items`, `encoding`, `compose`, `csv`, `template`: from a file to lines.
+//! - `told`, `width`: characters in messages, and the room that they take.
 //! - `trace`: a run entry by entry, as text and as a picture.
 //! - `batch`, `progress`: many lines against one book.
 //! - `cli`: the commands, their options and help.
 
 pub mod batch;
 pub mod cli;
+pub mod compose;
+pub mod csv;
+pub mod encoding;
+pub mod items;
 pub mod letters;
 pub mod line;
 pub mod mistake;
 pub mod names;
 pub mod progress;
 pub mod schedule;
+pub mod template;
 pub mod text;
+pub mod told;
 pub mod trace;
+pub mod width;

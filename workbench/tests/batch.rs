@@ -6,6 +6,7 @@ use common::{file, kurvneist, kurvneist_with};
 use comparison::random::Random;
 use kurvneist::{Ending, Engine, Request};
 use workbench::batch::{run, Settings};
+use workbench::items::Reading;
 use workbench::line;
 use workbench::progress::{bar, Progress};
 use workbench::text::check;
@@ -39,7 +40,7 @@ fn output_line_k_belongs_to_input_line_k() {
         budget: 5,
         schedule: &schedule,
         counts: false,
-        latin1: false,
+        reading: &Reading::lines(),
     };
     let mut random = Random::new(5);
     for ending in ["", "\n", "\r\n"] {
@@ -51,7 +52,7 @@ fn output_line_k_belongs_to_input_line_k() {
         let mut output = Vec::new();
         let summary = run(&input, &settings, &mut output, &mut Progress::hidden()).unwrap();
         let output = String::from_utf8(output).unwrap();
-        let told: Vec<&str> = output.split('\n').collect();
+        let told: Vec<&str> = output.split(separator).collect();
         assert_eq!(told.len(), 301 - usize::from(last_lost));
         for (line, told) in lines.iter().zip(&told) {
             assert_eq!(
@@ -71,8 +72,8 @@ fn output_line_k_belongs_to_input_line_k() {
 /// What a line gives by itself, in an engine of its own.
 fn alone(line: &[u8], settings: &Settings) -> String {
     let Ok(text) = std::str::from_utf8(line) else {
-        let expected = "! column 13: the byte E9 is not UTF-8; expected UTF-8, or --latin1";
-        return expected.into();
+        let expected = "UTF-8, or --encoding with the file's";
+        return format!("! column 13: the byte E9 is not UTF-8; expected {expected}");
     };
     if text.trim_start().is_empty() || text.trim_start().starts_with('#') {
         return text.into();
@@ -164,7 +165,7 @@ fn a_file_may_begin_with_a_mark() {
     let ran = kurvneist_with(&["batch", "examples/ticks.book", "-"], input.as_bytes());
     assert_eq!(
         (ran.status, ran.output.as_str()),
-        (0, "\u{feff}# note\nend\n")
+        (0, "\u{feff}# note\r\nend\r\n")
     );
     let book = file("marked.book", "\u{feff}op a/0\r\nrule a = a\r\n");
     assert_eq!(kurvneist(&["book", &book]).status, 0);

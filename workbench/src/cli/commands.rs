@@ -6,22 +6,25 @@ use kurvneist::{Ending, Engine, Request};
 use crate::batch;
 use crate::cli::files;
 use crate::cli::options::Parsed;
+use crate::cli::reading;
 use crate::cli::{Status, Stop};
+use crate::compose::composed;
 use crate::letters;
 use crate::line;
 use crate::names::Names;
 use crate::progress::Progress;
 use crate::text::check::{self, Named};
 use crate::text::printer;
+use crate::told::counted;
 use crate::trace;
 
-fn usage(wrong: String) -> Stop {
+pub fn usage(wrong: String) -> Stop {
     Stop::new(Status::Usage, format!("kurvneist: {wrong}"))
 }
 
 pub fn book(parsed: &Parsed) -> Result<Status, Stop> {
     let name = &parsed.arguments[0];
-    let named = files::named_text(name)?;
+    let named = files::named_text(name, parsed.encoding("--encoding").map_err(usage)?)?;
     match parsed.value("-o") {
         Some(output) => files::write(output, &named.book)?,
         None => files::print(contents(name, &named).as_bytes())?,
@@ -32,17 +35,18 @@ pub fn book(parsed: &Parsed) -> Result<Status, Stop> {
 fn contents(name: &str, named: &Named) -> String {
     let read = model::read_book(&named.book).expect("what the proved writer wrote can be read");
     format!(
-        "{name}: {} operators, {} rules, {} bytes packed\n",
-        read.operators.len(),
-        read.rules.len(),
-        named.book.len()
+        "{name}: {}, {}, {} packed\n",
+        counted(read.operators.len() as u64, "operator", "operators"),
+        counted(read.rules.len() as u64, "rule", "rules"),
+        counted(named.book.len() as u64, "byte", "bytes")
     )
 }
 
 /// The text is read back before it is shown: it must give the book again.
 pub fn text(parsed: &Parsed) -> Result<Status, Stop> {
     let (name, names) = (&parsed.arguments[0], parsed.value("--names"));
-    let named = files::named_packed(name, names, Names::generated)?;
+    let encoding = parsed.encoding("--encoding").map_err(usage)?;
+    let named = files::named_packed(name, names, encoding, Names::generated)?;
     let read = model::read_book(&named.book).expect("what the proved writer wrote can be read");
     let text = printer::book(&read, &named.names);
     match check::read(&text) {
@@ -56,7 +60,7 @@ pub fn text(parsed: &Parsed) -> Result<Status, Stop> {
 }
 
 /// What the lines of a command line are.
-fn form(parsed: &Parsed) -> Form {
+pub fn form(parsed: &Parsed) -> Form {
     match parsed.has("--payee") {
         true => Form::Text,
         false => Form::Line,
@@ -78,15 +82,15 @@ impl Asked {
         let units = parsed.units().map_err(usage)?;
         let budget = parsed.number("--budget", 0, 1_000_000).map_err(usage)?;
         let schedule = parsed.schedule(units).map_err(usage)?;
-        let named = files::named(parsed)?;
-        let written = &parsed.arguments[1];
+        let named = files::named(parsed, "--encoding")?;
+        let written = composed(&parsed.arguments[1]);
         let form = form(parsed);
         let line = match form {
-            Form::Line => line::read(written, &named.names),
-            Form::Text => line::read_payee(written),
+            Form::Line => line::read(&written, &named.names),
+            Form::Text => line::read_payee(&written),
         };
         let line =
-            line.map_err(|mistake| Stop::new(Status::NotPosted, mistake.show("LINE", written)))?;
+            line.map_err(|mistake| Stop::new(Status::NotPosted, mistake.show("LINE", &written)))?;
         Ok(Asked {
             named,
             form,
@@ -165,7 +169,9 @@ pub fn batch(parsed: &Parsed) -> Result<Status, Stop> {
     let units = parsed.units().map_err(usage)?;
     let budget = parsed.number("--budget", 0, 1_000_000).map_err(usage)?;
     let schedule = parsed.schedule(units).map_err(usage)?;
-    let named = files::named(parsed)?;
+    let reading = reading::of(parsed)?;
+    let named = files::named(parsed, "--book-encoding")?;
+    reading::check_template(parsed, &reading, &named.names)?;
     let input = files::bytes(&parsed.arguments[1])?;
     let settings = batch::Settings {
         named: &named,
@@ -173,7 +179,7 @@ pub fn batch(parsed: &Parsed) -> Result<Status, Stop> {
         budget,
         schedule: &schedule,
         counts: parsed.has("--counts"),
-        latin1: parsed.has("--latin1"),
+        reading: &reading,
     };
     let quiet = parsed.has("--quiet");
     let mut progress = match quiet {
@@ -181,9 +187,13 @@ pub fn batch(parsed: &Parsed) -> Result<Status, Stop> {
         false => Progress::new(),
     };
     let mut output = files::output(parsed)?;
-    let summary = batch::run_form(form(parsed), &input, &settings, &mut output, &mut progress)
-        .and_then(|summary| output.flush().map(|()| summary))
-        .map_err(|error| Stop::new(Status::Input, format!("the postings: {error}")))?;
+    let summary = batch::run(&input, &settings, &mut output, &mut progress)
+        .and_then(|summary| Ok(output.flush().map(|()| summary)?))
+        .map_err(|failure| match failure {
+            batch::Failure::Output(error) => format!("the postings: {error}"),
+            batch::Failure::Header(header) => format!("{}: {}", parsed.arguments[1], header.0),
+        })
+        .map_err(|message| Stop::new(Status::Input, message))?;
     if !quiet {
         eprintln!("{summary}");
     }

@@ -4,6 +4,7 @@ mod commands;
 mod files;
 pub mod help;
 pub mod options;
+mod reading;
 
 use std::process::ExitCode;
 
@@ -95,8 +96,9 @@ fn command(name: &str) -> Result<&'static Command, Stop> {
     found.ok_or_else(|| {
         let names: Vec<&str> = options::COMMANDS.iter().map(|known| known.name).collect();
         let message = format!(
-            "kurvneist: '{name}' is no command; expected {} or help",
-            names.join(", ")
+            "kurvneist: '{name}' is no command; expected {} or help{}",
+            names.join(", "),
+            options::suggestion(names.iter().copied().chain(["help"]), name)
         );
         Stop::new(Status::Usage, message)
     })
