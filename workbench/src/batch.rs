@@ -1,15 +1,18 @@
-//! Many lines against one book, with one work area: a line of output for each
-//! line of input, whatever becomes of it.
+//! Many lines against one book: a line of output for each line of input,
+//! whatever becomes of it. Lines are read, posted and written a few at a time,
+//! so that memory doesn't grow with their number.
 
 use std::fmt;
-use std::io::{self, Write};
+use std::io::{self, BufRead, Write};
 use std::time::{Duration, Instant};
 
-use comparison::model::Form;
 use kurvneist::{Answer, Ending, Engine, Request};
 
 use crate::items::{BadHeader, Content, Item, Items, Raw, Reading};
+use crate::jobs;
 use crate::letters;
+use crate::lines::{Line, Lines, LONGEST};
+use crate::posting::Schedules;
 use crate::progress::Progress;
 use crate::text::check::Named;
 use crate::text::printer;
@@ -18,12 +21,24 @@ use crate::told::counted;
 /// What all lines of a batch share.
 pub struct Settings<'a> {
     pub named: &'a Named,
-    pub units: u8,
     pub budget: u32,
-    pub schedule: &'a [u8],
+    pub schedules: &'a Schedules,
     /// Says the counts behind each posting, as a comment.
     pub counts: bool,
     pub reading: &'a Reading,
+    /// So many threads, each with an engine of its own.
+    pub jobs: usize,
+}
+
+/// Lines that go to a thread together, as few as don't make handing on count.
+const BLOCK: usize = 64;
+
+/// Why a batch stopped.
+#[derive(Debug)]
+pub enum Failure {
+    Read(io::Error),
+    Write(io::Error),
+    Header(BadHeader),
 }
 
 #[derive(Clone, Copy, Debug, Default)]
@@ -34,6 +49,8 @@ pub struct Summary {
     /// Blank lines, comments and headers.
     pub empty: usize,
     pub posted: usize,
+    /// Of those, by one unit in the place of several.
+    pub alone: usize,
     /// By ending: spent, full, cut.
     pub unfinished: [usize; 3],
     pub refused: usize,
@@ -48,6 +65,22 @@ pub struct Summary {
 impl Summary {
     pub fn not_posted(&self) -> usize {
         self.unfinished.iter().sum::<usize>() + self.refused + self.mistaken
+    }
+
+    fn add(&mut self, more: &Summary) {
+        self.lines += more.lines;
+        self.empty += more.empty;
+        self.posted += more.posted;
+        self.alone += more.alone;
+        for (sum, more) in self.unfinished.iter_mut().zip(more.unfinished) {
+            *sum += more;
+        }
+        self.refused += more.refused;
+        self.mistaken += more.mistaken;
+        self.rewrites += more.rewrites;
+        self.entries += more.entries;
+        self.granted += more.granted;
+        self.kept += more.kept;
     }
 
     fn count(&mut self, answer: &Answer) {
@@ -86,6 +119,13 @@ impl fmt::Display for Summary {
                 self.refused, self.mistaken
             )?;
         }
+        if self.alone > 0 {
+            let alone = self.alone;
+            writeln!(
+                f,
+                "posted by one unit, where more ended full or cut: {alone}"
+            )?;
+        }
         write!(
             f,
             "rewrites {}, entries {}, FORKs granted {}, kept {}, {:.2} s",
@@ -98,19 +138,6 @@ impl fmt::Display for Summary {
     }
 }
 
-/// Why a batch ended early.
-#[derive(Debug)]
-pub enum Failure {
-    Output(io::Error),
-    Header(BadHeader),
-}
-
-impl From<io::Error> for Failure {
-    fn from(error: io::Error) -> Failure {
-        Failure::Output(error)
-    }
-}
-
 impl From<BadHeader> for Failure {
     fn from(header: BadHeader) -> Failure {
         Failure::Header(header)
@@ -120,58 +147,119 @@ impl From<BadHeader> for Failure {
 /// Posts every line of `input` and writes what became of it as that line of
 /// the output; of a bank export, every record.
 pub fn run(
-    input: &[u8],
+    input: &mut dyn BufRead,
     settings: &Settings,
     output: &mut dyn Write,
     progress: &mut Progress,
 ) -> Result<Summary, Failure> {
     let started = Instant::now();
-    let mut engine = Engine::new();
-    let mut summary = Summary {
-        is_export: settings.reading.columns.is_some(),
+    let is_export = settings.reading.columns.is_some();
+    let mut sum = Summary {
+        is_export,
         ..Summary::default()
     };
-    let lines = lines(input);
+    let mut lines = Lines::new(input);
     let mut items = Items::new(settings.reading);
-    let mut rest = lines.iter();
-    while let Some(item) = items.next(|| Ok::<_, Failure>(rest.next().map(raw)))? {
-        let told = told(&item, settings, &mut engine, &mut summary);
-        write!(output, "{told}{}", item.ending)?;
-        summary.lines += 1;
-        let note = format!(" lines, {} not posted", summary.not_posted());
-        progress.tell(lines.len() - rest.len(), lines.len(), &note);
+    let mut put = |told: Told| {
+        sum.add(&told.summary);
+        let note = format!(", {} not posted", sum.not_posted());
+        let unit = if is_export { "records" } else { "lines" };
+        progress.tell(sum.lines, unit, &note, told.end);
+        let written = output.write_all(told.text.as_bytes());
+        written.and_then(|()| output.flush())
+    };
+    if settings.jobs == 1 {
+        let mut engine = Engine::new();
+        while let Some(block) = block(&mut items, &mut lines, 1)? {
+            put(all_told(block, settings, &mut engine)).map_err(Failure::Write)?;
+        }
+    } else {
+        jobs::in_order(
+            settings.jobs,
+            || block(&mut items, &mut lines, BLOCK),
+            Engine::new,
+            |engine, block| all_told(block, settings, engine),
+            |told| put(told).map_err(Failure::Write),
+        )?;
     }
     progress.clear();
-    summary.time = started.elapsed();
-    Ok(summary)
+    sum.time = started.elapsed();
+    Ok(sum)
 }
 
-/// Lines end in 0A or 0D 0A; the last one need not.
-fn lines(input: &[u8]) -> Vec<&[u8]> {
-    input.split_inclusive(|byte| *byte == b'\n').collect()
+/// Items that follow each other, and how much of the input they end at.
+struct Block {
+    items: Vec<Item>,
+    end: u64,
 }
 
-fn raw(line: &&[u8]) -> Raw {
-    let text = line.strip_suffix(b"\n");
-    Raw {
-        bytes: Ok(text.unwrap_or(line).to_vec()),
-        ended: text.is_some(),
+/// What became of a block, as lines of output.
+struct Told {
+    text: String,
+    summary: Summary,
+    end: u64,
+}
+
+/// The next items: so many, or fewer where they are long.
+fn block(items: &mut Items, lines: &mut Lines, most: usize) -> Result<Option<Block>, Failure> {
+    let mut block = Vec::new();
+    let before = lines.read;
+    while block.len() < most && lines.read - before < LONGEST as u64 {
+        match items.next(|| raw(lines))? {
+            Some(item) => block.push(item),
+            None => break,
+        }
+    }
+    let end = lines.read;
+    Ok((!block.is_empty()).then_some(Block { items: block, end }))
+}
+
+fn raw(lines: &mut Lines) -> Result<Option<Raw>, Failure> {
+    let line = lines.line().map_err(Failure::Read)?;
+    Ok(line.map(|line| match line {
+        Line::Whole { bytes, ended } => Raw {
+            bytes: Ok(bytes),
+            ended,
+        },
+        Line::TooLong => Raw {
+            bytes: Err(format!(
+                "the line has over {LONGEST} bytes; expected at most so many"
+            )),
+            ended: false,
+        },
+    }))
+}
+
+fn all_told(block: Block, settings: &Settings, engine: &mut Engine) -> Told {
+    let mut summary = Summary::default();
+    let mut text = String::new();
+    for item in block.items {
+        let ending = item.ending;
+        text.push_str(&told(item, settings, engine, &mut summary));
+        text.push_str(ending);
+        summary.lines += 1;
+    }
+    Told {
+        text,
+        summary,
+        end: block.end,
     }
 }
 
-fn told(item: &Item, settings: &Settings, engine: &mut Engine, summary: &mut Summary) -> String {
-    let told = match &item.content {
+fn told(item: Item, settings: &Settings, engine: &mut Engine, summary: &mut Summary) -> String {
+    let line = item.line;
+    let told = match settings.reading.content(item) {
         Content::Kept(text) => {
             summary.empty += 1;
-            return text.clone();
+            return text;
         }
-        Content::Bad(reason) => mistaken(reason, summary),
-        Content::Texts(texts) => match settings.reading.line(texts, &settings.named.names) {
+        Content::Bad(reason) => mistaken(&reason, summary),
+        Content::Texts(texts) => match settings.reading.line(&texts, &settings.named.names) {
             Ok(line) => posted(&line, settings, engine, summary),
             Err(reason) => mistaken(&reason, summary),
         },
     };
-    match (item.line, told.strip_prefix("! ")) {
+    match (line, told.strip_prefix("! ")) {
         (Some(line), Some(reason)) => format!("! line {line}: {reason}"),
         _ => told,
     }
@@ -186,31 +274,30 @@ fn posted(line: &[u8], settings: &Settings, engine: &mut Engine, summary: &mut S
     let request = Request {
         book: &settings.named.book,
         line,
-        units: settings.units,
+        units: 1,
         budget: settings.budget,
-        schedule: settings.schedule,
+        schedule: &[],
     };
-    let posting = match settings.reading.form {
-        Form::Line => engine.post(&request),
-        Form::Text => engine.post_payee(&request),
-    };
-    let posting = match posting {
-        Ok(posting) => posting,
+    let form = settings.reading.form;
+    let posted = match settings.schedules.post(engine, form, &request) {
+        Ok(posted) => posted,
         Err(refusal) => {
             summary.refused += 1;
             return format!("! {}", letters::told(&refusal));
         }
     };
-    let answer = posting.answer;
+    let answer = posted.answer;
     summary.count(&answer);
-    let term = printer::term(posting.term, &settings.named.names);
+    summary.alone += usize::from(posted.instead_of.is_some());
+    let term = printer::term(&posted.term, &settings.named.names);
     let told = match answer.ending {
         Ending::Finished => term,
         Ending::Spent => format!("! spent after {} at {term}", rewrites(&answer)),
         Ending::Full => format!("! full after {} at {term}", rewrites(&answer)),
         Ending::Cut => {
+            let advice = settings.schedules.advice();
             let entries = counted(answer.entries, "entry", "entries");
-            format!("! cut after {entries} at {term}")
+            format!("! cut after {entries} ({advice}) at {term}")
         }
     };
     match settings.counts {

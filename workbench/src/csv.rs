@@ -63,7 +63,8 @@ impl Records {
                 Some(line) => Some(line),
                 None => more()?,
             };
-            let is_last = line.is_none();
+            // A record ends before a line that can't be read.
+            let is_last = line.as_ref().is_none_or(|line| line.text.is_err());
             lines.extend(line);
             let fields = match fields(&lines, self.separator) {
                 _ if lines.is_empty() => return Ok(None),
@@ -116,12 +117,11 @@ impl Fault {
 }
 
 fn fields(lines: &[Line], separator: char) -> Result<Vec<String>, Fault> {
-    let texts: Result<Vec<&str>, &String> = lines
-        .iter()
-        .map(|line| line.text.as_ref().map(String::as_str))
-        .collect();
-    let texts = texts.map_err(|reason| Fault::NoText(reason.clone()))?;
-    split(&texts.join("\n"), separator)
+    if let Some(Err(reason)) = lines.first().map(|line| &line.text) {
+        return Err(Fault::NoText(reason.clone()));
+    }
+    let texts = lines.iter().map_while(|line| line.text.as_deref().ok());
+    split(&texts.collect::<Vec<_>>().join("\n"), separator)
 }
 
 /// A quote inside a field that doesn't begin with one is a character as others.

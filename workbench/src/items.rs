@@ -39,10 +39,16 @@ pub struct Raw {
 }
 
 pub struct Item {
-    pub content: Content,
+    what: What,
     /// The record's first line, in a bank export.
     pub line: Option<usize>,
     pub ending: &'static str,
+}
+
+/// A plain line is read by who posts it, so that threads share that work.
+enum What {
+    Line { raw: Raw, is_first: bool },
+    Record(Content),
 }
 
 pub enum Content {
@@ -61,6 +67,26 @@ impl Reading {
             encoding: Encoding::Utf8,
             columns: None,
             template: None,
+        }
+    }
+
+    /// What is to be done about an item.
+    pub fn content(&self, item: Item) -> Content {
+        match item.what {
+            What::Line { raw, is_first } => self.plain(&raw, is_first),
+            What::Record(content) => content,
+        }
+    }
+
+    /// Blank lines and comments stay as they are.
+    fn plain(&self, raw: &Raw, is_first: bool) -> Content {
+        match self.decoded(raw) {
+            Err(reason) => Content::Bad(reason),
+            Ok(text) if is_blank(&text) => Content::Kept(text),
+            Ok(text) => {
+                let text = without_mark(&text, is_first);
+                Content::Texts(vec![composed(text).into_owned()])
+            }
         }
     }
 
@@ -145,7 +171,7 @@ impl<'r> Items<'r> {
         mut more: impl FnMut() -> Result<Option<Raw>, Failure>,
     ) -> Result<Option<Item>, Failure> {
         let Some(columns) = &self.reading.columns else {
-            return Ok(more()?.map(|raw| self.plain(&raw)));
+            return Ok(more()?.map(|raw| self.plain(raw)));
         };
         let Some(record) = self.record(more)? else {
             return match (columns.header, &self.places) {
@@ -155,7 +181,7 @@ impl<'r> Items<'r> {
         };
         let (line, ending) = (Some(record.line), record.ending);
         Ok(Some(Item {
-            content: self.columns_of(record, columns)?,
+            what: What::Record(self.columns_of(record, columns)?),
             line,
             ending,
         }))
@@ -168,6 +194,7 @@ impl<'r> Items<'r> {
         let (reading, is_first, last) = (self.reading, &mut self.is_first, &mut self.last_ending);
         let mut line = |raw: Raw| {
             let text = reading.decoded(&raw);
+            let is_first = std::mem::take(is_first);
             let text = text.map(|text| composed(without_mark(&text, is_first)).into_owned());
             let ending = ending(&raw, last);
             Line { text, ending }
@@ -193,28 +220,20 @@ impl<'r> Items<'r> {
         }
     }
 
-    /// Blank lines and comments stay as they are.
-    fn plain(&mut self, raw: &Raw) -> Item {
-        let content = match self.reading.decoded(raw) {
-            Err(reason) => Content::Bad(reason),
-            Ok(text) if is_blank(&text) => Content::Kept(text),
-            Ok(text) => {
-                let text = without_mark(&text, &mut self.is_first);
-                Content::Texts(vec![composed(text).into_owned()])
-            }
-        };
-        self.is_first = false;
+    fn plain(&mut self, raw: Raw) -> Item {
+        let ending = ending(&raw, &mut self.last_ending);
+        let is_first = std::mem::take(&mut self.is_first);
         Item {
-            content,
+            what: What::Line { raw, is_first },
             line: None,
-            ending: ending(raw, &mut self.last_ending),
+            ending,
         }
     }
 }
 
 /// Editors on Windows begin a file with the mark U+FEFF.
-fn without_mark<'t>(text: &'t str, is_first: &mut bool) -> &'t str {
-    match std::mem::take(is_first) {
+fn without_mark(text: &str, is_first: bool) -> &str {
+    match is_first {
         true => text.strip_prefix('\u{feff}').unwrap_or(text),
         false => text,
     }

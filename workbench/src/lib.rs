@@ -7,7 +7,9 @@
 //! - `items`, `encoding`, `compose`, `csv`, `template`: from a file to lines.
 //! - `told`, `width`: characters in messages, and the room that they take.
 //! - `trace`: a run entry by entry, as text and as a picture.
-//! - `batch`, `progress`: many lines against one book.
+//! - `posting`: a line's run, by a given schedule or by longer and longer ones.
+//! - `batch`, `lines`, `jobs`, `progress`: many lines against one book.
+//! - `output`: files that are whole or not there.
 //! - `cli`: the commands, their options and help.
 
 pub mod batch;
@@ -16,10 +18,14 @@ pub mod compose;
 pub mod csv;
 pub mod encoding;
 pub mod items;
+pub mod jobs;
 pub mod letters;
 pub mod line;
+pub mod lines;
 pub mod mistake;
 pub mod names;
+pub mod output;
+pub mod posting;
 pub mod progress;
 pub mod schedule;
 pub mod template;

@@ -413,5 +413,5 @@ fn one_is_singular() {
     };
     assert!(told(&["--budget", "1"]).starts_with("! spent after 1 rewrite at "));
     assert!(told(&["--budget", "2"]).starts_with("! spent after 2 rewrites at "));
-    assert!(told(&["--schedule", "0"]).starts_with("! cut after 1 entry at "));
+    assert!(told(&["--schedule", "0"]).starts_with("! cut after 1 entry ("));
 }

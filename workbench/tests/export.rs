@@ -401,3 +401,41 @@ fn the_example_gives_its_accounts_on_any_number_of_units() {
         assert_eq!(more.output, one.output);
     }
 }
+
+/// Records of several lines, bad ones and long lines, on threads as on one.
+#[test]
+fn jobs_change_no_record() {
+    let mut input = String::from("Payee;Purpose\r\n");
+    for round in 0..200 {
+        input.push_str("König;Rg.\r\n\"Müller & Söhne\";\"Rg.\r\n12\"\r\n\"open;x\r\n");
+        if round % 50 == 0 {
+            input.push_str(&format!("{}\r\n", "y".repeat(1 << 20 | 1)));
+        }
+    }
+    let export = file("jobs.csv", input);
+    let template = "line(payee(\"{Payee}\"), purpose(\"{Purpose}\"))";
+    let run = |jobs: &str| {
+        let words = ["batch", PAYEES, &export, "--separator", ";", "--jobs", jobs];
+        kurvneist(&[&words[..], &["--template", template]].concat())
+    };
+    let one = run("1");
+    let told: Vec<&str> = one.output.split("\r\n").collect();
+    assert_eq!((one.status, told.len()), (1, 1 + 3 * 200 + 4 + 1));
+    assert_eq!(
+        told[1..3],
+        ["70010-König-caretaker", "70030-Müller-plumbing"]
+    );
+    assert!(
+        told[3].starts_with("! line 5: character 1: "),
+        "{}",
+        told[3]
+    );
+    assert_eq!(
+        told[4],
+        "! line 6: the line has over 1048576 bytes; expected at most so many"
+    );
+    assert_eq!(told[5..7], told[1..3]);
+    for jobs in ["2", "7"] {
+        assert_eq!(run(jobs).output, one.output);
+    }
+}

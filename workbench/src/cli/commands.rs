@@ -1,5 +1,8 @@
 //! What each command does.
 
+use std::io;
+use std::path::Path;
+
 use comparison::model::{self, Form};
 use kurvneist::{Ending, Engine, Request};
 
@@ -7,11 +10,14 @@ use crate::batch;
 use crate::cli::files;
 use crate::cli::options::Parsed;
 use crate::cli::reading;
-use crate::cli::{Status, Stop};
+use crate::cli::{say, Status, Stop};
 use crate::compose::composed;
+use crate::items::BadHeader;
 use crate::letters;
 use crate::line;
 use crate::names::Names;
+use crate::output::Output;
+use crate::posting::Schedules;
 use crate::progress::Progress;
 use crate::text::check::{self, Named};
 use crate::text::printer;
@@ -25,14 +31,15 @@ pub fn usage(wrong: String) -> Stop {
 pub fn book(parsed: &Parsed) -> Result<Status, Stop> {
     let name = &parsed.arguments[0];
     let named = files::named_text(name, parsed.encoding("--encoding").map_err(usage)?)?;
-    match parsed.value("-o") {
+    match parsed.name("-o") {
         Some(output) => files::write(output, &named.book)?,
-        None => files::print(contents(name, &named).as_bytes())?,
+        None => files::print(contents(Path::new(name), &named).as_bytes())?,
     }
     Ok(Status::Done)
 }
 
-fn contents(name: &str, named: &Named) -> String {
+fn contents(name: &Path, named: &Named) -> String {
+    let name = name.display();
     let read = model::read_book(&named.book).expect("what the proved writer wrote can be read");
     format!(
         "{name}: {}, {}, {} packed\n",
@@ -44,7 +51,7 @@ fn contents(name: &str, named: &Named) -> String {
 
 /// The text is read back before it is shown: it must give the book again.
 pub fn text(parsed: &Parsed) -> Result<Status, Stop> {
-    let (name, names) = (&parsed.arguments[0], parsed.value("--names"));
+    let (name, names) = (&parsed.arguments[0], parsed.name("--names"));
     let encoding = parsed.encoding("--encoding").map_err(usage)?;
     let named = files::named_packed(name, names, encoding, Names::generated)?;
     let read = model::read_book(&named.book).expect("what the proved writer wrote can be read");
@@ -74,16 +81,16 @@ struct Asked {
     line: Vec<u8>,
     units: u8,
     budget: u32,
-    schedule: Vec<u8>,
+    schedules: Schedules,
 }
 
 impl Asked {
     fn read(parsed: &Parsed) -> Result<Asked, Stop> {
         let units = parsed.units().map_err(usage)?;
         let budget = parsed.number("--budget", 0, 1_000_000).map_err(usage)?;
-        let schedule = parsed.schedule(units).map_err(usage)?;
+        let schedules = files::schedules(parsed, units)?;
         let named = files::named(parsed, "--encoding")?;
-        let written = composed(&parsed.arguments[1]);
+        let written = composed(files::line(&parsed.arguments[1])?);
         let form = form(parsed);
         let line = match form {
             Form::Line => line::read(&written, &named.names),
@@ -97,17 +104,18 @@ impl Asked {
             line,
             units,
             budget,
-            schedule,
+            schedules,
         })
     }
 
-    fn request(&self) -> Request<'_> {
+    /// By that schedule; a posting has the schedules of its own.
+    fn request<'a>(&'a self, schedule: &'a [u8]) -> Request<'a> {
         Request {
             book: &self.named.book,
             line: &self.line,
             units: self.units,
             budget: self.budget,
-            schedule: &self.schedule,
+            schedule,
         }
     }
 }
@@ -121,14 +129,10 @@ fn status(ending: Ending) -> Status {
 
 pub fn post(parsed: &Parsed) -> Result<Status, Stop> {
     let asked = Asked::read(parsed)?;
-    let mut engine = Engine::new();
-    let posting = match asked.form {
-        Form::Line => engine.post(&asked.request()),
-        Form::Text => engine.post_payee(&asked.request()),
-    };
-    let posting =
-        posting.map_err(|refusal| Stop::new(Status::NotPosted, letters::told(&refusal)))?;
-    let answer = posting.answer;
+    let schedules = &asked.schedules;
+    let posted = schedules.post(&mut Engine::new(), asked.form, &asked.request(&[]));
+    let posted = posted.map_err(|refusal| Stop::new(Status::NotPosted, letters::told(&refusal)))?;
+    let answer = posted.answer;
     let page = format!(
         "end {}\nrewrites {}\nentries {}\ngranted {}\nkept {}\nterm {}\n",
         answer.ending,
@@ -136,17 +140,49 @@ pub fn post(parsed: &Parsed) -> Result<Status, Stop> {
         answer.entries,
         answer.granted,
         answer.kept,
-        printer::term(posting.term, &asked.named.names)
+        printer::term(&posted.term, &asked.named.names)
     );
     files::print(page.as_bytes())?;
+    if let Some(ending) = posted.instead_of {
+        let units = asked.units;
+        say(&format!(
+            "posted by one unit, since the run by {units} ended {ending}"
+        ));
+    }
+    if answer.ending == Ending::Cut {
+        say(&cut(answer.entries, schedules));
+    }
     Ok(status(answer.ending))
+}
+
+fn cut(entries: u64, schedules: &Schedules) -> String {
+    let entries = counted(entries, "entry", "entries");
+    format!("cut after {entries}: {}", schedules.advice())
+}
+
+/// That each of the text and the picture has a place of its own.
+fn check_outputs(parsed: &Parsed) -> Result<(), Stop> {
+    let picture = parsed.name("--svg");
+    let wrong = match parsed.has("--no-text") {
+        true if picture.is_none() => "--no-text leaves nothing to write; expected --svg FILE",
+        true if parsed.has("-o") => "-o is for the text, which --no-text leaves out",
+        false if picture.is_some_and(|name| name == "-") && files::output_name(parsed) == "-" => {
+            "the text and the picture both go to standard output; expected -o FILE or --no-text"
+        }
+        _ => return Ok(()),
+    };
+    Err(usage(wrong.to_owned()))
 }
 
 pub fn trace(parsed: &Parsed) -> Result<Status, Stop> {
     let width = parsed.number("--width", 0, 100).map_err(usage)? as usize;
     let stride = parsed.number("--check", 1, 1).map_err(usage)? as usize;
+    check_outputs(parsed)?;
     let asked = Asked::read(parsed)?;
-    let traced = trace::run_form(asked.form, &asked.request(), stride, &mut Progress::new());
+    let schedules = &asked.schedules;
+    let schedule = schedules.traced(&mut Engine::new(), asked.form, &asked.request(&[]));
+    let request = asked.request(schedule);
+    let traced = trace::run_form(asked.form, &request, stride, &mut Progress::new());
     let traced = traced.map_err(|failure| {
         let status = match failure {
             trace::Failure::Refused(_) => Status::NotPosted,
@@ -154,7 +190,7 @@ pub fn trace(parsed: &Parsed) -> Result<Status, Stop> {
         };
         Stop::new(status, failure.to_string())
     })?;
-    if let Some(name) = parsed.value("--svg") {
+    if let Some(name) = parsed.name("--svg") {
         let title = printer::term(&traced.start, &asked.named.names);
         let picture = trace::svg::draw(&traced, &title, &asked.named.rule_lines);
         files::write(name, picture.as_bytes())?;
@@ -162,43 +198,64 @@ pub fn trace(parsed: &Parsed) -> Result<Status, Stop> {
     if !parsed.has("--no-text") {
         files::write_or_print(parsed, &trace::text::show(&traced, &asked.named, width))?;
     }
+    if traced.ending == Ending::Cut {
+        say(&cut(schedule.len() as u64, schedules));
+    }
     Ok(status(traced.ending))
 }
 
 pub fn batch(parsed: &Parsed) -> Result<Status, Stop> {
     let units = parsed.units().map_err(usage)?;
     let budget = parsed.number("--budget", 0, 1_000_000).map_err(usage)?;
-    let schedule = parsed.schedule(units).map_err(usage)?;
+    let jobs = parsed.jobs().map_err(usage)?;
     let reading = reading::of(parsed)?;
+    let schedules = files::schedules(parsed, units)?;
     let named = files::named(parsed, "--book-encoding")?;
     reading::check_template(parsed, &reading, &named.names)?;
-    let input = files::bytes(&parsed.arguments[1])?;
+    let name = &parsed.arguments[1];
+    let (mut input, length) = files::input(name)?;
     let settings = batch::Settings {
         named: &named,
-        units,
         budget,
-        schedule: &schedule,
+        schedules: &schedules,
         counts: parsed.has("--counts"),
         reading: &reading,
+        jobs,
     };
     let quiet = parsed.has("--quiet");
     let mut progress = match quiet {
         true => Progress::hidden(),
         false => Progress::new(),
     };
-    let mut output = files::output(parsed)?;
-    let summary = batch::run(&input, &settings, &mut output, &mut progress)
-        .and_then(|summary| Ok(output.flush().map(|()| summary)?))
-        .map_err(|failure| match failure {
-            batch::Failure::Output(error) => format!("the postings: {error}"),
-            batch::Failure::Header(header) => format!("{}: {}", parsed.arguments[1], header.0),
-        })
-        .map_err(|message| Stop::new(Status::Input, message))?;
+    progress.expect(length);
+    let postings = files::output_name(parsed);
+    let unwritten = |error| files::unusable(postings, error);
+    let mut output = Output::create(postings).map_err(unwritten)?;
+    let run = batch::run(&mut *input, &settings, &mut output, &mut progress);
+    let done = run.and_then(|summary| match output.finish() {
+        Ok(()) => Ok(summary),
+        Err(error) => Err(batch::Failure::Write(error)),
+    });
+    let summary = match done {
+        Ok(summary) => summary,
+        // Who reads the postings, as `head` does, has all that was wanted.
+        Err(batch::Failure::Write(error)) if is_gone(&error) => return Ok(Status::Done),
+        Err(batch::Failure::Write(error)) => return Err(unwritten(error)),
+        Err(batch::Failure::Read(error)) => return Err(files::unusable(name, error)),
+        Err(batch::Failure::Header(BadHeader(wrong))) => {
+            let message = format!("{}: {wrong}", Path::new(name).display());
+            return Err(Stop::new(Status::Input, message));
+        }
+    };
     if !quiet {
-        eprintln!("{summary}");
+        say(&summary.to_string());
     }
     Ok(match summary.not_posted() {
         0 => Status::Done,
         _ => Status::NotPosted,
     })
+}
+
+fn is_gone(error: &io::Error) -> bool {
+    error.kind() == io::ErrorKind::BrokenPipe
 }

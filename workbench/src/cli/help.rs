@@ -5,9 +5,10 @@ use std::fmt::Write;
 use crate::cli::options::{Command, COMMANDS};
 use crate::schedule;
 
-const STATUS: &str = "\
+pub const STATUS: &str = "\
 Exit status
-  0  done; in post, trace and batch: every run finished
+  0  done; in post, trace and batch: every run finished, or the reader of the
+     postings went away, as head does
   1  a line was refused, mistyped, or its run didn't finish
   2  the command line is wrong
   3  a book is mistaken or refused, or a file can't be used
@@ -110,16 +111,31 @@ waits at a JOIN, a thin line while it is idle, with arrows for FORKs and EXITs.
 Each cell says its entry when the pointer rests on it.
 ";
 
+const TURNS: &str = "\
+Without --schedule the units act in turn, and a run that is cut is made again
+with more entries: 32768, 262144, 2097152, at most 16777216 (a trace has at most
+262144, or shows the first 32768). A line that several units then leave full or
+cut is posted by one unit, if that finishes it, and this is told. So more units
+never make a line fail.
+";
+
 pub const BATCH: &str = "\
 Output line k belongs to input line k. It is the posting by names; a blank or
 comment line as it was; or ! and why there is no posting:
   ! column 7: 'muller' is unknown; expected an operator that is declared
   ! refused 12: the line has over 1,024 bytes
   ! spent after 1000 rewrites at TERM     (also full, and cut after N entries)
+  ! the line has over 1048576 bytes; expected at most so many
 A line that can't be posted doesn't stop the others. A summary goes to standard
-error, and a progress bar if that is a terminal. With --payee too, blank lines
-and those that begin with # stay as they are. Each line ends as it did, in LF or
+error, and progress with rate and time left if that is a terminal, but not one
+with TERM=dumb; COLUMNS says how wide it is. With --payee too, blank lines and
+those that begin with # stay as they are. Each line ends as it did, in LF or
 CR LF.
+
+Lines are read and written one by one, or with --jobs in blocks of 64, so LINES
+may have any length. With -o the postings stand in FILE.PID-0.part until all are
+there, and FILE is as it was if the batch is interrupted. No output may be an
+input, also not through a link.
 
 With --column, LINES is a bank export (CSV): a record on each line, its fields
 between separators. A field in quotes may have separators, line ends and doubled
@@ -198,7 +214,7 @@ fn options(command: &Command) -> String {
 }
 
 fn schedules() -> String {
-    format!("Forms of a schedule\n{}\n", schedule::FORMS)
+    format!("Forms of a schedule\n{}\n\n{TURNS}", schedule::FORMS)
 }
 
 fn put(text: &mut String, more: &str) {

@@ -2,10 +2,11 @@
 //! command line by them.
 
 use std::collections::HashMap;
+use std::ffi::{OsStr, OsString};
+use std::os::unix::ffi::OsStrExt;
 
 use crate::encoding::Encoding;
 use crate::names::nearest;
-use crate::schedule;
 
 pub struct Flag {
     pub name: &'static str,
@@ -22,6 +23,13 @@ pub struct Command {
     pub flags: &'static [Flag],
     /// What else its help says.
     pub more: &'static str,
+}
+
+impl Flag {
+    /// Whether its value names a file, in any bytes, or may do so.
+    fn names(&self) -> bool {
+        matches!(self.value, Some("FILE" | "TEXT" | "FORM"))
+    }
 }
 
 const fn flag(name: &'static str, value: Option<&'static str>, help: &'static str) -> Flag {
@@ -48,7 +56,7 @@ const BUDGET: Flag = flag(
 const SCHEDULE: Flag = flag(
     "--schedule",
     Some("FORM"),
-    "which unit acts when (default round-robin:32768)",
+    "which unit acts when (default: in turn, as long as needed)",
 );
 const OUTPUT: Flag = flag(
     "-o",
@@ -187,6 +195,11 @@ pub const COMMANDS: &[Command] = &[
             flag("--latin1", None, "the same as --encoding latin-1"),
             flag("--book-encoding", Some("E"), "the book text's"),
             flag("--quiet", None, "no progress bar and no summary"),
+            flag(
+                "--jobs",
+                Some("N"),
+                "post on so many threads, 1 to 256 (default 1)",
+            ),
             UNITS,
             BUDGET,
             SCHEDULE,
@@ -204,27 +217,31 @@ pub fn suggestion<'n>(known: impl Iterator<Item = &'n str>, mistyped: &str) -> S
 
 /// A command line that fits its command.
 pub struct Parsed {
-    pub arguments: Vec<String>,
-    values: HashMap<&'static str, String>,
+    /// As they were given: the names of files need not be UTF-8.
+    pub arguments: Vec<OsString>,
+    values: HashMap<&'static str, OsString>,
 }
 
 impl Parsed {
-    pub fn read(command: &Command, words: &[String]) -> Result<Parsed, String> {
+    pub fn read(command: &Command, words: &[OsString]) -> Result<Parsed, String> {
         let mut parsed = Parsed {
             arguments: Vec::new(),
             values: HashMap::new(),
         };
         let mut words = words.iter();
         while let Some(word) = words.next() {
-            match word.strip_prefix('-') {
-                Some("-") => parsed.arguments.extend(words.by_ref().cloned()),
-                Some(rest) if !rest.is_empty() => parsed.option(command, word, &mut words)?,
+            match word.as_bytes() {
+                b"--" => parsed.arguments.extend(words.by_ref().cloned()),
+                [b'-', _, ..] => parsed.option(command, word, &mut words)?,
                 _ => parsed.arguments.push(word.clone()),
             }
         }
         let due = command.arguments.len();
         match parsed.arguments.get(due) {
-            Some(extra) => Err(format!("'{extra}' is one argument too many")),
+            Some(extra) => {
+                let extra = extra.to_string_lossy();
+                Err(format!("'{extra}' is one argument too many"))
+            }
             None if parsed.arguments.len() < due => {
                 let missing = command.arguments[parsed.arguments.len()].0;
                 Err(format!("{missing} is missing"))
@@ -237,26 +254,32 @@ impl Parsed {
     fn option(
         &mut self,
         command: &Command,
-        word: &str,
-        words: &mut std::slice::Iter<String>,
+        word: &OsStr,
+        words: &mut std::slice::Iter<OsString>,
     ) -> Result<(), String> {
-        let (name, attached) = match word.split_once('=') {
-            Some((name, value)) => (name, Some(value.to_owned())),
-            None => (word, None),
+        let bytes = word.as_bytes();
+        let (name, attached) = match bytes.iter().position(|byte| *byte == b'=') {
+            Some(end) => (&bytes[..end], Some(OsStr::from_bytes(&bytes[end + 1..]))),
+            None => (bytes, None),
         };
+        let name = String::from_utf8_lossy(name);
         let Some(flag) = command.flags.iter().find(|flag| flag.name == name) else {
-            let near = suggestion(command.flags.iter().map(|flag| flag.name), name);
+            let near = suggestion(command.flags.iter().map(|flag| flag.name), &name);
             return Err(format!("'{name}' is no option of this command{near}"));
         };
         let value = match (flag.value, attached) {
-            (None, None) => String::new(),
+            (None, None) => OsString::new(),
             (None, Some(_)) => return Err(format!("{name} has no value")),
-            (Some(_), Some(value)) => value,
+            (Some(_), Some(value)) => value.to_owned(),
             (Some(what), None) => words
                 .next()
                 .cloned()
                 .ok_or_else(|| format!("{name} lacks its {what}"))?,
         };
+        if !flag.names() && value.to_str().is_none() {
+            let value = value.to_string_lossy();
+            return Err(format!("{name} {value}: expected a value in UTF-8"));
+        }
         match self.values.insert(flag.name, value) {
             Some(_) => Err(format!("{name} is given twice")),
             None => Ok(()),
@@ -267,8 +290,14 @@ impl Parsed {
         self.values.contains_key(name)
     }
 
+    /// An option's value that names no file.
     pub fn value(&self, name: &str) -> Option<&str> {
-        self.values.get(name).map(String::as_str)
+        self.values.get(name)?.to_str()
+    }
+
+    /// An option's value that names a file.
+    pub fn name(&self, name: &str) -> Option<&OsStr> {
+        self.values.get(name).map(OsString::as_os_str)
     }
 
     /// The encoding that an option names, UTF-8 without it.
@@ -304,8 +333,13 @@ impl Parsed {
         }
     }
 
-    pub fn schedule(&self, units: u8) -> Result<Vec<u8>, String> {
-        let form = self.value("--schedule").unwrap_or("round-robin:32768");
-        schedule::read(form, units).map_err(|wrong| format!("--schedule {form}: {wrong}"))
+    pub fn jobs(&self) -> Result<usize, String> {
+        match self.value("--jobs").unwrap_or("1").parse() {
+            Ok(jobs @ 1..=256) => Ok(jobs),
+            _ => Err(format!(
+                "--jobs {}: expected a number from 1 to 256",
+                self.value("--jobs").unwrap_or_default()
+            )),
+        }
     }
 }

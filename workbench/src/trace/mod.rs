@@ -179,13 +179,15 @@ fn run_form_against(
     let mut machine = Machine::new(&book, line, request.units, request.budget);
     let mut trace = Trace::new(&machine);
     compare(engine, request, &machine, None)?;
+    // The time goes with the square of the entries.
+    progress.expect(Some((request.schedule.len() as u64).pow(2)));
     for (entry, &unit) in (1..).zip(request.schedule) {
         let (step, ended) = step(&mut machine, unit.into(), trace.term());
         trace.steps.push(step);
         if entry % stride == 0 || ended.is_some() || entry == request.schedule.len() {
             compare(engine, request, &machine, ended)?;
         }
-        progress.tell(entry, request.schedule.len(), " entries");
+        progress.tell(entry, "entries", "", (entry as u64).pow(2));
         if let Some(ending) = ended {
             trace.ending = ending;
             break;
