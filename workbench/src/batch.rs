@@ -93,6 +93,7 @@ impl Summary {
             Ending::Spent => self.unfinished[0] += 1,
             Ending::Full => self.unfinished[1] += 1,
             Ending::Cut => self.unfinished[2] += 1,
+            other => unreachable!("an ending of a later engine: {other}"),
         }
     }
 }
@@ -271,13 +272,7 @@ fn mistaken(reason: &str, summary: &mut Summary) -> String {
 }
 
 fn posted(line: &[u8], settings: &Settings, engine: &mut Engine, summary: &mut Summary) -> String {
-    let request = Request {
-        book: &settings.named.book,
-        line,
-        units: 1,
-        budget: settings.budget,
-        schedule: &[],
-    };
+    let request = Request::new(&settings.named.book, line).budget(settings.budget);
     let form = settings.reading.form;
     let posted = match settings.schedules.post(engine, form, &request) {
         Ok(posted) => posted,
@@ -294,10 +289,10 @@ fn posted(line: &[u8], settings: &Settings, engine: &mut Engine, summary: &mut S
         Ending::Finished => term,
         Ending::Spent => format!("! spent after {} at {term}", rewrites(&answer)),
         Ending::Full => format!("! full after {} at {term}", rewrites(&answer)),
-        Ending::Cut => {
+        other => {
             let advice = settings.schedules.advice();
             let entries = counted(answer.entries, "entry", "entries");
-            format!("! cut after {entries} ({advice}) at {term}")
+            format!("! {other} after {entries} ({advice}) at {term}")
         }
     };
     match settings.counts {

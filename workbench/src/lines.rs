@@ -37,10 +37,24 @@ impl<'a> Lines<'a> {
         if ended {
             line.pop();
         } else if line.len() > LONGEST {
-            self.read += self.input.skip_until(b'\n')? as u64;
+            self.skip()?;
             return Ok(Some(Line::TooLong));
         }
         let bytes = line;
         Ok(Some(Line::Whole { bytes, ended }))
+    }
+
+    /// The rest of a line.
+    fn skip(&mut self) -> io::Result<()> {
+        loop {
+            let next = self.input.fill_buf()?;
+            let end = next.iter().position(|byte| *byte == b'\n');
+            let skipped = end.map_or(next.len(), |end| end + 1);
+            self.input.consume(skipped);
+            self.read += skipped as u64;
+            if end.is_some() || skipped == 0 {
+                return Ok(());
+            }
+        }
     }
 }

@@ -112,7 +112,9 @@ pub fn folder(path: &Path) -> &Path {
 }
 
 fn beside(target: PathBuf) -> io::Result<(File, Part)> {
-    let name = target.file_name().ok_or(io::ErrorKind::IsADirectory)?;
+    let name = target
+        .file_name()
+        .ok_or_else(|| io::Error::other("is no name for a file"))?;
     let short = &name.as_bytes()[..name.len().min(LONGEST_NAME)];
     let mut number = 0;
     loop {

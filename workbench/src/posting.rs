@@ -138,11 +138,7 @@ fn once(
     units: u8,
     schedule: &[u8],
 ) -> Result<Posted, Refusal> {
-    let request = Request {
-        units,
-        schedule,
-        ..*request
-    };
+    let request = request.units(units).schedule(schedule);
     let posting = match form {
         Form::Line => engine.post(&request),
         Form::Text => engine.post_payee(&request),

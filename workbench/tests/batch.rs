@@ -94,13 +94,11 @@ fn alone(line: &[u8], settings: &Settings) -> String {
         }
     };
     let mut engine = Engine::new();
-    let request = Request {
-        book: &settings.named.book,
-        line: &symbols,
-        units: 3,
-        budget: settings.budget,
-        schedule: &[0, 1, 2].repeat(2000),
-    };
+    let schedule = [0, 1, 2].repeat(2000);
+    let request = Request::new(&settings.named.book, &symbols)
+        .units(3)
+        .budget(settings.budget)
+        .schedule(&schedule);
     match engine.post(&request) {
         Err(refusal) => format!("! {refusal}"),
         Ok(posting) => {

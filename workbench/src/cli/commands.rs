@@ -110,13 +110,10 @@ impl Asked {
 
     /// By that schedule; a posting has the schedules of its own.
     fn request<'a>(&'a self, schedule: &'a [u8]) -> Request<'a> {
-        Request {
-            book: &self.named.book,
-            line: &self.line,
-            units: self.units,
-            budget: self.budget,
-            schedule,
-        }
+        Request::new(&self.named.book, &self.line)
+            .units(self.units)
+            .budget(self.budget)
+            .schedule(schedule)
     }
 }
 

@@ -208,10 +208,7 @@ fn compare(
     ended: Option<Ending>,
 ) -> Result<(), Failure> {
     let entry = machine.entries as usize;
-    let cut = Request {
-        schedule: &request.schedule[..entry],
-        ..*request
-    };
+    let cut = request.schedule(&request.schedule[..entry]);
     let engine = engine(&cut).map_err(Failure::Refused)?;
     let model = Told {
         ending: ended.unwrap_or(Ending::Cut),
