@@ -6,19 +6,17 @@ use std::fmt;
 use std::io::{self, BufRead, Write};
 use std::time::{Duration, Instant};
 
-use comparison::model::Form;
 use kurvneist::{Answer, Ending, Engine, Request};
 
+use crate::items::{BadHeader, Content, Item, Items, Raw, Reading};
 use crate::jobs;
 use crate::letters;
-use crate::line;
 use crate::lines::{Line, Lines, LONGEST};
-use crate::mistake::Mistake;
 use crate::posting::Schedules;
 use crate::progress::Progress;
 use crate::text::check::Named;
-use crate::text::lexer::is_blank;
 use crate::text::printer;
+use crate::told::counted;
 
 /// What all lines of a batch share.
 pub struct Settings<'a> {
@@ -27,8 +25,7 @@ pub struct Settings<'a> {
     pub schedules: &'a Schedules,
     /// Says the counts behind each posting, as a comment.
     pub counts: bool,
-    /// The lines are ISO 8859-1.
-    pub latin1: bool,
+    pub reading: &'a Reading,
     /// So many threads, each with an engine of its own.
     pub jobs: usize,
 }
@@ -41,11 +38,15 @@ const BLOCK: usize = 64;
 pub enum Failure {
     Read(io::Error),
     Write(io::Error),
+    Header(BadHeader),
 }
 
 #[derive(Clone, Copy, Debug, Default)]
 pub struct Summary {
+    /// Of a bank export, records.
     pub lines: usize,
+    pub is_export: bool,
+    /// Blank lines, comments and headers.
     pub empty: usize,
     pub posted: usize,
     /// Of those, by one unit in the place of several.
@@ -100,11 +101,14 @@ impl Summary {
 impl fmt::Display for Summary {
     fn fmt(&self, f: &mut fmt::Formatter) -> fmt::Result {
         let [spent, full, cut] = self.unfinished;
+        let [one, many, kept] = match self.is_export {
+            true => ["record", "records", "header or blank"],
+            false => ["line", "lines", "blank or comment"],
+        };
         writeln!(
             f,
-            "{} {}: {} posted, {} not, {} blank or comment",
-            self.lines,
-            if self.lines == 1 { "line" } else { "lines" },
+            "{}: {} posted, {} not, {} {kept}",
+            counted(self.lines as u64, one, many),
             self.posted,
             self.not_posted(),
             self.empty
@@ -135,46 +139,47 @@ impl fmt::Display for Summary {
     }
 }
 
-/// Posts every line of `input`, a term by names, and writes what became of it
-/// as that line of the output.
-pub fn run(
-    mut input: &[u8],
-    settings: &Settings,
-    output: &mut dyn Write,
-    progress: &mut Progress,
-) -> Result<Summary, Failure> {
-    run_form(Form::Line, &mut input, settings, output, progress)
+impl From<BadHeader> for Failure {
+    fn from(header: BadHeader) -> Failure {
+        Failure::Header(header)
+    }
 }
 
-/// The same where each line is a payee's text, or a term by names, as said.
-pub fn run_form(
-    form: Form,
+/// Posts every line of `input` and writes what became of it as that line of
+/// the output; of a bank export, every record.
+pub fn run(
     input: &mut dyn BufRead,
     settings: &Settings,
     output: &mut dyn Write,
     progress: &mut Progress,
 ) -> Result<Summary, Failure> {
     let started = Instant::now();
-    let mut sum = Summary::default();
+    let is_export = settings.reading.columns.is_some();
+    let mut sum = Summary {
+        is_export,
+        ..Summary::default()
+    };
     let mut lines = Lines::new(input);
+    let mut items = Items::new(settings.reading);
     let mut put = |told: Told| {
         sum.add(&told.summary);
         let note = format!(", {} not posted", sum.not_posted());
-        progress.tell(sum.lines, "lines", &note, told.end);
+        let unit = if is_export { "records" } else { "lines" };
+        progress.tell(sum.lines, unit, &note, told.end);
         let written = output.write_all(told.text.as_bytes());
         written.and_then(|()| output.flush())
     };
     if settings.jobs == 1 {
         let mut engine = Engine::new();
-        while let Some(block) = block(&mut lines, 1).map_err(Failure::Read)? {
-            put(all_told(form, block, settings, &mut engine)).map_err(Failure::Write)?;
+        while let Some(block) = block(&mut items, &mut lines, 1)? {
+            put(all_told(block, settings, &mut engine)).map_err(Failure::Write)?;
         }
     } else {
         jobs::in_order(
             settings.jobs,
-            || block(&mut lines, BLOCK).map_err(Failure::Read),
+            || block(&mut items, &mut lines, BLOCK),
             Engine::new,
-            |engine, block| all_told(form, block, settings, engine),
+            |engine, block| all_told(block, settings, engine),
             |told| put(told).map_err(Failure::Write),
         )?;
     }
@@ -183,9 +188,9 @@ pub fn run_form(
     Ok(sum)
 }
 
-/// Lines that follow each other, and how much of the input they end at.
+/// Items that follow each other, and how much of the input they end at.
 struct Block {
-    lines: Vec<Line>,
+    items: Vec<Item>,
     end: u64,
 }
 
@@ -196,26 +201,43 @@ struct Told {
     end: u64,
 }
 
-/// The next lines: so many, or fewer where they are long.
-fn block(lines: &mut Lines, most: usize) -> io::Result<Option<Block>> {
+/// The next items: so many, or fewer where they are long.
+fn block(items: &mut Items, lines: &mut Lines, most: usize) -> Result<Option<Block>, Failure> {
     let mut block = Vec::new();
     let before = lines.read;
     while block.len() < most && lines.read - before < LONGEST as u64 {
-        match lines.line()? {
-            Some(line) => block.push(line),
+        match items.next(|| raw(lines))? {
+            Some(item) => block.push(item),
             None => break,
         }
     }
     let end = lines.read;
-    Ok((!block.is_empty()).then_some(Block { lines: block, end }))
+    Ok((!block.is_empty()).then_some(Block { items: block, end }))
 }
 
-fn all_told(form: Form, block: Block, settings: &Settings, engine: &mut Engine) -> Told {
+fn raw(lines: &mut Lines) -> Result<Option<Raw>, Failure> {
+    let line = lines.line().map_err(Failure::Read)?;
+    Ok(line.map(|line| match line {
+        Line::Whole { bytes, ended } => Raw {
+            bytes: Ok(bytes),
+            ended,
+        },
+        Line::TooLong => Raw {
+            bytes: Err(format!(
+                "the line has over {LONGEST} bytes; expected at most so many"
+            )),
+            ended: false,
+        },
+    }))
+}
+
+fn all_told(block: Block, settings: &Settings, engine: &mut Engine) -> Told {
     let mut summary = Summary::default();
     let mut text = String::new();
-    for line in block.lines {
-        text.push_str(&line_told(form, line, settings, engine, &mut summary));
-        text.push('\n');
+    for item in block.items {
+        let ending = item.ending;
+        text.push_str(&told(item, settings, engine, &mut summary));
+        text.push_str(ending);
         summary.lines += 1;
     }
     Told {
@@ -225,64 +247,22 @@ fn all_told(form: Form, block: Block, settings: &Settings, engine: &mut Engine) 
     }
 }
 
-fn line_told(
-    form: Form,
-    line: Line,
-    settings: &Settings,
-    engine: &mut Engine,
-    summary: &mut Summary,
-) -> String {
-    let Line::Whole(line) = line else {
-        let reason = format!("the line has over {LONGEST} bytes; expected at most so many");
-        return mistaken(&reason, summary);
-    };
-    let line = line.strip_suffix(b"\r").unwrap_or(&line);
-    match decoded(line, settings.latin1) {
-        Ok(text) => told(form, &text, settings, engine, summary),
-        Err(reason) => mistaken(&reason, summary),
-    }
-}
-
-fn decoded(line: &[u8], latin1: bool) -> Result<String, String> {
-    if latin1 {
-        return Ok(line.iter().copied().map(char::from).collect());
-    }
-    String::from_utf8(line.to_vec()).map_err(|error| {
-        let good = error.utf8_error().valid_up_to();
-        let column = String::from_utf8_lossy(&line[..good]).chars().count() + 1;
-        format!(
-            "column {column}: the byte {:02X} is not UTF-8; expected UTF-8, or --latin1",
-            line[good]
-        )
-    })
-}
-
-fn told(
-    form: Form,
-    text: &str,
-    settings: &Settings,
-    engine: &mut Engine,
-    summary: &mut Summary,
-) -> String {
-    if is_blank(text) {
-        summary.empty += 1;
-        return text.to_owned();
-    }
-    match read(form, text, settings) {
-        Ok(line) => posted(form, &line, settings, engine, summary),
-        Err(mistake) => {
-            let (_, column) = mistake.place(text);
-            mistaken(&format!("column {column}: {}", mistake.message()), summary)
+fn told(item: Item, settings: &Settings, engine: &mut Engine, summary: &mut Summary) -> String {
+    let line = item.line;
+    let told = match settings.reading.content(item) {
+        Content::Kept(text) => {
+            summary.empty += 1;
+            return text;
         }
-    }
-}
-
-/// Editors on Windows begin a file with the mark U+FEFF, which is no character
-/// of a payee.
-fn read(form: Form, text: &str, settings: &Settings) -> Result<Vec<u8>, Mistake> {
-    match form {
-        Form::Line => line::read(text, &settings.named.names),
-        Form::Text => line::read_payee(text.strip_prefix('\u{feff}').unwrap_or(text)),
+        Content::Bad(reason) => mistaken(&reason, summary),
+        Content::Texts(texts) => match settings.reading.line(&texts, &settings.named.names) {
+            Ok(line) => posted(&line, settings, engine, summary),
+            Err(reason) => mistaken(&reason, summary),
+        },
+    };
+    match (line, told.strip_prefix("! ")) {
+        (Some(line), Some(reason)) => format!("! line {line}: {reason}"),
+        _ => told,
     }
 }
 
@@ -291,14 +271,9 @@ fn mistaken(reason: &str, summary: &mut Summary) -> String {
     format!("! {reason}")
 }
 
-fn posted(
-    form: Form,
-    line: &[u8],
-    settings: &Settings,
-    engine: &mut Engine,
-    summary: &mut Summary,
-) -> String {
+fn posted(line: &[u8], settings: &Settings, engine: &mut Engine, summary: &mut Summary) -> String {
     let request = Request::new(&settings.named.book, line).budget(settings.budget);
+    let form = settings.reading.form;
     let posted = match settings.schedules.post(engine, form, &request) {
         Ok(posted) => posted,
         Err(refusal) => {
@@ -312,20 +287,22 @@ fn posted(
     let term = printer::term(&posted.term, &settings.named.names);
     let told = match answer.ending {
         Ending::Finished => term,
-        Ending::Spent => format!("! spent after {} rewrites at {term}", answer.rewrites),
-        Ending::Full => format!("! full after {} rewrites at {term}", answer.rewrites),
+        Ending::Spent => format!("! spent after {} at {term}", rewrites(&answer)),
+        Ending::Full => format!("! full after {} at {term}", rewrites(&answer)),
         other => {
             let advice = settings.schedules.advice();
-            format!(
-                "! {other} after {} entries ({advice}) at {term}",
-                answer.entries
-            )
+            let entries = counted(answer.entries, "entry", "entries");
+            format!("! {other} after {entries} ({advice}) at {term}")
         }
     };
     match settings.counts {
         true => format!("{told}  # {}", counts(&answer)),
         false => told,
     }
+}
+
+fn rewrites(answer: &Answer) -> String {
+    counted(answer.rewrites.into(), "rewrite", "rewrites")
 }
 
 pub fn counts(answer: &Answer) -> String {

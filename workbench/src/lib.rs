@@ -4,6 +4,8 @@
 //! - `text`: the text form of books: `lexer`, `parser`, `check`, `sides` from
 //!   text to book, `printer` from book to text.
 //! - `names`, `line`, `letters`, `schedule`, `mistake`: what the commands share.
+//! - `items`, `encoding`, `compose`, `csv`, `template`: from a file to lines.
+//! - `told`, `width`: characters in messages, and the room that they take.
 //! - `trace`: a run entry by entry, as text and as a picture.
 //! - `posting`: a line's run, by a given schedule or by longer and longer ones.
 //! - `batch`, `lines`, `jobs`, `progress`: many lines against one book.
@@ -12,6 +14,10 @@
 
 pub mod batch;
 pub mod cli;
+pub mod compose;
+pub mod csv;
+pub mod encoding;
+pub mod items;
 pub mod jobs;
 pub mod letters;
 pub mod line;
@@ -22,5 +28,8 @@ pub mod output;
 pub mod posting;
 pub mod progress;
 pub mod schedule;
+pub mod template;
 pub mod text;
+pub mod told;
 pub mod trace;
+pub mod width;

@@ -7,8 +7,8 @@ use std::io::{self, BufRead, Read};
 pub const LONGEST: usize = 1 << 20;
 
 pub enum Line {
-    /// Without its `\n`.
-    Whole(Vec<u8>),
+    /// Without its `\n`, and whether it had one.
+    Whole { bytes: Vec<u8>, ended: bool },
     /// It has over `LONGEST` bytes, which were skipped.
     TooLong,
 }
@@ -33,13 +33,15 @@ impl<'a> Lines<'a> {
         if got == 0 {
             return Ok(None);
         }
-        if line.last() == Some(&b'\n') {
+        let ended = line.last() == Some(&b'\n');
+        if ended {
             line.pop();
         } else if line.len() > LONGEST {
             self.skip()?;
             return Ok(Some(Line::TooLong));
         }
-        Ok(Some(Line::Whole(line)))
+        let bytes = line;
+        Ok(Some(Line::Whole { bytes, ended }))
     }
 
     /// The rest of a line.

@@ -8,8 +8,11 @@ use std::path::Path;
 
 use comparison::model::{self, Book};
 
+use crate::cli::commands::usage;
 use crate::cli::options::Parsed;
 use crate::cli::{Status, Stop};
+use crate::compose::composed;
+use crate::encoding::{BadByte, Encoding};
 use crate::mistake::{Mistake, Span};
 use crate::names::Names;
 use crate::output::Output;
@@ -105,22 +108,29 @@ pub fn schedules(parsed: &Parsed, units: u8) -> Result<Schedules, Stop> {
 }
 
 /// The book of a text, or all its mistakes.
-pub fn named_text(name: &OsStr) -> Result<Named, Stop> {
+pub fn named_text(name: &OsStr, encoding: Encoding) -> Result<Named, Stop> {
     let bytes = bytes(name)?;
     let name = name.to_string_lossy();
-    let source = String::from_utf8_lossy(&bytes);
-    let read = match std::str::from_utf8(&bytes) {
-        Ok(source) => check::read(source),
-        Err(error) => Err(vec![not_utf8(&bytes, error.valid_up_to())]),
+    let stop = |source: &str, mistakes: &[Mistake]| {
+        Stop::new(Status::Input, shown(&name, source, mistakes))
     };
-    read.map_err(|mistakes| Stop::new(Status::Input, shown(&name, &source, &mistakes)))
+    match encoding.decode(&bytes) {
+        Ok(source) => {
+            let source = composed(&source);
+            check::read(&source).map_err(|mistakes| stop(&source, &mistakes))
+        }
+        Err(bad) => Err(stop(&encoding.lossy(&bytes), &[bad_byte(&bad, encoding)])),
+    }
 }
 
 /// The bad byte became a character of three bytes in the shown source.
-fn not_utf8(bytes: &[u8], at: usize) -> Mistake {
-    let wrong = format!("the byte {:02X} is not UTF-8", bytes[at]);
-    let expected = "a text in UTF-8; a packed book is read with --packed or 'kurvneist text'";
-    Mistake::new(Span::new(at, at + 3), wrong, expected)
+fn bad_byte(bad: &BadByte, encoding: Encoding) -> Mistake {
+    let at = bad.before.len();
+    let expected = format!(
+        "a text in {encoding}, or its encoding by an option; a packed book is read with --packed \
+         or 'kurvneist text'"
+    );
+    Mistake::new(Span::new(at, at + 3), bad.to_string(), expected)
 }
 
 fn shown(name: &str, source: &str, mistakes: &[Mistake]) -> String {
@@ -140,6 +150,7 @@ fn shown(name: &str, source: &str, mistakes: &[Mistake]) -> String {
 pub fn named_packed(
     name: &OsStr,
     names: Option<&OsStr>,
+    encoding: Encoding,
     made_up: fn(&Book) -> Names,
 ) -> Result<Named, Stop> {
     let bytes = bytes(name)?;
@@ -150,7 +161,7 @@ pub fn named_packed(
     let names = match names {
         None => made_up(&read),
         Some(text) => {
-            let names = named_text(text)?.names;
+            let names = named_text(text, encoding)?.names;
             if !names.fit(&read) {
                 let text = Path::new(text).display();
                 let message = format!("{text}: its operators' number or arities aren't {name}'s");
@@ -167,19 +178,20 @@ pub fn named_packed(
     })
 }
 
-/// The BOOK of a command that reduces.
-pub fn named(parsed: &Parsed) -> Result<Named, Stop> {
+/// The BOOK of a command that reduces, and the option with its encoding.
+pub fn named(parsed: &Parsed, encoding: &str) -> Result<Named, Stop> {
     let name = &parsed.arguments[0];
+    let encoding = parsed.encoding(encoding).map_err(usage)?;
     if parsed.has("--packed") {
         let made_up = match parsed.has("--payee") {
             true => Names::generated_with_letters,
             false => Names::generated,
         };
-        return named_packed(name, parsed.name("--names"), made_up);
+        return named_packed(name, parsed.name("--names"), encoding, made_up);
     }
     if parsed.has("--names") {
         let message = "--names goes with --packed: a text has its own names";
         return Err(Stop::new(Status::Usage, message));
     }
-    named_text(name)
+    named_text(name, encoding)
 }
