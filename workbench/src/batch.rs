@@ -6,20 +6,18 @@ use std::fmt;
 use std::io::{self, BufRead, Write};
 use std::time::{Duration, Instant};
 
-use comparison::model::Form;
 use kurvneist::{Answer, Ending, Engine, Request};
 
+use crate::items::{BadHeader, Content, Item, Items, Raw, Reading};
 use crate::jobs;
-use crate::json::Json;
-use crate::line;
+use crate::json::{Fields, Json};
 use crate::lines::{Line, Lines, LONGEST};
-use crate::mistake::Mistake;
 use crate::outcome::Outcome;
 use crate::posting::Schedules;
 use crate::profile::Profile;
 use crate::progress::Progress;
 use crate::text::check::Named;
-use crate::text::lexer::is_blank;
+use crate::told::counted;
 use crate::trace::Told;
 
 /// What all lines of a batch share.
@@ -29,8 +27,7 @@ pub struct Settings<'a> {
     pub schedules: &'a Schedules,
     /// Says the counts behind each posting, as a comment.
     pub counts: bool,
-    /// The lines are ISO 8859-1.
-    pub latin1: bool,
+    pub reading: &'a Reading,
     /// So many threads, each with an engine of its own.
     pub jobs: usize,
     /// An object in JSON for each line.
@@ -40,15 +37,22 @@ pub struct Settings<'a> {
 }
 
 impl Settings<'_> {
-    /// What became of the line with that number, counted from 1.
-    fn told(&self, line: usize, outcome: &Outcome) -> String {
-        match self.json {
-            true => {
-                let mut fields = outcome.fields();
-                fields.insert(0, ("line", line.into()));
-                Json::from(fields).to_string()
-            }
-            false => outcome.text(self.counts, self.schedules.advice()),
+    /// What became of an item with that number and, in a bank export, that
+    /// first line.
+    fn told(&self, number: usize, line: Option<usize>, outcome: &Outcome) -> String {
+        if self.json {
+            let mut fields: Fields = match line {
+                Some(line) => vec![("record", number.into()), ("line", line.into())],
+                None => vec![("line", number.into())],
+            };
+            fields.extend(outcome.fields());
+            return Json::from(fields).to_string();
+        }
+        let told = outcome.text(self.counts, self.schedules.advice());
+        match (line, outcome, told.strip_prefix("! ")) {
+            (Some(_), Outcome::Empty(_), _) => told,
+            (Some(line), _, Some(reason)) => format!("! line {line}: {reason}"),
+            _ => told,
         }
     }
 }
@@ -61,11 +65,15 @@ const BLOCK: usize = 64;
 pub enum Failure {
     Read(io::Error),
     Write(io::Error),
+    Header(BadHeader),
 }
 
 #[derive(Clone, Copy, Debug, Default)]
 pub struct Summary {
+    /// Of a bank export, records.
     pub lines: usize,
+    pub is_export: bool,
+    /// Blank lines, comments and headers.
     pub empty: usize,
     pub posted: usize,
     /// Of those, by one unit in the place of several.
@@ -106,7 +114,7 @@ impl Summary {
         self.lines += 1;
         match outcome {
             Outcome::Empty(_) => self.empty += 1,
-            Outcome::Mistyped { .. } => self.mistaken += 1,
+            Outcome::Mistyped(_) => self.mistaken += 1,
             Outcome::Refused(_) => self.refused += 1,
             Outcome::Ran {
                 answer, instead_of, ..
@@ -135,11 +143,14 @@ impl Summary {
 impl fmt::Display for Summary {
     fn fmt(&self, f: &mut fmt::Formatter) -> fmt::Result {
         let [spent, full, cut] = self.unfinished;
+        let [one, many, kept] = match self.is_export {
+            true => ["record", "records", "header or blank"],
+            false => ["line", "lines", "blank or comment"],
+        };
         writeln!(
             f,
-            "{} {}: {} posted, {} not, {} blank or comment",
-            self.lines,
-            if self.lines == 1 { "line" } else { "lines" },
+            "{}: {} posted, {} not, {} {kept}",
+            counted(self.lines as u64, one, many),
             self.posted,
             self.not_posted(),
             self.empty
@@ -170,46 +181,47 @@ impl fmt::Display for Summary {
     }
 }
 
-/// Posts every line of `input`, a term by names, and writes what became of it
-/// as that line of the output.
-pub fn run(
-    mut input: &[u8],
-    settings: &Settings,
-    output: &mut dyn Write,
-    progress: &mut Progress,
-) -> Result<Summary, Failure> {
-    run_form(Form::Line, &mut input, settings, output, progress)
+impl From<BadHeader> for Failure {
+    fn from(header: BadHeader) -> Failure {
+        Failure::Header(header)
+    }
 }
 
-/// The same where each line is a payee's text, or a term by names, as said.
-pub fn run_form(
-    form: Form,
+/// Posts every line of `input` and writes what became of it as that line of
+/// the output; of a bank export, every record.
+pub fn run(
     input: &mut dyn BufRead,
     settings: &Settings,
     output: &mut dyn Write,
     progress: &mut Progress,
 ) -> Result<Summary, Failure> {
     let started = Instant::now();
-    let mut sum = Summary::default();
+    let is_export = settings.reading.columns.is_some();
+    let mut sum = Summary {
+        is_export,
+        ..Summary::default()
+    };
     let mut lines = Lines::new(input);
+    let mut items = Items::new(settings.reading);
     let mut put = |told: Lot| {
         sum.add(&told.summary);
         let note = format!(", {} not posted", sum.not_posted());
-        progress.tell(sum.lines, "lines", &note, told.end);
+        let unit = if is_export { "records" } else { "lines" };
+        progress.tell(sum.lines, unit, &note, told.end);
         let written = output.write_all(told.text.as_bytes());
         written.and_then(|()| output.flush())
     };
     if settings.jobs == 1 {
         let mut engine = Engine::new();
-        while let Some(block) = block(&mut lines, 1).map_err(Failure::Read)? {
-            put(all_told(form, block, settings, &mut engine)).map_err(Failure::Write)?;
+        while let Some(block) = block(&mut items, &mut lines, 1)? {
+            put(all_told(block, settings, &mut engine)).map_err(Failure::Write)?;
         }
     } else {
         jobs::in_order(
             settings.jobs,
-            || block(&mut lines, BLOCK).map_err(Failure::Read),
+            || block(&mut items, &mut lines, BLOCK),
             Engine::new,
-            |engine, block| all_told(form, block, settings, engine),
+            |engine, block| all_told(block, settings, engine),
             |told| put(told).map_err(Failure::Write),
         )?;
     }
@@ -218,11 +230,9 @@ pub fn run_form(
     Ok(sum)
 }
 
-/// Lines that follow each other, the number of the first, counted from 1, and
-/// how much of the input they end at.
+/// Items that follow each other, and how much of the input they end at.
 struct Block {
-    first: usize,
-    lines: Vec<Line>,
+    items: Vec<Item>,
     end: u64,
 }
 
@@ -233,30 +243,45 @@ struct Lot {
     end: u64,
 }
 
-/// The next lines: so many, or fewer where they are long.
-fn block(lines: &mut Lines, most: usize) -> io::Result<Option<Block>> {
+/// The next items: so many, or fewer where they are long.
+fn block(items: &mut Items, lines: &mut Lines, most: usize) -> Result<Option<Block>, Failure> {
     let mut block = Vec::new();
-    let first = lines.count + 1;
     let before = lines.read;
     while block.len() < most && lines.read - before < LONGEST as u64 {
-        match lines.line()? {
-            Some(line) => block.push(line),
+        match items.next(|| raw(lines))? {
+            Some(item) => block.push(item),
             None => break,
         }
     }
     let end = lines.read;
-    let lines = block;
-    Ok((!lines.is_empty()).then_some(Block { first, lines, end }))
+    Ok((!block.is_empty()).then_some(Block { items: block, end }))
 }
 
-fn all_told(form: Form, block: Block, settings: &Settings, engine: &mut Engine) -> Lot {
+fn raw(lines: &mut Lines) -> Result<Option<Raw>, Failure> {
+    let line = lines.line().map_err(Failure::Read)?;
+    Ok(line.map(|line| match line {
+        Line::Whole { bytes, ended } => Raw {
+            bytes: Ok(bytes),
+            ended,
+        },
+        Line::TooLong => Raw {
+            bytes: Err(format!(
+                "the line has over {LONGEST} bytes; expected at most so many"
+            )),
+            ended: false,
+        },
+    }))
+}
+
+fn all_told(block: Block, settings: &Settings, engine: &mut Engine) -> Lot {
     let mut summary = Summary::default();
     let mut text = String::new();
-    for (number, line) in (block.first..).zip(block.lines) {
-        let outcome = line_outcome(form, line, settings, engine);
+    for item in block.items {
+        let (number, line, ending) = (item.number, item.line, item.ending);
+        let outcome = outcome(item, settings, engine);
         summary.count(&outcome);
-        text.push_str(&settings.told(number, &outcome));
-        text.push('\n');
+        text.push_str(&settings.told(number, line, &outcome));
+        text.push_str(ending);
     }
     Lot {
         text,
@@ -265,58 +290,20 @@ fn all_told(form: Form, block: Block, settings: &Settings, engine: &mut Engine) 
     }
 }
 
-fn line_outcome(form: Form, line: Line, settings: &Settings, engine: &mut Engine) -> Outcome {
-    let Line::Whole(line) = line else {
-        let message = format!("the line has over {LONGEST} bytes; expected at most so many");
-        return Outcome::Mistyped {
-            column: None,
-            message,
-        };
-    };
-    let line = line.strip_suffix(b"\r").unwrap_or(&line);
-    match decoded(line, settings.latin1) {
-        Ok(text) => outcome(form, &text, settings, engine),
-        Err(mistyped) => mistyped,
+fn outcome(item: Item, settings: &Settings, engine: &mut Engine) -> Outcome {
+    match settings.reading.content(item) {
+        Content::Kept(text) => Outcome::Empty(text),
+        Content::Bad(reason) => Outcome::Mistyped(reason),
+        Content::Texts(texts) => match settings.reading.line(&texts, &settings.named.names) {
+            Ok(line) => posted(&line, settings, engine),
+            Err(reason) => Outcome::Mistyped(reason),
+        },
     }
 }
 
-fn decoded(line: &[u8], latin1: bool) -> Result<String, Outcome> {
-    if latin1 {
-        return Ok(line.iter().copied().map(char::from).collect());
-    }
-    String::from_utf8(line.to_vec()).map_err(|error| {
-        let good = error.utf8_error().valid_up_to();
-        Outcome::Mistyped {
-            column: Some(String::from_utf8_lossy(&line[..good]).chars().count() + 1),
-            message: format!(
-                "the byte {:02X} is not UTF-8; expected UTF-8, or --latin1",
-                line[good]
-            ),
-        }
-    })
-}
-
-fn outcome(form: Form, text: &str, settings: &Settings, engine: &mut Engine) -> Outcome {
-    if is_blank(text) {
-        return Outcome::Empty(text.to_owned());
-    }
-    match read(form, text, settings) {
-        Ok(line) => run_line(form, &line, settings, engine),
-        Err(mistake) => Outcome::mistyped(&mistake, text),
-    }
-}
-
-/// Editors on Windows begin a file with the mark U+FEFF, which is no character
-/// of a payee.
-fn read(form: Form, text: &str, settings: &Settings) -> Result<Vec<u8>, Mistake> {
-    match form {
-        Form::Line => line::read(text, &settings.named.names),
-        Form::Text => line::read_payee(text.strip_prefix('\u{feff}').unwrap_or(text)),
-    }
-}
-
-fn run_line(form: Form, line: &[u8], settings: &Settings, engine: &mut Engine) -> Outcome {
+fn posted(line: &[u8], settings: &Settings, engine: &mut Engine) -> Outcome {
     let request = Request::new(&settings.named.book, line).budget(settings.budget);
+    let form = settings.reading.form;
     match settings.schedules.post(engine, form, &request) {
         Ok(posted) => {
             if let Some(profile) = settings.profile {

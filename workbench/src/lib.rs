@@ -4,6 +4,8 @@
 //! - `text`: the text form of books: `lexer`, `parser`, `check`, `sides` from
 //!   text to book, `printer` from book to text.
 //! - `names`, `line`, `letters`, `schedule`, `mistake`: what the commands share.
+//! - `items`, `encoding`, `compose`, `csv`, `template`: from a file to lines.
+//! - `told`, `width`: characters in messages, and the room that they take.
 //! - `warnings`: what a book may not mean.
 //! - `trace`: a run entry by entry, as text and as a picture; `explain`: its
 //!   rewrites.
@@ -16,7 +18,11 @@
 
 pub mod batch;
 pub mod cli;
+pub mod compose;
+pub mod csv;
+pub mod encoding;
 pub mod explain;
+pub mod items;
 pub mod jobs;
 pub mod json;
 pub mod letters;
@@ -30,6 +36,9 @@ pub mod posting;
 pub mod profile;
 pub mod progress;
 pub mod schedule;
+pub mod template;
 pub mod text;
+pub mod told;
 pub mod trace;
 pub mod warnings;
+pub mod width;

@@ -7,23 +7,21 @@ use std::io::{self, BufRead, Read};
 pub const LONGEST: usize = 1 << 20;
 
 pub enum Line {
-    /// Without its `\n`.
-    Whole(Vec<u8>),
+    /// Without its `\n`, and whether it had one.
+    Whole { bytes: Vec<u8>, ended: bool },
     /// It has over `LONGEST` bytes, which were skipped.
     TooLong,
 }
 
 pub struct Lines<'a> {
     input: &'a mut dyn BufRead,
-    /// Lines and bytes read so far.
-    pub count: usize,
+    /// Bytes read so far.
     pub read: u64,
 }
 
 impl<'a> Lines<'a> {
     pub fn new(input: &'a mut dyn BufRead) -> Lines<'a> {
-        let (count, read) = (0, 0);
-        Lines { input, count, read }
+        Lines { input, read: 0 }
     }
 
     /// A last line may end with a line break, and need not.
@@ -35,14 +33,15 @@ impl<'a> Lines<'a> {
         if got == 0 {
             return Ok(None);
         }
-        self.count += 1;
-        if line.last() == Some(&b'\n') {
+        let ended = line.last() == Some(&b'\n');
+        if ended {
             line.pop();
         } else if line.len() > LONGEST {
             self.skip()?;
             return Ok(Some(Line::TooLong));
         }
-        Ok(Some(Line::Whole(line)))
+        let bytes = line;
+        Ok(Some(Line::Whole { bytes, ended }))
     }
 
     /// The rest of a line.

@@ -2,22 +2,20 @@
 
 use kurvneist::{Answer, Ending, Refusal};
 
+use crate::items::Reason;
 use crate::json::{Fields, Json};
 use crate::letters;
 use crate::mistake::Mistake;
 use crate::names::Names;
 use crate::posting::Posted;
 use crate::text::printer;
+use crate::told::counted;
 
 #[derive(Clone, Debug)]
 pub enum Outcome {
     /// A blank line or a comment, as it was.
     Empty(String),
-    Mistyped {
-        /// None where it is the whole line.
-        column: Option<usize>,
-        message: String,
-    },
+    Mistyped(Reason),
     Refused(Refusal),
     /// A run, and its term by names. It is a posting if the run finished.
     Ran {
@@ -31,10 +29,8 @@ pub enum Outcome {
 
 impl Outcome {
     pub fn mistyped(mistake: &Mistake, text: &str) -> Outcome {
-        Outcome::Mistyped {
-            column: Some(mistake.place(text).1),
-            message: mistake.message(),
-        }
+        let place = ("column", mistake.place(text).1);
+        Outcome::Mistyped(Reason::at(place, mistake.message()))
     }
 
     pub fn ran(posted: &Posted, names: &Names) -> Outcome {
@@ -46,18 +42,15 @@ impl Outcome {
     }
 
     /// In one line, as a batch tells it, with what to try where a run was cut.
-    pub fn text(&self, counts: bool, advice: &str) -> String {
+    pub fn text(&self, with_counts: bool, advice: &str) -> String {
         match self {
             Outcome::Empty(text) => text.clone(),
-            Outcome::Mistyped { column, message } => match column {
-                Some(column) => format!("! column {column}: {message}"),
-                None => format!("! {message}"),
-            },
+            Outcome::Mistyped(reason) => format!("! {reason}"),
             Outcome::Refused(refusal) => format!("! {}", letters::told(refusal)),
             Outcome::Ran { answer, term, .. } => {
                 let told = ran(answer, term, advice);
-                match counts {
-                    true => format!("{told}  # {}", counted(answer)),
+                match with_counts {
+                    true => format!("{told}  # {}", counts(answer)),
                     false => told,
                 }
             }
@@ -68,11 +61,15 @@ impl Outcome {
     pub fn fields(&self) -> Fields {
         match self {
             Outcome::Empty(text) => vec![("comment", text.as_str().into())],
-            Outcome::Mistyped { column, message } => vec![error(vec![
-                ("kind", "mistyped".into()),
-                ("column", (*column).into()),
-                ("message", message.as_str().into()),
-            ])],
+            Outcome::Mistyped(reason) => {
+                let mut fields: Fields = vec![("kind", "mistyped".into())];
+                if let Some(field) = &reason.field {
+                    fields.push(("field", field.as_str().into()));
+                }
+                fields.push(("column", reason.place.map(|(_, column)| column).into()));
+                fields.push(("message", reason.message.as_str().into()));
+                vec![error(fields)]
+            }
             Outcome::Refused(refusal) => vec![error(vec![
                 ("kind", "refused".into()),
                 ("refusal", refusal.number().into()),
@@ -107,16 +104,20 @@ fn error(fields: Fields) -> (&'static str, Json) {
 fn ran(answer: &Answer, term: &str, advice: &str) -> String {
     match answer.ending {
         Ending::Finished => term.to_owned(),
-        Ending::Spent => format!("! spent after {} rewrites at {term}", answer.rewrites),
-        Ending::Full => format!("! full after {} rewrites at {term}", answer.rewrites),
-        other => format!(
-            "! {other} after {} entries ({advice}) at {term}",
-            answer.entries
-        ),
+        Ending::Spent => format!("! spent after {} at {term}", rewrites(answer)),
+        Ending::Full => format!("! full after {} at {term}", rewrites(answer)),
+        other => {
+            let entries = counted(answer.entries, "entry", "entries");
+            format!("! {other} after {entries} ({advice}) at {term}")
+        }
     }
 }
 
-fn counted(answer: &Answer) -> String {
+fn rewrites(answer: &Answer) -> String {
+    counted(answer.rewrites.into(), "rewrite", "rewrites")
+}
+
+fn counts(answer: &Answer) -> String {
     format!(
         "rewrites {}, entries {}, granted {}, kept {}",
         answer.rewrites, answer.entries, answer.granted, answer.kept

@@ -6,6 +6,7 @@ use common::{file, kurvneist, kurvneist_with};
 use comparison::random::Random;
 use kurvneist::{Ending, Engine, Request};
 use workbench::batch::{run, Settings};
+use workbench::items::Reading;
 use workbench::line;
 use workbench::posting::Schedules;
 use workbench::progress::Progress;
@@ -34,12 +35,13 @@ fn random_line(random: &mut Random) -> Vec<u8> {
 fn output_line_k_belongs_to_input_line_k() {
     let named = check::read(BOOK).unwrap();
     let schedules = Schedules::new(3, Some([0, 1, 2].repeat(2000)));
+    let reading = Reading::lines();
     let settings = |jobs| Settings {
         named: &named,
         budget: 5,
         schedules: &schedules,
         counts: false,
-        latin1: false,
+        reading: &reading,
         json: false,
         profile: None,
         jobs,
@@ -53,9 +55,15 @@ fn output_line_k_belongs_to_input_line_k() {
         input.extend(ending.as_bytes());
         let last_lost = ending.is_empty() && lines.last().is_some_and(Vec::is_empty);
         let mut output = Vec::new();
-        let summary = run(&input, &settings, &mut output, &mut Progress::hidden()).unwrap();
+        let summary = run(
+            &mut &input[..],
+            &settings,
+            &mut output,
+            &mut Progress::hidden(),
+        )
+        .unwrap();
         let output = String::from_utf8(output).unwrap();
-        let told: Vec<&str> = output.split('\n').collect();
+        let told: Vec<&str> = output.split(separator).collect();
         assert_eq!(told.len(), 301 - usize::from(last_lost));
         for (line, told) in lines.iter().zip(&told) {
             assert_eq!(
@@ -75,8 +83,8 @@ fn output_line_k_belongs_to_input_line_k() {
 /// What a line gives by itself, in an engine of its own.
 fn alone(line: &[u8], settings: &Settings) -> String {
     let Ok(text) = std::str::from_utf8(line) else {
-        let expected = "! column 13: the byte E9 is not UTF-8; expected UTF-8, or --latin1";
-        return expected.into();
+        let expected = "UTF-8, or --encoding with the file's";
+        return format!("! column 13: the byte E9 is not UTF-8; expected {expected}");
     };
     if text.trim_start().is_empty() || text.trim_start().starts_with('#') {
         return text.into();
@@ -166,7 +174,7 @@ fn a_file_may_begin_with_a_mark() {
     let ran = kurvneist_with(&["batch", "examples/ticks.book", "-"], input.as_bytes());
     assert_eq!(
         (ran.status, ran.output.as_str()),
-        (0, "\u{feff}# note\nend\n")
+        (0, "\u{feff}# note\r\nend\r\n")
     );
     let book = file("marked.book", "\u{feff}op a/0\r\nrule a = a\r\n");
     assert_eq!(kurvneist(&["book", &book]).status, 0);

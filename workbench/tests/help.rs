@@ -60,6 +60,16 @@ const WRONG: &[(&[&str], &str)] = &[
         &["bok", "x"],
         "'bok' is no command; expected book, text, check, post, explain, trace, batch or help",
     ),
+    (&["bok", "x"], "; did you mean 'book'?"),
+    (&["halp"], "; did you mean 'help'?"),
+    (
+        &["post", "x", "y", "--unit=2"],
+        "'--unit' is no option of this command; did you mean '--units'?",
+    ),
+    (
+        &["batch", "x", "y", "--colunm", "2"],
+        "'--colunm' is no option of this command; did you mean '--column'?",
+    ),
     (&["book"], "TEXT is missing"),
     (&["post", "x"], "LINE is missing"),
     (&["book", "x", "y"], "'y' is one argument too many"),

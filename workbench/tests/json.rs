@@ -167,6 +167,38 @@ fn a_batch_is_an_object_a_line() {
         .starts_with("the byte E9 is not UTF-8"));
 }
 
+/// Of a bank export, an object a record; an error says its field.
+#[test]
+fn a_bank_export_is_an_object_a_record() {
+    let export = "Payee,Purpose\nKönig,\"Rg.\n1\"\n\"Café €\",x\nlone\n\"open,x\n";
+    let batch = ["batch", "examples/payees.book", "-", "--json"];
+    let columns = [
+        "--column",
+        "Payee",
+        "--template",
+        "line(payee(\"{}\"), purpose(\"{Purpose}\"))",
+    ];
+    let ran = kurvneist_with(&[&batch[..], &columns].concat(), export.as_bytes());
+    assert_eq!(ran.status, 1, "{}", ran.errors);
+    let objects: Vec<Value> = ran.output.lines().map(read).collect();
+    let places: Vec<[u64; 2]> = objects
+        .iter()
+        .map(|object| ["record", "line"].map(|name| object.get(name).number()))
+        .collect();
+    assert_eq!(places, [[1, 1], [2, 2], [3, 4], [4, 5], [5, 6]]);
+    assert_eq!(objects[0].get("comment").text(), "# Payee, Purpose");
+    assert_eq!(objects[1].get("term").text(), "70010-König-caretaker");
+    let error = objects[2].get("error");
+    assert_eq!(error.names(), ["kind", "field", "column", "message"]);
+    assert_eq!(error.get("field").text(), "Payee");
+    assert_eq!(error.get("column").number(), 6);
+    for object in &objects[3..] {
+        let error = object.get("error");
+        assert_eq!(error.names(), ["kind", "column", "message"]);
+        assert_eq!(error.get("column"), &Value::Null);
+    }
+}
+
 /// What JSON tells is told in the help.
 #[test]
 fn the_help_names_every_field() {
@@ -178,7 +210,18 @@ fn the_help_names_every_field() {
                 "refusal", "message",
             ][..],
         ),
-        ("batch", &["line", "comment", "rules", "rule_line", "sides"]),
+        (
+            "batch",
+            &[
+                "line",
+                "record",
+                "field",
+                "comment",
+                "rules",
+                "rule_line",
+                "sides",
+            ],
+        ),
         (
             "check",
             &[

@@ -377,9 +377,9 @@ fn payees_in_latin1() {
         (0, "Café-Étoile\nWeiß\ny(end)\n")
     );
     let ran = kurvneist_with(&["batch", PAYEES, "-", "--payee"], input);
-    assert!(ran
-        .output
-        .starts_with("! column 4: the byte E9 is not UTF-8; expected UTF-8, or --latin1\n"));
+    assert!(ran.output.starts_with(
+        "! column 4: the byte E9 is not UTF-8; expected UTF-8, or --encoding with the file's\n"
+    ));
 }
 
 #[test]

@@ -12,7 +12,8 @@ pub fn check(parsed: &Parsed) -> Result<Status, Stop> {
     let name = &*text_name.to_string_lossy();
     let strict = parsed.has("--strict");
     let allowed = allowed(parsed.value("--allow").unwrap_or("")).map_err(usage)?;
-    let (source, read) = files::read_text(text_name)?;
+    let encoding = parsed.encoding("--encoding").map_err(usage)?;
+    let (source, read) = files::read_text(text_name, encoding)?;
     let named = match read {
         Ok(named) => named,
         Err(mistakes) if parsed.has("--json") => return mistaken(name, &source, &mistakes),

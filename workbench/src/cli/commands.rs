@@ -10,7 +10,10 @@ use kurvneist::{Ending, Engine, Refusal, Request};
 use crate::batch;
 use crate::cli::files;
 use crate::cli::options::Parsed;
+use crate::cli::reading;
 use crate::cli::{say, Status, Stop};
+use crate::compose::composed;
+use crate::items::{BadHeader, Reason};
 use crate::json::Json;
 use crate::letters;
 use crate::line;
@@ -22,6 +25,7 @@ use crate::profile::Profile;
 use crate::progress::Progress;
 use crate::text::check::{self, Named};
 use crate::text::printer;
+use crate::told::counted;
 use crate::trace;
 
 pub fn usage(wrong: String) -> Stop {
@@ -30,7 +34,7 @@ pub fn usage(wrong: String) -> Stop {
 
 pub fn book(parsed: &Parsed) -> Result<Status, Stop> {
     let name = &parsed.arguments[0];
-    let named = files::named_text(name)?;
+    let named = files::named_text(name, parsed.encoding("--encoding").map_err(usage)?)?;
     match parsed.name("-o") {
         Some(output) => files::write(output, &named.book)?,
         None => files::print(contents(Path::new(name), &named).as_bytes())?,
@@ -42,17 +46,18 @@ fn contents(name: &Path, named: &Named) -> String {
     let name = name.display();
     let read = model::read_book(&named.book).expect("what the proved writer wrote can be read");
     format!(
-        "{name}: {} operators, {} rules, {} bytes packed\n",
-        read.operators.len(),
-        read.rules.len(),
-        named.book.len()
+        "{name}: {}, {}, {} packed\n",
+        counted(read.operators.len() as u64, "operator", "operators"),
+        counted(read.rules.len() as u64, "rule", "rules"),
+        counted(named.book.len() as u64, "byte", "bytes")
     )
 }
 
 /// The text is read back before it is shown: it must give the book again.
 pub fn text(parsed: &Parsed) -> Result<Status, Stop> {
     let (name, names) = (&parsed.arguments[0], parsed.name("--names"));
-    let named = files::named_packed(name, names, Names::generated)?;
+    let encoding = parsed.encoding("--encoding").map_err(usage)?;
+    let named = files::named_packed(name, names, encoding, Names::generated)?;
     let read = model::read_book(&named.book).expect("what the proved writer wrote can be read");
     let text = printer::book(&read, &named.names);
     match check::read(&text) {
@@ -66,7 +71,7 @@ pub fn text(parsed: &Parsed) -> Result<Status, Stop> {
 }
 
 /// What the lines of a command line are.
-fn form(parsed: &Parsed) -> Form {
+pub fn form(parsed: &Parsed) -> Form {
     match parsed.has("--payee") {
         true => Form::Text,
         false => Form::Line,
@@ -88,16 +93,20 @@ impl Asked {
         let units = parsed.units().map_err(usage)?;
         let budget = parsed.number("--budget", 0, 1_000_000).map_err(usage)?;
         let schedules = files::schedules(parsed, units)?;
-        let named = files::named(parsed)?;
-        let written = files::line(&parsed.arguments[1])?;
+        let named = files::named(parsed, "--encoding")?;
+        let written = files::line(&parsed.arguments[1]).map_err(|stop| {
+            let outcome = Outcome::Mistyped(Reason::whole(stop.message.clone()));
+            not_posted(parsed, &outcome, stop.message)
+        })?;
+        let written = composed(written);
         let form = form(parsed);
         let line = match form {
-            Form::Line => line::read(written, &named.names),
-            Form::Text => line::read_payee(written),
+            Form::Line => line::read(&written, &named.names),
+            Form::Text => line::read_payee(&written),
         };
         let line = line.map_err(|mistake| {
-            let outcome = Outcome::mistyped(&mistake, written);
-            not_posted(parsed, &outcome, mistake.show("LINE", written))
+            let outcome = Outcome::mistyped(&mistake, &written);
+            not_posted(parsed, &outcome, mistake.show("LINE", &written))
         })?;
         Ok(Asked {
             named,
@@ -187,7 +196,8 @@ pub fn post(parsed: &Parsed) -> Result<Status, Stop> {
 }
 
 pub fn cut(entries: u64, schedules: &Schedules) -> String {
-    format!("cut after {entries} entries: {}", schedules.advice())
+    let entries = counted(entries, "entry", "entries");
+    format!("cut after {entries}: {}", schedules.advice())
 }
 
 /// That each of the text and the picture has a place of its own.
@@ -236,9 +246,11 @@ pub fn batch(parsed: &Parsed) -> Result<Status, Stop> {
     let units = parsed.units().map_err(usage)?;
     let budget = parsed.number("--budget", 0, 1_000_000).map_err(usage)?;
     let jobs = parsed.jobs().map_err(usage)?;
+    let reading = reading::of(parsed)?;
     let schedules = files::schedules(parsed, units)?;
     profile_apart(parsed)?;
-    let named = files::named(parsed)?;
+    let named = files::named(parsed, "--book-encoding")?;
+    reading::check_template(parsed, &reading, &named.names)?;
     let name = &parsed.arguments[1];
     let (mut input, length) = files::input(name)?;
     let profile = parsed.has("--profile").then(|| Profile::new(&named.book));
@@ -247,7 +259,7 @@ pub fn batch(parsed: &Parsed) -> Result<Status, Stop> {
         budget,
         schedules: &schedules,
         counts: parsed.has("--counts"),
-        latin1: parsed.has("--latin1"),
+        reading: &reading,
         jobs,
         json: parsed.has("--json"),
         profile: profile.as_ref(),
@@ -261,8 +273,7 @@ pub fn batch(parsed: &Parsed) -> Result<Status, Stop> {
     let postings = files::output_name(parsed);
     let unwritten = |error| files::unusable(postings, error);
     let mut output = Output::create(postings).map_err(unwritten)?;
-    let form = form(parsed);
-    let run = batch::run_form(form, &mut *input, &settings, &mut output, &mut progress);
+    let run = batch::run(&mut *input, &settings, &mut output, &mut progress);
     let done = run.and_then(|summary| match output.finish() {
         Ok(()) => Ok(summary),
         Err(error) => Err(batch::Failure::Write(error)),
@@ -273,6 +284,10 @@ pub fn batch(parsed: &Parsed) -> Result<Status, Stop> {
         Err(batch::Failure::Write(error)) if is_gone(&error) => return Ok(Status::Done),
         Err(batch::Failure::Write(error)) => return Err(unwritten(error)),
         Err(batch::Failure::Read(error)) => return Err(files::unusable(name, error)),
+        Err(batch::Failure::Header(BadHeader(wrong))) => {
+            let message = format!("{}: {wrong}", Path::new(name).display());
+            return Err(Stop::new(Status::Input, message));
+        }
     };
     if let Some(profile) = &profile {
         write_profile(parsed, profile, &named)?;

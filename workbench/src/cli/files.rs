@@ -8,8 +8,11 @@ use std::path::Path;
 
 use comparison::model::{self, Book};
 
+use crate::cli::commands::usage;
 use crate::cli::options::Parsed;
 use crate::cli::{Status, Stop};
+use crate::compose::composed;
+use crate::encoding::{BadByte, Encoding};
 use crate::mistake::{Mistake, Span};
 use crate::names::Names;
 use crate::output::Output;
@@ -105,20 +108,28 @@ pub fn schedules(parsed: &Parsed, units: u8) -> Result<Schedules, Stop> {
 }
 
 /// The book of a text, or all its mistakes.
-pub fn named_text(name: &OsStr) -> Result<Named, Stop> {
-    let (source, read) = read_text(name)?;
+pub fn named_text(name: &OsStr, encoding: Encoding) -> Result<Named, Stop> {
+    let (source, read) = read_text(name, encoding)?;
     read.map_err(|mistakes| mistaken(name, &source, &mistakes))
 }
 
 /// A text, and its book or all its mistakes.
-pub fn read_text(name: &OsStr) -> Result<(String, Result<Named, Vec<Mistake>>), Stop> {
+pub fn read_text(
+    name: &OsStr,
+    encoding: Encoding,
+) -> Result<(String, Result<Named, Vec<Mistake>>), Stop> {
     let bytes = bytes(name)?;
-    let source = String::from_utf8_lossy(&bytes).into_owned();
-    let read = match std::str::from_utf8(&bytes) {
-        Ok(source) => check::read(source),
-        Err(error) => Err(vec![not_utf8(&bytes, error.valid_up_to())]),
-    };
-    Ok((source, read))
+    Ok(match encoding.decode(&bytes) {
+        Ok(source) => {
+            let source = composed(&source).into_owned();
+            let read = check::read(&source);
+            (source, read)
+        }
+        Err(bad) => {
+            let mistake = bad_byte(&bad, encoding);
+            (encoding.lossy(&bytes), Err(vec![mistake]))
+        }
+    })
 }
 
 pub fn mistaken(name: &OsStr, source: &str, mistakes: &[Mistake]) -> Stop {
@@ -127,10 +138,13 @@ pub fn mistaken(name: &OsStr, source: &str, mistakes: &[Mistake]) -> Stop {
 }
 
 /// The bad byte became a character of three bytes in the shown source.
-fn not_utf8(bytes: &[u8], at: usize) -> Mistake {
-    let wrong = format!("the byte {:02X} is not UTF-8", bytes[at]);
-    let expected = "a text in UTF-8; a packed book is read with --packed or 'kurvneist text'";
-    Mistake::new(Span::new(at, at + 3), wrong, expected)
+fn bad_byte(bad: &BadByte, encoding: Encoding) -> Mistake {
+    let at = bad.before.len();
+    let expected = format!(
+        "a text in {encoding}, or its encoding by an option; a packed book is read with --packed \
+         or 'kurvneist text'"
+    );
+    Mistake::new(Span::new(at, at + 3), bad.to_string(), expected)
 }
 
 fn shown(name: &str, source: &str, mistakes: &[Mistake]) -> String {
@@ -150,6 +164,7 @@ fn shown(name: &str, source: &str, mistakes: &[Mistake]) -> String {
 pub fn named_packed(
     name: &OsStr,
     names: Option<&OsStr>,
+    encoding: Encoding,
     made_up: fn(&Book) -> Names,
 ) -> Result<Named, Stop> {
     let bytes = bytes(name)?;
@@ -160,7 +175,7 @@ pub fn named_packed(
     let names = match names {
         None => made_up(&read),
         Some(text) => {
-            let named = named_text(text)?;
+            let named = named_text(text, encoding)?;
             let names = match named.book == book {
                 true => named.names,
                 false => named.names.without_variables(),
@@ -181,19 +196,20 @@ pub fn named_packed(
     })
 }
 
-/// The BOOK of a command that reduces.
-pub fn named(parsed: &Parsed) -> Result<Named, Stop> {
+/// The BOOK of a command that reduces, and the option with its encoding.
+pub fn named(parsed: &Parsed, encoding: &str) -> Result<Named, Stop> {
     let name = &parsed.arguments[0];
+    let encoding = parsed.encoding(encoding).map_err(usage)?;
     if parsed.has("--packed") {
         let made_up = match parsed.has("--payee") {
             true => Names::generated_with_letters,
             false => Names::generated,
         };
-        return named_packed(name, parsed.name("--names"), made_up);
+        return named_packed(name, parsed.name("--names"), encoding, made_up);
     }
     if parsed.has("--names") {
         let message = "--names goes with --packed: a text has its own names";
         return Err(Stop::new(Status::Usage, message));
     }
-    named_text(name)
+    named_text(name, encoding)
 }

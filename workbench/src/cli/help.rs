@@ -57,12 +57,16 @@ The text form of a book
             left side; they are numbered as they come there, and X:5 on the
             left gives X the number 5.
   name      letters and digits of any script, and _ ' - . & + in any order, as
-            in Müller, 24, rent-2.OG; but not op, var or rule. A letter with
-            its accent is one character. A name is declared once, before or
-            after its uses.
+            in Müller, 24, rent-2.OG; but not op, var or rule. A name is
+            declared once, before or after its uses.
   string    \"abc\"(t) is a(b(c(t))), and \"abc\" alone is a(b(c(end))). A space
-            in it is the operator _. A character that no name may have is
-            declared in quotes, with arity 1, as in op \",\" \"/\" / 1
+            in it is the operator _, and a quote is doubled: \"24\"\" pipe\". A
+            character that no name may have is declared in quotes, with arity
+            1, as in op \",\" \"/\" \"\"\"\" / 1
+
+  Books and lines are read as UTF-8, or by --encoding as ISO 8859-1 (latin-1) or
+  Windows-1252. A letter whose accent stands behind it (NFD) is read as the one
+  character that both are, and columns count it once. Lines may end in CR LF.
 
   A line is a term without variables or, with --payee, a payee's text.
 
@@ -179,15 +183,31 @@ comment line as it was; or ! and why there is no posting:
 A line that can't be posted doesn't stop the others. A summary goes to standard
 error, and progress with rate and time left if that is a terminal, but not one
 with TERM=dumb; COLUMNS says how wide it is. With --payee too, blank lines and
-those that begin with # stay as they are.
+those that begin with # stay as they are. Each line ends as it did, in LF or
+CR LF.
 
 Lines are read and written one by one, or with --jobs in blocks of 64, so LINES
 may have any length. With -o the postings stand in FILE.PID-0.part until all are
 there, and FILE is as it was if the batch is interrupted. No output may be an
 input, also not through a link.
 
+With --column, LINES is a bank export (CSV): a record on each line, its fields
+between separators. A field in quotes may have separators, line ends and doubled
+quotes. A column is given by its name in the header, which is then the first
+record, or by its number from 1. With --payee its text is posted as a payee;
+without, it is a line, or what --template makes one of:
+  --column Payee --template 'line(payee(\"{}\"), purpose(\"{Purpose}\"))'
+{} is the text of the column, and {Purpose} or {3} that of another; both stand in
+strings, and quotes in them are doubled. {{ and }} are braces. Without --column,
+{} is the whole line. Output line k belongs to record k, the header's being a
+comment. A record that can't be posted is told with its first line:
+  ! line 7: 'Payee', character 3: ISO 8859-1 does not have '€' (U+20AC); ..
+  ! line 8: the record has 2 fields; expected 'Purpose' as field 3
+
 With --json, each output line is an object: line, its number from 1, and the
-fields of post; a blank or comment line has comment, the text as it was.
+fields of post; a blank or comment line has comment, the text as it was. Of a bank
+export it begins with record, its number, and line is the record's first; an error
+has field, the column's name, if one is to blame, and column counts its characters.
 
 The profile has a row for each rule, the most used first: its rewrites, the lines
 in which it rewrote, and the rule. With --json it is an object with rules, a list

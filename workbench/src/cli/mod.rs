@@ -7,6 +7,7 @@ mod files;
 pub mod help;
 pub mod options;
 mod places;
+mod reading;
 
 use std::ffi::OsString;
 use std::io::{stderr, Write};
@@ -109,8 +110,9 @@ fn command(name: &str) -> Result<&'static Command, Stop> {
     found.ok_or_else(|| {
         let names: Vec<&str> = options::COMMANDS.iter().map(|known| known.name).collect();
         let message = format!(
-            "kurvneist: '{name}' is no command; expected {} or help",
-            names.join(", ")
+            "kurvneist: '{name}' is no command; expected {} or help{}",
+            names.join(", "),
+            options::suggestion(names.iter().copied().chain(["help"]), name)
         );
         Stop::new(Status::Usage, message)
     })

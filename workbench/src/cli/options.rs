@@ -5,6 +5,9 @@ use std::collections::HashMap;
 use std::ffi::{OsStr, OsString};
 use std::os::unix::ffi::OsStrExt;
 
+use crate::encoding::Encoding;
+use crate::names::nearest;
+
 pub struct Flag {
     pub name: &'static str,
     /// What its value is called, or `None` if it has none.
@@ -63,6 +66,12 @@ const OUTPUT: Flag = flag(
 
 const JSON: Flag = flag("--json", None, "write an object in JSON");
 const RULES_ONLY: Flag = flag("--rules-only", None, "only which rules rewrote, and where");
+const ENCODING: Flag = flag(
+    "--encoding",
+    Some("E"),
+    "the book text's: utf-8 (default), latin-1 or windows-1252",
+);
+
 const TEXT: (&str, &str) = ("TEXT", "a book in text form; - is standard input");
 const LINE: (&str, &str) = (
     "LINE",
@@ -75,11 +84,14 @@ pub const COMMANDS: &[Command] = &[
         name: "book",
         about: "turn a text into a packed book, or check a text",
         arguments: &[TEXT],
-        flags: &[flag(
-            "-o",
-            Some("FILE"),
-            "write the packed book to this file (default: only check)",
-        )],
+        flags: &[
+            flag(
+                "-o",
+                Some("FILE"),
+                "write the packed book to this file (default: only check)",
+            ),
+            ENCODING,
+        ],
         more: super::help::BOOK,
     },
     Command {
@@ -92,6 +104,7 @@ pub const COMMANDS: &[Command] = &[
                 Some("TEXT"),
                 "take the operators' names from this text (default f0, f1, ..)",
             ),
+            ENCODING,
             OUTPUT,
         ],
         more: super::help::TEXT,
@@ -108,6 +121,7 @@ pub const COMMANDS: &[Command] = &[
                 "leave out warnings of these kinds",
             ),
             JSON,
+            ENCODING,
         ],
         more: super::help::CHECK,
     },
@@ -115,7 +129,9 @@ pub const COMMANDS: &[Command] = &[
         name: "post",
         about: "reduce one line and show its posting",
         arguments: &[BOOK, LINE],
-        flags: &[PAYEE, JSON, UNITS, BUDGET, SCHEDULE, PACKED, NAMES],
+        flags: &[
+            PAYEE, JSON, UNITS, BUDGET, SCHEDULE, PACKED, NAMES, ENCODING,
+        ],
         more: super::help::POST,
     },
     Command {
@@ -137,6 +153,7 @@ pub const COMMANDS: &[Command] = &[
             SCHEDULE,
             PACKED,
             NAMES,
+            ENCODING,
         ],
         more: super::help::EXPLAIN,
     },
@@ -173,6 +190,7 @@ pub const COMMANDS: &[Command] = &[
             SCHEDULE,
             PACKED,
             NAMES,
+            ENCODING,
         ],
         more: super::help::TRACE,
     },
@@ -204,7 +222,33 @@ pub const COMMANDS: &[Command] = &[
                 Some("FILE"),
                 "write to this file how often each rule rewrote",
             ),
-            flag("--latin1", None, "LINES is ISO 8859-1 and not UTF-8"),
+            flag(
+                "--column",
+                Some("C"),
+                "LINES is a bank export; take this column, by name or number",
+            ),
+            flag(
+                "--separator",
+                Some("S"),
+                "what stands between its columns: , (default) ; | or tab",
+            ),
+            flag(
+                "--header",
+                None,
+                "it has a header, though its columns are given by number",
+            ),
+            flag(
+                "--template",
+                Some("T"),
+                "make a line of each text, as in 'line(payee(\"{}\"), rent)'",
+            ),
+            flag(
+                "--encoding",
+                Some("E"),
+                "LINES': utf-8 (default), latin-1 or windows-1252",
+            ),
+            flag("--latin1", None, "the same as --encoding latin-1"),
+            flag("--book-encoding", Some("E"), "the book text's"),
             flag("--quiet", None, "no progress bar and no summary"),
             flag(
                 "--jobs",
@@ -220,6 +264,11 @@ pub const COMMANDS: &[Command] = &[
         more: super::help::BATCH,
     },
 ];
+
+/// What a mistyped word may mean.
+pub fn suggestion<'n>(known: impl Iterator<Item = &'n str>, mistyped: &str) -> String {
+    nearest(known, mistyped).map_or(String::new(), |near| format!("; did you mean '{near}'?"))
+}
 
 /// A command line that fits its command.
 pub struct Parsed {
@@ -270,7 +319,8 @@ impl Parsed {
         };
         let name = String::from_utf8_lossy(name);
         let Some(flag) = command.flags.iter().find(|flag| flag.name == name) else {
-            return Err(format!("'{name}' is no option of this command"));
+            let near = suggestion(command.flags.iter().map(|flag| flag.name), &name);
+            return Err(format!("'{name}' is no option of this command{near}"));
         };
         let value = match (flag.value, attached) {
             (None, None) => OsString::new(),
@@ -303,6 +353,16 @@ impl Parsed {
     /// An option's value that names a file.
     pub fn name(&self, name: &str) -> Option<&OsStr> {
         self.values.get(name).map(OsString::as_os_str)
+    }
+
+    /// The encoding that an option names, UTF-8 without it.
+    pub fn encoding(&self, name: &str) -> Result<Encoding, String> {
+        match self.value(name) {
+            None => Ok(Encoding::Utf8),
+            Some(written) => {
+                Encoding::named(written).map_err(|wrong| format!("{name} {written}: {wrong}"))
+            }
+        }
     }
 
     pub fn number(&self, name: &str, least: u32, default: u32) -> Result<u32, String> {

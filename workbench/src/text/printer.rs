@@ -8,7 +8,7 @@ use comparison::model::{default_strategy, item_numbers, Book, Item, Operator, Pa
 
 use crate::letters;
 use crate::names::Names;
-use crate::text::lexer::is_name_character;
+use crate::text::lexer::{escaped, is_name_character};
 
 /// The text of a book that the proved writer wrote.
 pub fn book(book: &Book, names: &Names) -> String {
@@ -56,7 +56,7 @@ fn operator_line(name: &str, operator: &Operator) -> String {
     let arity = operator.arity;
     let name = match name.chars().all(is_name_character) {
         true => name.to_owned(),
-        false => format!("\"{name}\""),
+        false => format!("\"{}\"", escaped(name)),
     };
     if has_default_strategy(operator) {
         format!("op {name}/{arity}\n")
@@ -239,7 +239,7 @@ impl<'a> Printer<'a> {
 
     /// The constant `end` behind a string is left away.
     fn spelled(&mut self, run: &str) {
-        write!(self.text, "\"{run}\"").expect("a string takes any text");
+        write!(self.text, "\"{}\"", escaped(run)).expect("a string takes any text");
         self.at += run.chars().count();
         if self.ends_here() && self.mark != Some(self.at) {
             self.at += 1;

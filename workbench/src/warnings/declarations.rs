@@ -7,6 +7,7 @@ use crate::mistake::Span;
 use crate::text::check::Named;
 use crate::text::parser::{Name, Statement, Strategy, Word};
 use crate::text::printer::preorder;
+use crate::told::quoted;
 use crate::warnings::{Kind, Warning};
 
 pub fn warnings(statements: &[Statement], named: &Named, book: &Book) -> Vec<Warning> {
@@ -43,7 +44,7 @@ fn is_used(name: &Name, named: &Named, book: &Book) -> bool {
 }
 
 fn unused_operator(name: &Name) -> Warning {
-    let wrong = format!("no rule names '{}'", name.text);
+    let wrong = format!("no rule names {}", quoted(&name.text));
     let expected = "a rule that does, unless lines name it";
     Warning::new(Kind::UnusedOperator, name.span, wrong, expected)
 }
@@ -59,7 +60,7 @@ fn stands(name: &Name, statements: &[Statement]) -> bool {
 }
 
 fn unused_variable(name: &Name) -> Warning {
-    let wrong = format!("no rule names the variable '{}'", name.text);
+    let wrong = format!("no rule names the variable {}", quoted(&name.text));
     let expected = "a rule that does, or no declaration";
     Warning::new(Kind::UnusedVariable, name.span, wrong, expected)
 }

@@ -6,6 +6,7 @@ use comparison::model::{Book, Item, Pattern, Rule};
 use crate::text::check::Named;
 use crate::text::parser::{Statement, Words};
 use crate::text::printer;
+use crate::told::quoted;
 use crate::trace::text::rule_name;
 use crate::warnings::patterns::{cover_together, covers, rewritten_before};
 use crate::warnings::{side_span, Kind, Warning};
@@ -81,8 +82,8 @@ impl Look<'_> {
         if strategy.contains(&Item::Whole) {
             return None;
         }
-        let name = self.named.names.name(*operator);
-        let wrong = format!("the strategy of '{name}' has no 0, so that this rule is never tried");
+        let name = quoted(self.named.names.name(*operator));
+        let wrong = format!("the strategy of {name} has no 0, so that this rule is never tried");
         self.at_left(Kind::NeverTried, wrong, "a strategy that ends in 0")
     }
 
