@@ -155,8 +155,20 @@ pub fn run_form(
     progress: &mut Progress,
 ) -> Result<Summary, Failure> {
     let started = Instant::now();
+    let summary = post_all(form, Lines::new(input), settings, output, progress);
+    progress.clear();
+    let time = started.elapsed();
+    summary.map(|summary| Summary { time, ..summary })
+}
+
+fn post_all(
+    form: Form,
+    mut lines: Lines,
+    settings: &Settings,
+    output: &mut dyn Write,
+    progress: &mut Progress,
+) -> Result<Summary, Failure> {
     let mut sum = Summary::default();
-    let mut lines = Lines::new(input);
     let mut put = |told: Told| {
         sum.add(&told.summary);
         let note = format!(", {} not posted", sum.not_posted());
@@ -165,6 +177,7 @@ pub fn run_form(
         written.and_then(|()| output.flush())
     };
     if settings.jobs == 1 {
+        // Line by line, so that who types the lines sees their postings.
         let mut engine = Engine::new();
         while let Some(block) = block(&mut lines, 1).map_err(Failure::Read)? {
             put(all_told(form, block, settings, &mut engine)).map_err(Failure::Write)?;
@@ -178,8 +191,6 @@ pub fn run_form(
             |told| put(told).map_err(Failure::Write),
         )?;
     }
-    progress.clear();
-    sum.time = started.elapsed();
     Ok(sum)
 }
 
