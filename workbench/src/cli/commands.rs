@@ -147,14 +147,14 @@ pub fn post(parsed: &Parsed) -> Result<Status, Stop> {
         ));
     }
     if answer.ending == Ending::Cut {
-        say(&cut(answer.entries, schedules));
+        say(&cut(answer.entries, schedules.advice()));
     }
     Ok(status(answer.ending))
 }
 
-fn cut(entries: u64, schedules: &Schedules) -> String {
+fn cut(entries: u64, advice: &str) -> String {
     let entries = counted(entries, "entry", "entries");
-    format!("cut after {entries}: {}", schedules.advice())
+    format!("cut after {entries}: {advice}")
 }
 
 /// That each of the text and the picture has a place of its own.
@@ -196,7 +196,11 @@ pub fn trace(parsed: &Parsed) -> Result<Status, Stop> {
         files::write_or_print(parsed, &trace::text::show(&traced, &asked.named, width))?;
     }
     if traced.ending == Ending::Cut {
-        say(&cut(schedule.len() as u64, schedules));
+        let advice = match parsed.has("--schedule") {
+            true => schedules.advice(),
+            false => "a longer trace takes a --schedule, such as round-robin:1000000",
+        };
+        say(&cut(schedule.len() as u64, advice));
     }
     Ok(status(traced.ending))
 }
