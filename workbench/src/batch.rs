@@ -196,12 +196,23 @@ pub fn run(
     progress: &mut Progress,
 ) -> Result<Summary, Failure> {
     let started = Instant::now();
+    let summary = post_all(Lines::new(input), settings, output, progress);
+    progress.clear();
+    let time = started.elapsed();
+    summary.map(|summary| Summary { time, ..summary })
+}
+
+fn post_all(
+    mut lines: Lines,
+    settings: &Settings,
+    output: &mut dyn Write,
+    progress: &mut Progress,
+) -> Result<Summary, Failure> {
     let is_export = settings.reading.columns.is_some();
     let mut sum = Summary {
         is_export,
         ..Summary::default()
     };
-    let mut lines = Lines::new(input);
     let mut items = Items::new(settings.reading);
     let mut put = |told: Lot| {
         sum.add(&told.summary);
@@ -212,6 +223,7 @@ pub fn run(
         written.and_then(|()| output.flush())
     };
     if settings.jobs == 1 {
+        // Line by line, so that who types the lines sees their postings.
         let mut engine = Engine::new();
         while let Some(block) = block(&mut items, &mut lines, 1)? {
             put(all_told(block, settings, &mut engine)).map_err(Failure::Write)?;
@@ -225,8 +237,6 @@ pub fn run(
             |told| put(told).map_err(Failure::Write),
         )?;
     }
-    progress.clear();
-    sum.time = started.elapsed();
     Ok(sum)
 }
 

@@ -492,4 +492,6 @@ fn the_run_that_posts_is_explained() {
     assert!(ran
         .output
         .contains("\ncut: rewrites 16384, entries 32768, "));
+    let advice = "to see more takes a --schedule, such as round-robin:1000000";
+    assert_eq!(ran.errors, format!("cut after 32768 entries: {advice}\n"));
 }

@@ -121,9 +121,9 @@ fn standard_input_and_output_are_files_too() {
         .output()
         .unwrap();
     assert_eq!(done.status.code(), Some(2));
-    let arguments = ["batch", BOOK, text(&lines)].map(OsStr::new);
-    let appended = fs::OpenOptions::new().append(true).open(&lines).unwrap();
-    let done = program(&arguments).stdout(appended).output().unwrap();
+    // A batch that reads what it appends would go on for ever.
+    let script = "ulimit -f 1000; exec \"$0\" batch \"$1\" \"$2\" >>\"$2\"";
+    let done = script_run(script, &lines);
     assert_eq!(done.status.code(), Some(2));
     assert_eq!(fs::read_to_string(&lines).unwrap(), LINE);
     let arguments = ["batch", BOOK, "/dev/null", "-o", "/dev/null"].map(OsStr::new);
@@ -224,13 +224,20 @@ fn a_reader_that_goes_away_is_no_error() {
         assert_eq!(child.wait().unwrap().code(), Some(0));
         assert_eq!(errors, "");
     }
-    let script = "\"$0\" batch \"$1\" \"$2\" 2>&1 | true; echo ${PIPESTATUS[0]}";
-    let done = Command::new("bash")
+    for ends in ["2>&1", "2>&1 >/dev/null"] {
+        let script = format!("\"$0\" batch \"$1\" \"$2\" {ends} | true; echo ${{PIPESTATUS[0]}}");
+        let done = script_run(&script, &lines);
+        assert_eq!(String::from_utf8_lossy(&done.stdout), "0\n");
+    }
+}
+
+/// A script of bash, with the program, a book and lines.
+fn script_run(script: &str, lines: &Path) -> std::process::Output {
+    Command::new("bash")
         .args(["-c", script, env!("CARGO_BIN_EXE_kurvneist"), BOOK])
-        .arg(&lines)
+        .arg(lines)
         .output()
-        .unwrap();
-    assert_eq!(String::from_utf8_lossy(&done.stdout), "0\n");
+        .unwrap()
 }
 
 #[test]

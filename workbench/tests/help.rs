@@ -152,6 +152,10 @@ const LOSING: &[(&[&str], &str)] = &[
         "are one file",
     ),
     (
+        &["trace", "x", "y", "--no-text", "--svg", "a", "--rules-only"],
+        "--rules-only is for the text, which --no-text leaves out",
+    ),
+    (
         &["batch", "x", "y", "--profile", "-"],
         "the postings and the profile both go to standard output; expected -o FILE",
     ),

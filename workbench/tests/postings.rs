@@ -96,6 +96,10 @@ fn the_limit_is_kept() {
     assert_eq!(ran.output.lines().next(), Some("end spent"));
     let ran = kurvneist(&["trace", &book, "a", "--check", "1000000"]);
     let last = ran.output.lines().last().unwrap();
+    assert_eq!(
+        ran.errors,
+        "cut after 32768 entries: to see more takes a --schedule, such as round-robin:1000000\n"
+    );
     assert!(
         last.starts_with("cut: rewrites 16384, entries 32768, "),
         "{last}"

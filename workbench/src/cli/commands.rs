@@ -190,14 +190,24 @@ pub fn post(parsed: &Parsed) -> Result<Status, Stop> {
     files::print(page.as_bytes())?;
     asked.say_instead(&posted);
     if answer.ending == Ending::Cut {
-        say(&cut(answer.entries, schedules));
+        say(&cut(answer.entries, schedules.advice()));
     }
     Ok(status(answer.ending))
 }
 
-pub fn cut(entries: u64, schedules: &Schedules) -> String {
+fn cut(entries: u64, advice: &str) -> String {
     let entries = counted(entries, "entry", "entries");
-    format!("cut after {entries}: {}", schedules.advice())
+    format!("cut after {entries}: {advice}")
+}
+
+/// Says what to try where a run was shown and cut: without a schedule, less is
+/// shown than posted.
+pub fn say_shown_cut(parsed: &Parsed, entries: u64, schedules: &Schedules) {
+    let advice = match parsed.has("--schedule") {
+        true => schedules.advice(),
+        false => "to see more takes a --schedule, such as round-robin:1000000",
+    };
+    say(&cut(entries, advice));
 }
 
 /// That each of the text and the picture has a place of its own.
@@ -206,6 +216,9 @@ fn check_outputs(parsed: &Parsed) -> Result<(), Stop> {
     let wrong = match parsed.has("--no-text") {
         true if picture.is_none() => "--no-text leaves nothing to write; expected --svg FILE",
         true if parsed.has("-o") => "-o is for the text, which --no-text leaves out",
+        true if parsed.has("--rules-only") => {
+            "--rules-only is for the text, which --no-text leaves out"
+        }
         false if picture.is_some_and(|name| name == "-") && files::output_name(parsed) == "-" => {
             "the text and the picture both go to standard output; expected -o FILE or --no-text"
         }
@@ -237,7 +250,7 @@ pub fn trace(parsed: &Parsed) -> Result<Status, Stop> {
         files::write_or_print(parsed, &show(&traced, &asked.named, width))?;
     }
     if traced.ending == Ending::Cut {
-        say(&cut(schedule.len() as u64, schedules));
+        say_shown_cut(parsed, schedule.len() as u64, schedules);
     }
     Ok(status(traced.ending))
 }

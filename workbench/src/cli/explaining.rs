@@ -2,9 +2,9 @@
 
 use kurvneist::{Ending, Engine};
 
-use crate::cli::commands::{cut, failed, refused, status, usage, Asked};
+use crate::cli::commands::{failed, refused, say_shown_cut, status, usage, Asked};
 use crate::cli::options::Parsed;
-use crate::cli::{files, say, Status, Stop};
+use crate::cli::{files, Status, Stop};
 use crate::explain;
 use crate::progress::Progress;
 
@@ -34,7 +34,7 @@ pub fn explain(parsed: &Parsed) -> Result<Status, Stop> {
     files::write_or_print(parsed, &text)?;
     asked.say_instead(&posted);
     if explained.told.ending == Ending::Cut {
-        say(&cut(explained.told.entries, &asked.schedules));
+        say_shown_cut(parsed, explained.told.entries, &asked.schedules);
     }
     Ok(status(explained.told.ending))
 }

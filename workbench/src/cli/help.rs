@@ -167,10 +167,10 @@ Each cell says its entry when the pointer rests on it.
 
 const TURNS: &str = "\
 Without --schedule the units act in turn, and a run that is cut is made again
-with more entries: 32768, 262144, 2097152, at most 16777216 (a trace has at most
-262144, or shows the first 32768). A line that several units then leave full or
-cut is posted by one unit, if that finishes it, and this is told. So more units
-never make a line fail.
+with more entries: 32768, 262144, 2097152, at most 16777216. A line that several
+units then leave full or cut is posted by one unit, if that finishes it, and this
+is told. So more units never make a line fail. A trace shows the several units'
+run; it has at most 262144 entries, or shows the first 32768.
 ";
 
 pub const BATCH: &str = "\
