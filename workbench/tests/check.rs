@@ -33,6 +33,7 @@ const TABLE: &[(&str, Kind, (usize, usize), &str)] = &[
     ("rule k(X) = X", Kind::NeverTried, (2, 6), "the strategy of 'k' has no 0, so that this rule is never tried; expected a strategy that ends in 0"),
     ("rule f(a) = b\nrule g(X, f(a)) = X", Kind::RewrittenBefore, (3, 11), "rule 1 (line 2) rewrites the part f(a) before this rule is tried; expected the part as the other rules leave it: this rule never rewrites"),
     ("rule f(f(f(X))) = X rule f(X) = X", Kind::RewrittenBefore, (2, 8), "rule 2 (line 2) rewrites the part \"ff\"(X) before this rule is tried; expected the part as the other rules leave it: this rule never rewrites"),
+    ("rule f(a) = b\nrule g(f(f(b)), f(a)) = b", Kind::RewrittenBefore, (3, 17), "rule 1 (line 2) rewrites the part f(a) before this rule is tried; expected the part as the other rules leave it: this rule never rewrites"),
     ("rule g(h(f(a)), X) = X rule f(a) = b", Kind::RewrittenBefore, (2, 10), "rule 2 (line 2) rewrites the part f(a) before this rule is tried; expected the part as the other rules leave it: this rule never rewrites"),
     ("rule f(X) = f(X)", Kind::SameSides, (2, 13), "the right side is the left side; expected another: once the rule rewrites, it does so until the budget is spent"),
     ("op unused/0", Kind::UnusedOperator, (2, 4), "no rule names 'unused'; expected a rule that does, unless lines name it (a guess)"),
