@@ -22,6 +22,8 @@ fn main() {
         ));
     }
     println!("cargo:rerun-if-changed={}", archive.display());
+    // For the tests that are written in C.
+    println!("cargo:rustc-env=KURVNEIST_ARCHIVE={}", archive.display());
     println!("cargo:rustc-link-search=native={}", folder.display());
     println!("cargo:rustc-link-lib=static=kurvneist");
 }

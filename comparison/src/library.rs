@@ -16,13 +16,10 @@ impl Subject for Library {
     }
 
     fn answer(&mut self, question: &Question, work: &mut [u8], output: &mut [u8]) -> Told {
-        let request = Request {
-            book: question.book,
-            line: question.line,
-            units: question.units,
-            budget: question.budget,
-            schedule: question.schedule,
-        };
+        let request = Request::new(question.book, question.line)
+            .units(question.units)
+            .budget(question.budget)
+            .schedule(question.schedule);
         let call = match question.form {
             Form::Line => raw::reduce,
             Form::Text => raw::payee,

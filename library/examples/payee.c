@@ -34,7 +34,7 @@ int main(void) {
         uint64_t answer[KURVNEIST_ANSWER_LENGTH];
         uint8_t refusal = kurvneist_payee(book, sizeof book, (const uint8_t *)payees[payee], strlen(payees[payee]), 1, 9,
                                           schedule, sizeof schedule, work, sizeof work, output, sizeof output, answer);
-        if (refusal != 0) {
+        if (refusal != KURVNEIST_ACCEPTED) {
             printf("refused %u\n", refusal);
             return 1;
         }

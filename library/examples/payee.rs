@@ -15,13 +15,8 @@ fn main() -> Result<(), Refusal> {
     ];
     let mut engine = Engine::new();
     for text in payees {
-        let posting = engine.post_payee(&Request {
-            book: &book,
-            line: text,
-            units: 1,
-            budget: 9,
-            schedule: &[0; 100],
-        })?;
+        let request = Request::new(&book, text).budget(9).schedule(&[0; 100]);
+        let posting = engine.post_payee(&request)?;
         println!("{}: {:?}", posting.answer.ending, posting.term);
     }
     Ok(())

@@ -25,7 +25,7 @@ int main(void) {
     uint64_t answer[KURVNEIST_ANSWER_LENGTH];
     uint8_t refusal = kurvneist_reduce(book, sizeof book, line, sizeof line, 2, 9, schedule, sizeof schedule,
                                        work, sizeof work, output, sizeof output, answer);
-    if (refusal != 0) {
+    if (refusal != KURVNEIST_ACCEPTED) {
         printf("refused %u\n", refusal);
         return 1;
     }

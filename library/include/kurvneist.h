@@ -1,12 +1,12 @@
 /*
  * Kurvneist: reduces lines by rule books on one to eight simulated units.
  *
- * The functions of libkurvneist.a (x86-64), which `rt staticlib kurvneist` writes. What a book, a line, a schedule, a
- * refusal and an ending are is said in document 01, and what a text is in document 02, change 1.
+ * The functions of libkurvneist.a (x86-64), which `rt staticlib kurvneist` writes. docs/FORMAT.md says what the bytes of
+ * a book, a line, a text and a page are, bit by bit, and in which order faults are refused.
  *
- * Buffers. Each is lent as a pointer and its length in bytes. A pointer is never null, not even for a length of 0. What
- * is written to (work, output, answer, length) overlaps nothing else that is lent. Any bytes, lengths and numbers are
- * fine: what can't be used is refused by number.
+ * Buffers. Each is lent as a pointer and its length in bytes. A null pointer is taken where the length is 0; answer and
+ * length are never null. What is written to (work, output, answer, length) overlaps nothing else that is lent. Any bytes,
+ * lengths and numbers are fine: what can't be used is refused by number.
  *
  * The functions keep nothing between calls, so several threads may call them, each with buffers of its own.
  */
@@ -28,8 +28,8 @@ extern "C" {
 #define KURVNEIST_LONGEST_BOOK 40962
 
 /*
- * The elements of an answer. In a finished run granted and kept together are exactly the FORKs of a one-unit run without
- * symbol limit. In any other ending they are the FORKs so far.
+ * The elements of an answer. They are told by name, since a later version may add some. In a finished run granted and kept
+ * together are exactly the FORKs of a one-unit run without symbol limit. In any other ending they are the FORKs so far.
  */
 enum kurvneist_answer {
     KURVNEIST_ENDING = 0,   /* an ending's number */
@@ -51,29 +51,51 @@ enum kurvneist_ending {
 
 /*
  * The refusals. Places are checked in this order: 13, 15, 16; the book, 1 to 9; the line, 12, 11, 10, or the text, 19, 18;
- * the schedule, 14.
- *
- *    1  the book's bits run out
- *    2  the book has no operator
- *    3  a strategy has an item above 9, a group in a group, a close without an open, a 0 in a group, an argument above
- *       the arity, or a last item that is not 0
- *    4  a rule names an operator that the book does not have
- *    5  a left side is a variable
- *    6  a left side names a variable twice
- *    7  a right side names a variable that its left side does not
- *    8  a side is still incomplete after 64 symbols
- *    9  a padding bit of the book is 1, or a further byte follows
- *   10  the line is empty or incomplete, or has bytes left over
- *   11  the line names an operator that the book does not have
- *   12  the line has over 1,024 bytes
- *   13  the units are not 1 to 8
- *   14  a schedule entry names a unit that is not there
- *   15  the work area is shorter than kurvneist_work_length()
- *   16  the output is shorter than kurvneist_output_length() or, of the writer, than the written book
- *   18  the text's term would have over 1,024 symbols
- *   19  the book lacks the operators of texts: it has fewer than 43, operator 0 has an argument, or one of 1 to 42 has not
- *       exactly one
+ * the schedule, 14. Only the programs tell 17. A later version may add
+ * numbers.
  */
+enum kurvneist_refusal {
+    KURVNEIST_ACCEPTED = 0,
+    /* the book's bits run out */
+    KURVNEIST_BOOK_RUNS_OUT = 1,
+    /* the book has no operator */
+    KURVNEIST_NO_OPERATOR = 2,
+    /* a strategy has an item above 9, a group in a group, a close without an open, a 0 in a group, an argument
+       above the arity, or a last item that is not 0 */
+    KURVNEIST_BAD_STRATEGY = 3,
+    /* a rule names an operator that the book does not have */
+    KURVNEIST_UNKNOWN_OPERATOR_IN_RULE = 4,
+    /* a rule's left side is a variable */
+    KURVNEIST_LEFT_SIDE_IS_VARIABLE = 5,
+    /* a rule's left side names a variable twice */
+    KURVNEIST_LEFT_SIDE_REPEATS_VARIABLE = 6,
+    /* a rule's right side names a variable that its left side does not */
+    KURVNEIST_RIGHT_SIDE_ADDS_VARIABLE = 7,
+    /* a rule's side is still incomplete after 64 symbols */
+    KURVNEIST_SIDE_TOO_LONG = 8,
+    /* a padding bit of the book is 1, or a further byte follows */
+    KURVNEIST_BOOK_LEFT_OVER = 9,
+    /* the line is empty or incomplete, or has bytes left over */
+    KURVNEIST_LINE_IS_NO_TERM = 10,
+    /* the line names an operator that the book does not have */
+    KURVNEIST_UNKNOWN_OPERATOR_IN_LINE = 11,
+    /* the line has over 1,024 bytes */
+    KURVNEIST_LINE_TOO_LONG = 12,
+    /* the number of units is not 1 to 8 */
+    KURVNEIST_BAD_UNITS = 13,
+    /* a schedule entry names a unit that is not there */
+    KURVNEIST_UNKNOWN_UNIT_IN_SCHEDULE = 14,
+    /* the work area has less than 24,624 bytes */
+    KURVNEIST_WORK_TOO_SHORT = 15,
+    /* the output is too short: a run needs 1,024 bytes, the writer as many as the written book has */
+    KURVNEIST_OUTPUT_TOO_SHORT = 16,
+    /* the program's input is cut short, or over 32,768 schedule bytes follow */
+    KURVNEIST_BAD_INPUT = 17,
+    /* the text's term would have over 1,024 symbols */
+    KURVNEIST_TEXT_TOO_LONG = 18,
+    /* the book lacks the operators of texts: 0 without arguments, and 1 to 42 with one argument each */
+    KURVNEIST_NO_LETTERS = 19
+};
 
 /* KURVNEIST_WORK_LENGTH. */
 size_t kurvneist_work_length(void);
@@ -85,7 +107,7 @@ size_t kurvneist_output_length(void);
  * Reduces a line by a book on `units` units, with at most `budget` rewrites, as the schedule says: each of its bytes is
  * the number of the unit that acts next.
  *
- * The result is 0, or the number of a refusal. `answer` has KURVNEIST_ANSWER_LENGTH elements.
+ * The result is KURVNEIST_ACCEPTED, 0, or the number of a refusal. `answer` has KURVNEIST_ANSWER_LENGTH elements.
  *
  * After 0 the present term stands at the front of `output`, one byte a symbol, and the output's other bytes are as they
  * were; `work` is all zero, whatever it held before. After a refusal `answer` is all zero, and `work` and `output` are

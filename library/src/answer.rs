@@ -4,8 +4,9 @@ use std::fmt::{self, Display, Formatter};
 
 use crate::raw::ANSWER_LENGTH;
 
-/// How a run ended. Only a finished run's term is a posting.
+/// How a run ended. Only a finished run's term is a posting; a later version's further endings are none.
 #[derive(Clone, Copy, Debug, PartialEq, Eq, Hash)]
+#[non_exhaustive]
 pub enum Ending {
     /// Nothing is left to do.
     Finished = 0,
@@ -18,7 +19,7 @@ pub enum Ending {
 }
 
 impl Ending {
-    /// The number of document 01: 0 finished, 1 spent, 2 full, 3 cut.
+    /// The page's number: 0 finished, 1 spent, 2 full, 3 cut.
     pub const fn number(self) -> u8 {
         self as u8
     }
@@ -51,6 +52,7 @@ impl Display for Ending {
 /// In a finished run granted and kept together are exactly the FORKs of a one-unit run without symbol limit, whatever the
 /// units and the schedule. In any other ending they are the FORKs so far.
 #[derive(Clone, Copy, Debug, PartialEq, Eq, Hash)]
+#[non_exhaustive]
 pub struct Answer {
     /// How the run ended.
     pub ending: Ending,

@@ -14,6 +14,7 @@ pub struct Engine {
 /// A run's answer and its present term, which stays until the engine's next run. The term is a posting if the ending
 /// is [`Finished`](crate::Ending::Finished).
 #[derive(Clone, Copy, Debug, PartialEq, Eq)]
+#[non_exhaustive]
 pub struct Posting<'a> {
     /// The run's values.
     pub answer: Answer,

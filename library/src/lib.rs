@@ -1,8 +1,8 @@
 //! Reduces lines by rule books, on one to eight simulated units that share the work under a schedule.
 //!
 //! A safe face of the proved static library `libkurvneist.a`: this crate lends it buffers, gives its numbers names, and
-//! decides nothing. What a book, a line, a schedule, a refusal and an ending are is said in document 01, and what a text
-//! is in document 02, change 1.
+//! decides nothing. What the bytes of a book, a line, a text and a page are, what is refused and in which order, is said
+//! in `docs/FORMAT.md`.
 //!
 //! ```
 //! use kurvneist::{round_robin, Ending, Engine, Request};
@@ -10,14 +10,11 @@
 //! // Three operators: end, tick(_) and both(_, _), whose arguments may be reduced at the same time.
 //! // Two rules: both(end, Y) gives Y, and both(tick(X), Y) gives tick(both(X, Y)).
 //! let book = b"\x03\x02\x52\xc0\x94\x80\x10\x08\x01\x18\x80\x80\x30\x88\x04\x05\x08\x80";
+//! let line = [2, 1, 0, 1, 0]; // both(tick(end), tick(end))
+//! let schedule = round_robin(2, 100);
+//! let request = Request::new(book, &line).units(2).budget(9).schedule(&schedule);
 //! let mut engine = Engine::new();
-//! let posting = engine.post(&Request {
-//!     book,
-//!     line: &[2, 1, 0, 1, 0], // both(tick(end), tick(end))
-//!     units: 2,
-//!     budget: 9,
-//!     schedule: &round_robin(2, 100),
-//! })?;
+//! let posting = engine.post(&request)?;
 //! assert_eq!(posting.answer.ending, Ending::Finished);
 //! assert_eq!(posting.answer.rewrites, 2);
 //! assert_eq!(posting.term, [1, 1, 0]); // tick(tick(end))
@@ -33,34 +30,41 @@
 //! let book = [&[43, 0x02][..], &[0x22; 20], &[0x20, 0x00]].concat(); // 43 operators, no rules
 //! let mut engine = Engine::new();
 //! let mut term = |text| {
-//!     let request = Request { book: &book, line: text, units: 1, budget: 0, schedule: &[] };
-//!     engine.post_payee(&request).map(|posting| posting.term.to_vec())
+//!     let posting = engine.post_payee(&Request::new(&book, text)); // no entries, so the term stays as it is read
+//!     posting.map(|posting| posting.term.to_vec())
 //! };
 //! assert_eq!(term(b"Caf\xE9 7")?, [3, 1, 6, 5, 42, 39, 0]);
 //! assert_eq!(term(b"Caf\xE9 7"), term(b" CAFE - 7."));
 //! # Ok::<(), kurvneist::Refusal>(())
 //! ```
 //!
-//! A refusal tells its number and its condition, and leaves every buffer as it was:
+//! A refusal has a name, a number and a condition, and leaves every buffer as it was:
 //!
 //! ```
-//! # use kurvneist::{Engine, Request};
-//! let request = Request { book: &[1, 0, 0], line: &[7], units: 1, budget: 0, schedule: &[] };
-//! let refusal = Engine::new().post(&request).unwrap_err();
+//! # use kurvneist::{Engine, Refusal, Request};
+//! let refusal = Engine::new().post(&Request::new(&[1, 0, 0], &[7])).unwrap_err();
+//! assert_eq!(refusal, Refusal::UnknownOperatorInLine);
 //! assert_eq!(refusal.number(), 11);
 //! assert_eq!(refusal.to_string(), "refused 11: the line names an operator that the book does not have");
 //! ```
+//!
+//! [`Request`], [`Answer`], [`Posting`], [`Ending`] and [`Refusal`] grow as the engine does: a request is made by
+//! [`Request::new`], and a `match` on an ending or a refusal has an arm for what it doesn't know.
 #![deny(unsafe_code)]
 #![warn(missing_docs)]
 
 mod answer;
 mod engine;
+#[cfg(doctest)]
+mod growth;
 pub mod raw;
 mod refusal;
+mod request;
 
 pub use answer::{Answer, Ending};
 pub use engine::{Engine, Posting};
 pub use refusal::Refusal;
+pub use request::Request;
 
 /// Bytes of work area that a run asks for.
 pub const WORK_LENGTH: usize = 24_624;
@@ -76,22 +80,6 @@ pub const LONGEST_BOOK: usize = {
     usize::div_ceil(8 + 255 * operator + 8 + 255 * rule, 8)
 };
 
-/// What a run is asked.
-#[derive(Clone, Copy, Debug)]
-pub struct Request<'a> {
-    /// The rule book, packed.
-    pub book: &'a [u8],
-    /// What is reduced. For [`reduce`] and [`Engine::post`] the term, one byte a symbol, in preorder; for [`payee`] and
-    /// [`Engine::post_payee`] a payee's text in ISO 8859-1.
-    pub line: &'a [u8],
-    /// How many units there are, 1 to 8.
-    pub units: u8,
-    /// The most rewrites that may be made.
-    pub budget: u32,
-    /// The number of the unit that acts, entry by entry.
-    pub schedule: &'a [u8],
-}
-
 /// Carries out one run in lent buffers of at least [`WORK_LENGTH`] and [`OUTPUT_LENGTH`] bytes.
 ///
 /// The present term is then at the front of the output, whose other bytes stay, and the work area is all zero, whatever
@@ -100,7 +88,7 @@ pub struct Request<'a> {
 /// ```
 /// use kurvneist::{reduce, Request, OUTPUT_LENGTH, WORK_LENGTH};
 ///
-/// let request = Request { book: &[1, 0, 0], line: &[0], units: 1, budget: 0, schedule: &[0; 5] };
+/// let request = Request::new(&[1, 0, 0], &[0]).schedule(&[0; 5]);
 /// let (mut work, mut output) = (vec![7; WORK_LENGTH], [7; OUTPUT_LENGTH]);
 /// let answer = reduce(&request, &mut work, &mut output)?;
 /// assert_eq!((answer.entries, answer.length), (3, 1));
@@ -123,7 +111,7 @@ pub fn reduce(request: &Request, work: &mut [u8], output: &mut [u8]) -> Result<A
 /// use kurvneist::{payee, Request, OUTPUT_LENGTH, WORK_LENGTH};
 ///
 /// let book = [&[43, 0x02][..], &[0x22; 20], &[0x20, 0x00]].concat(); // 43 operators, no rules
-/// let request = Request { book: &book, line: b"Wei\xDF", units: 1, budget: 0, schedule: &[0; 20] };
+/// let request = Request::new(&book, b"Wei\xDF").schedule(&[0; 20]);
 /// let (mut work, mut output) = (vec![7; WORK_LENGTH], [7; OUTPUT_LENGTH]);
 /// let answer = payee(&request, &mut work, &mut output)?;
 /// assert_eq!((answer.entries, answer.length), (11, 5));
@@ -152,7 +140,7 @@ pub fn write_book(book: &[u8], output: &mut [u8]) -> Result<usize, Refusal> {
 /// [`LONGEST_BOOK`] bytes, since what is longer is no book and is refused.
 ///
 /// ```
-/// // Two constants, the second with the list (0), which is the default.
+/// // A constant, and an operator of one argument with the list (1 0), which is the default.
 /// assert_eq!(kurvneist::written_book(&[0x02, 0x03, 0x10, 0x80, 0x00])?, [0x02, 0x02, 0x00]);
 /// # Ok::<(), kurvneist::Refusal>(())
 /// ```

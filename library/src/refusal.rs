@@ -3,51 +3,78 @@
 use std::error::Error;
 use std::fmt::{self, Display, Formatter};
 
-/// Why a request, or a book to be written, was refused. Every lent buffer kept its bytes.
-#[derive(Clone, Copy, Debug, PartialEq, Eq, Hash)]
-pub struct Refusal(u8);
+/// Each refusal's number, its name and its condition, said once.
+macro_rules! refusals {
+    ($($number:literal $name:ident $condition:literal)*) => {
+        /// Why a request, or a book to be written, was refused. Every lent buffer kept its bytes.
+        ///
+        /// `docs/FORMAT.md` says in which order they are told. Later versions may add some.
+        ///
+        /// ```
+        /// # use kurvneist::{Engine, Refusal, Request};
+        /// let refusal = Engine::new().post(&Request::new(&[1, 0, 0], &[7])).unwrap_err();
+        /// match refusal {
+        ///     Refusal::UnknownOperatorInLine => assert_eq!(refusal.number(), 11),
+        ///     other => panic!("{other}"),
+        /// }
+        /// ```
+        #[derive(Clone, Copy, Debug, PartialEq, Eq, Hash)]
+        #[non_exhaustive]
+        #[repr(u8)]
+        pub enum Refusal {
+            $(#[doc = concat!(stringify!($number), ": ", $condition, ".")] $name = $number,)*
+        }
 
-/// The condition of each number, from 1 on.
-const CONDITIONS: [&str; 19] = [
-    "the book's bits run out",
-    "the book has no operator",
-    "a strategy has an item above 9, a group in a group, a close without an open, a 0 in a group, an argument above the \
-     arity, or a last item that is not 0",
-    "a rule names an operator that the book does not have",
-    "a rule's left side is a variable",
-    "a rule's left side names a variable twice",
-    "a rule's right side names a variable that its left side does not",
-    "a rule's side is still incomplete after 64 symbols",
-    "a padding bit of the book is 1, or a further byte follows",
-    "the line is empty or incomplete, or has bytes left over",
-    "the line names an operator that the book does not have",
-    "the line has over 1,024 bytes",
-    "the number of units is not 1 to 8",
-    "a schedule entry names a unit that is not there",
-    "the work area has less than 24,624 bytes",
-    "the output is too short: a run needs 1,024 bytes, the writer as many as the written book has",
-    "the program's input is cut short, or over 32,768 schedule bytes follow",
-    "the text's term would have over 1,024 symbols",
-    "the book lacks the operators of texts: 0 without arguments, and 1 to 42 with one argument each",
-];
+        impl Refusal {
+            /// All refusals, by number.
+            pub const ALL: &'static [Refusal] = &[$(Refusal::$name),*];
+
+            /// The refusal with this number.
+            pub const fn new(number: u8) -> Option<Refusal> {
+                match number {
+                    $($number => Some(Refusal::$name),)*
+                    _ => None,
+                }
+            }
+
+            /// The condition in words.
+            pub const fn condition(self) -> &'static str {
+                match self {
+                    $(Refusal::$name => $condition,)*
+                }
+            }
+        }
+    };
+}
+
+refusals! {
+    1 BookRunsOut "the book's bits run out"
+    2 NoOperator "the book has no operator"
+    3 BadStrategy "a strategy has an item above 9, a group in a group, a close without an open, a 0 in a group, \
+        an argument above the arity, or a last item that is not 0"
+    4 UnknownOperatorInRule "a rule names an operator that the book does not have"
+    5 LeftSideIsVariable "a rule's left side is a variable"
+    6 LeftSideRepeatsVariable "a rule's left side names a variable twice"
+    7 RightSideAddsVariable "a rule's right side names a variable that its left side does not"
+    8 SideTooLong "a rule's side is still incomplete after 64 symbols"
+    9 BookLeftOver "a padding bit of the book is 1, or a further byte follows"
+    10 LineIsNoTerm "the line is empty or incomplete, or has bytes left over"
+    11 UnknownOperatorInLine "the line names an operator that the book does not have"
+    12 LineTooLong "the line has over 1,024 bytes"
+    13 BadUnits "the number of units is not 1 to 8"
+    14 UnknownUnitInSchedule "a schedule entry names a unit that is not there"
+    15 WorkTooShort "the work area has less than 24,624 bytes"
+    16 OutputTooShort "the output is too short: a run needs 1,024 bytes, the writer as many as the written book has"
+    17 BadInput "the program's input is cut short, or over 32,768 schedule bytes follow"
+    18 TextTooLong "the text's term would have over 1,024 symbols"
+    19 NoLetters "the book lacks the operators of texts: 0 without arguments, and 1 to 42 with one argument each"
+}
 
 impl Refusal {
-    /// The refusal with this number, 1 to 19. Functions of this crate never give 17: it is about the program's input.
-    pub const fn new(number: u8) -> Option<Refusal> {
-        match number {
-            1..=19 => Some(Refusal(number)),
-            _ => None,
-        }
-    }
-
-    /// The number of documents 01 and 02, 1 to 19.
+    /// The number that the page and the C functions tell. Functions of this crate never give 17: it is about the
+    /// programs' input.
     pub const fn number(self) -> u8 {
-        self.0
-    }
-
-    /// The condition of documents 01 and 02 in words.
-    pub const fn condition(self) -> &'static str {
-        CONDITIONS[self.0 as usize - 1]
+        self as u8
     }
 
     /// `Ok` for 0. The library is proved to answer 0 or one of its refusals, which are 1 to 16, 18 and 19.

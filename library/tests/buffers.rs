@@ -23,13 +23,8 @@ fn run(request: &Request, work: &mut [u8], output_length: usize) -> (Answer, Vec
 /// Requests of every ending.
 fn requests<'a>(book: &'a [u8], schedule: &'a [u8], growing: &'a [u8]) -> [Request<'a>; 5] {
     let page = page(book, schedule);
-    let full = Request {
-        book: growing,
-        line: &[1, 0],
-        budget: u32::MAX,
-        ..page
-    };
-    let (spent, cut) = (Request { budget: 1, ..page }, Request { units: 2, ..page });
+    let full = page.book(growing).line(&[1, 0]).budget(u32::MAX);
+    let (spent, cut) = (page.budget(1), page.units(2));
     [page, spent, full, cut, page]
 }
 
@@ -46,22 +41,6 @@ fn growing_book() -> Vec<u8> {
 fn lengths_are_those_of_the_linked_library() {
     assert_eq!(raw::work_length(), WORK_LENGTH);
     assert_eq!(raw::output_length(), OUTPUT_LENGTH);
-}
-
-#[test]
-fn the_header_says_the_same_lengths() {
-    let header = include_str!("../include/kurvneist.h");
-    let lengths = [
-        ("WORK_LENGTH", WORK_LENGTH),
-        ("OUTPUT_LENGTH", OUTPUT_LENGTH),
-        ("LONGEST_BOOK", LONGEST_BOOK),
-    ];
-    for (name, length) in lengths {
-        let line = format!("#define KURVNEIST_{name} {length}");
-        assert!(header.lines().any(|found| found == line), "{line}");
-    }
-    let line = format!("    KURVNEIST_ANSWER_LENGTH = {}", raw::ANSWER_LENGTH);
-    assert!(header.lines().any(|found| found == line), "{line}");
 }
 
 #[test]
@@ -116,10 +95,7 @@ fn an_engine_posts_line_after_line() {
         let posting = engine.post(&request).expect("nothing to refuse");
         assert_eq!((posting.answer, posting.term), (answer, &term[..]));
         // A refusal in between leaves no trace.
-        let refused = Request {
-            units: 9,
-            ..request
-        };
+        let refused = request.units(9);
         assert_eq!(engine.post(&refused).unwrap_err().number(), 13);
     }
 }
@@ -130,12 +106,10 @@ fn every_schedule_that_finishes_gives_the_same_posting() {
     let line = [2, 2, 1, 1, 0, 1, 0, 2, 1, 0, 2, 1, 1, 1, 0, 2, 1, 0, 1, 0];
     for units in 1..=8 {
         let schedule = round_robin(units, 5000);
-        let request = Request {
-            line: &line,
-            units,
-            budget: u32::MAX,
-            ..page(&book, &schedule)
-        };
+        let request = page(&book, &schedule)
+            .line(&line)
+            .units(units)
+            .budget(u32::MAX);
         let (answer, term) = run(&request, &mut junk(WORK_LENGTH), OUTPUT_LENGTH);
         assert_eq!((answer.ending, answer.rewrites), (Ending::Finished, 15));
         assert_eq!(

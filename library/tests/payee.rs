@@ -23,10 +23,7 @@ fn with_arity(place: usize, arity: u8) -> Vec<u8> {
 }
 
 fn request<'a>(book: &'a [u8], text: &'a [u8], schedule: &'a [u8]) -> Request<'a> {
-    Request {
-        line: text,
-        ..page(book, schedule)
-    }
+    page(book, schedule).line(text)
 }
 
 /// Runs in buffers full of junk; sees that the work area is then zero and the output changed at its front only.
@@ -79,10 +76,7 @@ fn a_run_from_a_text_is_that_of_its_term() {
     // A(X) gives X.
     let book = class_book(&[(&[op(1), X], &[X])]);
     let of_text = request(&book, b"\xC5 bad", &[0; 40]);
-    let of_term = Request {
-        line: &[1, 42, 2, 1, 4, 0],
-        ..of_text
-    };
+    let of_term = of_text.line(&[1, 42, 2, 1, 4, 0]);
     let (answer, term) = run(&of_text);
     assert_eq!((answer.ending, answer.rewrites), (Ending::Finished, 2));
     assert_eq!(term, [42, 2, 4, 0]);
@@ -181,10 +175,7 @@ fn places_from_top_to_bottom() {
     let (lacking, sound) = (with_arity(42, 0), class_book(&[]));
     let long = [b'a'; 1024];
     let refused = |due, units, book: &[u8], text: &[u8], work, output| {
-        let request = Request {
-            units,
-            ..request(book, text, &[9])
-        };
+        let request = request(book, text, &[9]).units(units);
         check_refused(due, &request, work, output);
     };
     refused(13, 0, &[], &long, 0, 0);

@@ -3,7 +3,9 @@
 mod common;
 
 use common::*;
-use kurvneist::{raw, reduce, write_book, Refusal, Request, OUTPUT_LENGTH, WORK_LENGTH};
+use kurvneist::{
+    raw, reduce, write_book, Ending, Engine, Refusal, Request, OUTPUT_LENGTH, WORK_LENGTH,
+};
 
 /// A book for each refusal of the book's places.
 fn faulty_books() -> Vec<(u8, Vec<u8>)> {
@@ -93,10 +95,7 @@ fn lines_10_to_12() {
         (12, &[0; 5000]),
     ];
     for (due, line) in lines {
-        let request = Request {
-            line,
-            ..page(&book, &[0; 29])
-        };
+        let request = page(&book, &[0; 29]).line(line);
         check_refused_in_sound_frame(due, &request);
     }
 }
@@ -105,10 +104,7 @@ fn lines_10_to_12() {
 fn units_13() {
     let book = book_p();
     for units in [0, 9, 255] {
-        let request = Request {
-            units,
-            ..page(&book, &[0; 29])
-        };
+        let request = page(&book, &[0; 29]).units(units);
         check_refused_in_sound_frame(13, &request);
     }
 }
@@ -144,13 +140,8 @@ fn outputs_16() {
 #[test]
 fn places_from_top_to_bottom() {
     let (book, empty) = (book_p(), []);
-    let request = |units, book, line, schedule| Request {
-        book,
-        line,
-        units,
-        budget: 9,
-        schedule,
-    };
+    let request =
+        |units, book, line, schedule| Request::new(book, line).units(units).schedule(schedule);
     let (long, short) = ([255; 1025], [0, 255]);
     check_refused(13, &request(0, &empty, &long, &[9]), 0, 0);
     check_refused(15, &request(1, &empty, &long, &[9]), WORK_LENGTH - 1, 0);
@@ -165,9 +156,10 @@ fn places_from_top_to_bottom() {
 
 #[test]
 fn refusals_in_words() {
-    for number in 1..=19 {
-        let refusal = Refusal::new(number).expect("1 to 19 are refusals");
+    assert_eq!(Refusal::ALL.len(), 19);
+    for (number, &refusal) in (1..).zip(Refusal::ALL) {
         assert_eq!(refusal.number(), number);
+        assert_eq!(Refusal::new(number), Some(refusal));
         assert_eq!(
             refusal.to_string(),
             format!("refused {number}: {}", refusal.condition())
@@ -182,9 +174,30 @@ fn refusals_in_words() {
         [None; 3],
         "other numbers are none"
     );
-    let error: Box<dyn std::error::Error> = Refusal::new(12).unwrap().into();
+    let error: Box<dyn std::error::Error> = Refusal::LineTooLong.into();
     assert_eq!(
         error.to_string(),
         "refused 12: the line has over 1,024 bytes"
     );
+    // What a `main` that returns it shows.
+    assert_eq!(format!("{error:?}"), "LineTooLong");
+}
+
+/// A request that says nothing more checks the book and the line, and makes no rewrite.
+#[test]
+fn a_new_request_has_one_unit_and_no_entry() {
+    let book = book_p();
+    let request = Request::new(&book, &LINE_P);
+    assert_eq!((request.units, request.budget), (1, u32::MAX));
+    let mut engine = Engine::new();
+    let posting = engine.post(&request).unwrap();
+    assert_eq!(
+        (posting.answer.ending, posting.answer.entries),
+        (Ending::Cut, 0)
+    );
+    assert_eq!(posting.term, LINE_P);
+    let refused = engine
+        .post(&request.book(&[0]))
+        .map(|posting| posting.answer);
+    assert_eq!(refused, Err(Refusal::NoOperator));
 }

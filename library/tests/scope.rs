@@ -19,15 +19,10 @@ fn refused<T>(result: Result<T, Refusal>) -> Option<u8> {
 
 #[test]
 fn page_of_the_document() {
-    let due = Answer {
-        ending: Ending::Finished,
-        rewrites: 2,
-        entries: 29,
-        granted: 0,
-        kept: 2,
-        length: 3,
-    };
-    assert_eq!(posted(&page(&book_p(), &[0; 29])), (due, vec![1, 1, 0]));
+    let (answer, term) = posted(&page(&book_p(), &[0; 29]));
+    assert_eq!((answer.ending, answer.entries), (Ending::Finished, 29));
+    assert_eq!((answer.rewrites, answer.granted, answer.kept), (2, 0, 2));
+    assert_eq!((answer.length, term), (3, vec![1, 1, 0]));
 }
 
 #[test]
@@ -41,10 +36,7 @@ fn one_entry_less_is_cut() {
 #[test]
 fn budget_of_one_is_spent() {
     let book = book_p();
-    let (answer, term) = posted(&Request {
-        budget: 1,
-        ..page(&book, &[0; 29])
-    });
+    let (answer, term) = posted(&page(&book, &[0; 29]).budget(1));
     assert_eq!(answer.ending, Ending::Spent);
     assert_eq!((answer.rewrites, answer.entries, answer.kept), (1, 23, 2));
     assert_eq!(term, [1, 2, 0, 1, 0]);
@@ -53,10 +45,7 @@ fn budget_of_one_is_spent() {
 #[test]
 fn main_unit_waits_for_a_unit_that_never_acts() {
     let book = book_p();
-    let (answer, term) = posted(&Request {
-        units: 2,
-        ..page(&book, &[0; 100])
-    });
+    let (answer, term) = posted(&page(&book, &[0; 100]).units(2));
     assert_eq!((answer.ending, answer.entries), (Ending::Cut, 100));
     assert_eq!((answer.rewrites, answer.granted, answer.kept), (0, 1, 0));
     assert_eq!(term, LINE_P);
@@ -67,10 +56,7 @@ fn join_passes_at_entry_thirteen() {
     let book = book_p();
     let schedule = [round_robin(2, 13), vec![0]].concat();
     let up_to = |entries: usize| {
-        let request = Request {
-            units: 2,
-            ..page(&book, &schedule[..entries])
-        };
+        let request = page(&book, &schedule[..entries]).units(2);
         posted(&request).0
     };
     let thirteen = up_to(13);
@@ -100,12 +86,12 @@ fn schedules(units: u8) -> Vec<Vec<u8>> {
 fn granted_and_kept_are_the_forks_of_one_unit() {
     let book = book_p();
     let counts = |line, units, schedule: &[u8]| {
-        let (answer, _) = posted(&Request {
-            line,
-            units,
-            budget: u32::MAX,
-            ..page(&book, schedule)
-        });
+        let (answer, _) = posted(
+            &page(&book, schedule)
+                .line(line)
+                .units(units)
+                .budget(u32::MAX),
+        );
         assert_eq!(answer.ending, Ending::Finished);
         (answer.granted, answer.kept)
     };
@@ -150,10 +136,7 @@ fn the_two_settled_lists() {
 fn small_books_byte_by_byte() {
     let constant = [0x01, 0x00, 0x00];
     assert_eq!(written_book(&constant), Ok(constant.to_vec()));
-    let (answer, term) = posted(&Request {
-        line: &[0],
-        ..page(&constant, &[0; 9])
-    });
+    let (answer, term) = posted(&page(&constant, &[0; 9]).line(&[0]));
     assert_eq!((answer.ending, answer.rewrites), (Ending::Finished, 0));
     assert_eq!((answer.entries, term), (3, vec![0]));
     assert_eq!(
@@ -167,17 +150,12 @@ fn small_books_byte_by_byte() {
 fn lines_of_1024_and_1025_symbols() {
     let book = book_p();
     let line = |length: usize| [vec![1; length - 1], vec![0]].concat();
-    let request = Request {
-        line: &line(1024),
-        ..page(&book, &[0; 32_768])
-    };
+    let (longest, longer) = (line(1024), line(1025));
+    let request = page(&book, &[0; 32_768]).line(&longest);
     let (answer, term) = posted(&request);
     assert_eq!((answer.ending, answer.length), (Ending::Finished, 1024));
-    assert_eq!(term, line(1024));
-    let longer = Request {
-        line: &line(1025),
-        ..request
-    };
+    assert_eq!(term, longest);
+    let longer = request.line(&longer);
     assert_eq!(refused(Engine::new().post(&longer)), Some(12));
 }
 
@@ -197,10 +175,7 @@ fn sides_of_64_and_65_symbols() {
 fn units_of_0_and_9() {
     let book = book_p();
     let with = |units| {
-        let request = Request {
-            units,
-            ..page(&book, &[0; 29])
-        };
+        let request = page(&book, &[0; 29]).units(units);
         refused(Engine::new().post(&request))
     };
     assert_eq!([0, 1, 8, 9].map(with), [Some(13), None, None, Some(13)]);
@@ -215,16 +190,10 @@ fn full_counts_every_copy() {
     );
     let line = |part: usize| [vec![1], vec![3; part - 1], vec![0]].concat();
     // 1 + 2 * 511 = 1023 symbols fit, 1 + 2 * 512 = 1025 do not.
-    let (fits, _) = posted(&Request {
-        line: &line(511),
-        ..page(&book, &[0; 9])
-    });
+    let (fits, _) = posted(&page(&book, &[0; 9]).line(&line(511)));
     assert_eq!((fits.ending, fits.rewrites), (Ending::Finished, 1));
     assert_eq!(fits.length, 1023);
-    let (full, term) = posted(&Request {
-        line: &line(512),
-        ..page(&book, &[0; 9])
-    });
+    let (full, term) = posted(&page(&book, &[0; 9]).line(&line(512)));
     assert_eq!((full.ending, full.rewrites), (Ending::Full, 0));
     assert_eq!((full.entries, term), (2, line(512)));
 }

@@ -27,8 +27,8 @@ pub fn letter(character: char) -> Option<&'static str> {
 
 /// A refusal in words, and what mends a book without letters.
 pub fn told(refusal: &Refusal) -> String {
-    match refusal.number() {
-        19 => format!("{refusal}; 'op {KEYWORD}' declares them"),
+    match refusal {
+        Refusal::NoLetters => format!("{refusal}; 'op {KEYWORD}' declares them"),
         _ => refusal.to_string(),
     }
 }

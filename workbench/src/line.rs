@@ -1,10 +1,11 @@
 //! Lines: terms typed by the operators' names, and payees as they are typed.
 
+use crate::compose::is_loose_accent;
 use crate::mistake::{Mistake, Span};
 use crate::names::Names;
-use crate::text::lexer::is_loose_accent;
 use crate::text::parser::{loose_accent, parse_term};
 use crate::text::sides::{arguments, unknown};
+use crate::told::with_code_point;
 
 /// The line's symbols. Its length is the engine's to judge.
 pub fn read(text: &str, names: &Names) -> Result<Vec<u8>, Mistake> {
@@ -42,7 +43,6 @@ fn not_latin1(character: char, span: Span) -> Mistake {
         let (wrong, expected) = loose_accent(character);
         return Mistake::new(span, wrong, expected);
     }
-    let code = u32::from(character);
-    let wrong = format!("ISO 8859-1 does not have '{character}' (U+{code:04X})");
+    let wrong = format!("ISO 8859-1 does not have {}", with_code_point(character));
     Mistake::new(span, wrong, "a payee in characters that it has")
 }

@@ -3,10 +3,5 @@
 use std::process::ExitCode;
 
 fn main() -> ExitCode {
-    let arguments = std::env::args_os().skip(1);
-    workbench::cli::main(
-        arguments
-            .map(|argument| argument.to_string_lossy().into_owned())
-            .collect(),
-    )
+    workbench::cli::main(std::env::args_os().skip(1).collect())
 }

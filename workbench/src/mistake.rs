@@ -2,6 +2,9 @@
 
 use std::fmt::Write;
 
+use crate::told::is_zero_width;
+use crate::width::{cells, width};
+
 /// Bytes `start..end` of a source.
 #[derive(Clone, Copy, Debug, PartialEq, Eq)]
 pub struct Span {
@@ -62,8 +65,12 @@ impl Mistake {
         let written = source.lines().nth(line - 1).unwrap_or("");
         let marked = source[self.span.start..self.span.end].chars().count();
         let (shown, from) = window(written, column - 1);
-        let indent = column - 1 - from;
-        let carets = marked.clamp(1, (shown.chars().count() - indent).max(1));
+        let (before, behind) = shown.split_at(shown.len().min(column - 1 - from));
+        // What stands on the character before it is marked there.
+        let standing = behind.first().is_some_and(|first| width(*first) == 0);
+        let indent = cells(before).saturating_sub(usize::from(standing));
+        let carets = cells(&behind[..marked.min(behind.len())]).max(1);
+        let shown: String = shown.iter().collect();
         let margin = line.to_string().len().max(4);
         format!(
             "{name}:{line}:{column}: {}\n{line:>margin$} | {shown}\n{:>margin$} | {}{}\n",
@@ -75,22 +82,49 @@ impl Mistake {
     }
 }
 
-/// Of a long line, so many characters are shown.
+/// Of a long line, so many cells are shown.
 const WIDEST: usize = 120;
 
 /// The characters of a line that are shown around a place, and which is first.
-fn window(line: &str, place: usize) -> (String, usize) {
-    let from = match line.chars().count() > WIDEST {
-        true => place.saturating_sub(WIDEST / 2),
-        false => 0,
-    };
-    let printable = |character: char| match character {
+fn window(line: &str, place: usize) -> (Vec<char>, usize) {
+    let characters: Vec<char> = line.chars().map(printable).collect();
+    if cells(&characters) <= WIDEST {
+        return (characters, 0);
+    }
+    let place = place.min(characters.len());
+    let before = fitting(characters[..place].iter().rev(), WIDEST / 2);
+    let from = place - before;
+    let count = fitting(characters[from..].iter(), WIDEST);
+    (characters[from..from + count].to_vec(), from)
+}
+
+/// How many of the characters go into so many cells.
+fn fitting<'c>(characters: impl Iterator<Item = &'c char>, room: usize) -> usize {
+    let mut taken = 0;
+    characters
+        .take_while(|character| {
+            taken += width(**character);
+            taken <= room
+        })
+        .count()
+}
+
+/// A character that a line of a terminal can show, for one that it can't.
+fn printable(character: char) -> char {
+    match character {
         '\t' => ' ',
-        _ if character.is_control() => '\u{fffd}',
+        _ if character.is_control() || is_zero_width(character) => '\u{fffd}',
         _ => character,
-    };
-    let shown = line.chars().skip(from).take(WIDEST).map(printable);
-    (shown.collect(), from)
+    }
+}
+
+/// A byte's place as it is told from another one: its line only if they differ.
+pub fn place_from(source: &str, from: usize, offset: usize) -> String {
+    let (line, column) = place_of(source, offset);
+    match place_of(source, from).0 == line {
+        true => format!("in column {column}"),
+        false => format!("in line {line}, column {column}"),
+    }
 }
 
 /// The line and column of a byte.

@@ -1,4 +1,5 @@
-//! The operators' names and arities: what a packed book doesn't keep.
+//! The operators' names and arities, and the variables' names: what a packed
+//! book doesn't keep.
 
 use std::collections::HashMap;
 
@@ -10,6 +11,8 @@ use crate::letters;
 pub struct Names {
     operators: Vec<(String, u8)>,
     numbers: HashMap<String, u8>,
+    /// Of each rule, its variables by number.
+    variables: Vec<HashMap<u8, String>>,
 }
 
 impl Names {
@@ -18,6 +21,38 @@ impl Names {
         let number = u8::try_from(self.operators.len()).expect("at most 255 operators");
         self.numbers.insert(name.to_owned(), number);
         self.operators.push((name.to_owned(), arity));
+    }
+
+    /// The names of the next rule's variables.
+    pub fn add_rule(&mut self, variables: HashMap<u8, String>) {
+        self.variables.push(variables);
+    }
+
+    /// The rules are another book's.
+    pub fn without_variables(self) -> Names {
+        Names {
+            variables: Vec::new(),
+            ..self
+        }
+    }
+
+    /// A variable of a rule, counted from 0, as the text calls it; made up
+    /// where there is none.
+    pub fn variable(&self, rule: usize, number: u8) -> String {
+        let called = self.variables.get(rule).and_then(|own| own.get(&number));
+        called.cloned().unwrap_or_else(|| {
+            let prefix = self.variable_prefix();
+            format!("{prefix}{number}")
+        })
+    }
+
+    /// Made-up variables are called by this and their number; no operator is.
+    pub fn variable_prefix(&self) -> String {
+        let mut prefix = String::from("X");
+        while (0..16).any(|number| self.number(&format!("{prefix}{number}")).is_some()) {
+            prefix.push('_');
+        }
+        prefix
     }
 
     /// f0, f1 and so on, for a book that comes without names.

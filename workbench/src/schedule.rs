@@ -1,5 +1,9 @@
 //! Schedules said in few words.
 
+use std::ffi::OsStr;
+use std::os::unix::ffi::OsStrExt;
+use std::path::Path;
+
 use comparison::random::Random;
 
 /// The forms of a schedule, for the help.
@@ -12,23 +16,55 @@ pub const FORMS: &str = "  round-robin:N     units 0, 1, .. in turn, N entries i
 /// The most entries that a schedule given by a number may have.
 const MOST: usize = 1 << 24;
 
+/// The file's name in `file:NAME`, which need not be UTF-8.
+pub fn file(form: &OsStr) -> Option<&OsStr> {
+    form.as_bytes()
+        .strip_prefix(b"file:")
+        .map(OsStr::from_bytes)
+}
+
+/// Why a form gives no schedule.
+#[derive(Debug)]
+pub enum Wrong {
+    Form(String),
+    /// A file that can't be read.
+    File(String),
+}
+
+impl From<String> for Wrong {
+    fn from(wrong: String) -> Wrong {
+        Wrong::Form(wrong)
+    }
+}
+
 /// The entries that `form` says for so many units.
-pub fn read(form: &str, units: u8) -> Result<Vec<u8>, String> {
-    let parts: Vec<&str> = form.split(':').collect();
-    let schedule = match parts[..] {
-        ["round-robin", length] => bursts(units, 1, number(length, MOST)?),
-        ["bursts", burst, length] => bursts(units, number(burst, MOST)?, number(length, MOST)?),
-        ["random", seed, length] => random(units, seed, number(length, MOST)?)?,
-        ["file", name] => std::fs::read(name).map_err(|error| format!("{name}: {error}"))?,
-        [list] => entries(list)?,
-        _ => return Err(format!("'{form}' is no schedule; the forms are\n{FORMS}")),
+pub fn read(form: impl AsRef<OsStr>, units: u8) -> Result<Vec<u8>, Wrong> {
+    let form = form.as_ref();
+    let schedule = match file(form).map(Path::new) {
+        Some(name) => std::fs::read(name)
+            .map_err(|error| Wrong::File(format!("{}: {error}", name.display())))?,
+        None => said(&form.to_string_lossy(), units)?,
     };
     match schedule.iter().find(|unit| **unit >= units) {
-        Some(unit) => Err(format!(
+        Some(unit) => Err(Wrong::Form(format!(
             "an entry names unit {unit}; expected units 0 to {} (refusal 14)",
             units - 1
-        )),
+        ))),
         None => Ok(schedule),
+    }
+}
+
+fn said(form: &str, units: u8) -> Result<Vec<u8>, String> {
+    let parts: Vec<&str> = form.split(':').collect();
+    match parts[..] {
+        ["round-robin", length] => Ok(bursts(units, 1, number(length, MOST)?)),
+        ["bursts", burst, length] => {
+            let (burst, length) = (number(burst, MOST)?, number(length, MOST)?);
+            Ok(bursts(units, burst, length))
+        }
+        ["random", seed, length] => random(units, seed, number(length, MOST)?),
+        [list] => entries(list),
+        _ => Err(format!("'{form}' is no schedule; the forms are\n{FORMS}")),
     }
 }
 

@@ -6,8 +6,10 @@ use common::{file, kurvneist, kurvneist_with};
 use comparison::random::Random;
 use kurvneist::{Ending, Engine, Request};
 use workbench::batch::{run, Settings};
+use workbench::items::Reading;
 use workbench::line;
-use workbench::progress::{bar, Progress};
+use workbench::posting::Schedules;
+use workbench::progress::Progress;
 use workbench::text::check;
 use workbench::text::printer;
 
@@ -32,26 +34,36 @@ fn random_line(random: &mut Random) -> Vec<u8> {
 #[test]
 fn output_line_k_belongs_to_input_line_k() {
     let named = check::read(BOOK).unwrap();
-    let schedule = [0, 1, 2].repeat(2000);
-    let settings = Settings {
+    let schedules = Schedules::new(3, Some([0, 1, 2].repeat(2000)));
+    let reading = Reading::lines();
+    let settings = |jobs| Settings {
         named: &named,
-        units: 3,
         budget: 5,
-        schedule: &schedule,
+        schedules: &schedules,
         counts: false,
-        latin1: false,
+        reading: &reading,
+        json: false,
+        profile: None,
+        jobs,
     };
     let mut random = Random::new(5);
-    for ending in ["", "\n", "\r\n"] {
+    for (ending, jobs) in [("", 1), ("\n", 1), ("\r\n", 1), ("\n", 2), ("\r\n", 5)] {
+        let settings = settings(jobs);
         let lines: Vec<Vec<u8>> = (0..300).map(|_| random_line(&mut random)).collect();
         let separator = if ending == "\r\n" { "\r\n" } else { "\n" };
         let mut input = lines.join(separator.as_bytes());
         input.extend(ending.as_bytes());
         let last_lost = ending.is_empty() && lines.last().is_some_and(Vec::is_empty);
         let mut output = Vec::new();
-        let summary = run(&input, &settings, &mut output, &mut Progress::hidden()).unwrap();
+        let summary = run(
+            &mut &input[..],
+            &settings,
+            &mut output,
+            &mut Progress::hidden(),
+        )
+        .unwrap();
         let output = String::from_utf8(output).unwrap();
-        let told: Vec<&str> = output.split('\n').collect();
+        let told: Vec<&str> = output.split(separator).collect();
         assert_eq!(told.len(), 301 - usize::from(last_lost));
         for (line, told) in lines.iter().zip(&told) {
             assert_eq!(
@@ -71,8 +83,8 @@ fn output_line_k_belongs_to_input_line_k() {
 /// What a line gives by itself, in an engine of its own.
 fn alone(line: &[u8], settings: &Settings) -> String {
     let Ok(text) = std::str::from_utf8(line) else {
-        let expected = "! column 13: the byte E9 is not UTF-8; expected UTF-8, or --latin1";
-        return expected.into();
+        let expected = "UTF-8, or --encoding with the file's";
+        return format!("! column 13: the byte E9 is not UTF-8; expected {expected}");
     };
     if text.trim_start().is_empty() || text.trim_start().starts_with('#') {
         return text.into();
@@ -84,13 +96,11 @@ fn alone(line: &[u8], settings: &Settings) -> String {
         }
     };
     let mut engine = Engine::new();
-    let request = Request {
-        book: &settings.named.book,
-        line: &symbols,
-        units: settings.units,
-        budget: settings.budget,
-        schedule: settings.schedule,
-    };
+    let schedule = [0, 1, 2].repeat(2000);
+    let request = Request::new(&settings.named.book, &symbols)
+        .units(3)
+        .budget(settings.budget)
+        .schedule(&schedule);
     match engine.post(&request) {
         Err(refusal) => format!("! {refusal}"),
         Ok(posting) => {
@@ -164,7 +174,7 @@ fn a_file_may_begin_with_a_mark() {
     let ran = kurvneist_with(&["batch", "examples/ticks.book", "-"], input.as_bytes());
     assert_eq!(
         (ran.status, ran.output.as_str()),
-        (0, "\u{feff}# note\nend\n")
+        (0, "\u{feff}# note\r\nend\r\n")
     );
     let book = file("marked.book", "\u{feff}op a/0\r\nrule a = a\r\n");
     assert_eq!(kurvneist(&["book", &book]).status, 0);
@@ -184,14 +194,4 @@ fn lines_in_latin1() {
     );
     let ran = kurvneist_with(&[&plain[..], &["--latin1"]].concat(), input);
     assert_eq!((ran.status, ran.output.as_str()), (0, "8400-Weiß-2.OG\n"));
-}
-
-#[test]
-fn the_bar_fills_up() {
-    assert_eq!(bar(0, 4, ""), format!("[{}] 0 of 4", " ".repeat(30)));
-    assert_eq!(
-        bar(2, 4, " lines"),
-        format!("[{}{}] 2 of 4 lines", "=".repeat(15), " ".repeat(15))
-    );
-    assert_eq!(bar(0, 0, ""), format!("[{}] 0 of 0", "=".repeat(30)));
 }

@@ -58,7 +58,17 @@ fn the_helps_example_is_a_book() {
 const WRONG: &[(&[&str], &str)] = &[
     (
         &["bok", "x"],
-        "'bok' is no command; expected book, text, post, trace, batch or help",
+        "'bok' is no command; expected book, text, check, post, explain, trace, batch or help",
+    ),
+    (&["bok", "x"], "; did you mean 'book'?"),
+    (&["halp"], "; did you mean 'help'?"),
+    (
+        &["post", "x", "y", "--unit=2"],
+        "'--unit' is no option of this command; did you mean '--units'?",
+    ),
+    (
+        &["batch", "x", "y", "--colunm", "2"],
+        "'--colunm' is no option of this command; did you mean '--column'?",
     ),
     (&["book"], "TEXT is missing"),
     (&["post", "x"], "LINE is missing"),
@@ -107,9 +117,77 @@ const WRONG: &[(&[&str], &str)] = &[
     ),
 ];
 
+/// The same, for files that are named twice or for nothing.
+const LOSING: &[(&[&str], &str)] = &[
+    (
+        &["batch", "-", "-"],
+        "BOOK and LINES are both standard input",
+    ),
+    (
+        &["text", "-", "--names", "-"],
+        "BOOK and --names are both standard input",
+    ),
+    (
+        &["trace", "x", "y", "--no-text"],
+        "--no-text leaves nothing to write; expected --svg FILE",
+    ),
+    (
+        &["trace", "x", "y", "--no-text", "--svg", "a", "-o", "b"],
+        "-o is for the text, which --no-text leaves out",
+    ),
+    (
+        &["trace", "x", "y", "--svg", "-"],
+        "the text and the picture both go to standard output",
+    ),
+    (
+        &["trace", "x", "y", "--svg=-", "-o", "-"],
+        "--svg - and -o - are one file",
+    ),
+    (
+        &["trace", "x", "y", "--svg", "a", "-o", "./a"],
+        "--svg a and -o ./a are one file",
+    ),
+    (
+        &["trace", "x", "y", "--svg", "a", "-o", "examples/../a"],
+        "are one file",
+    ),
+    (
+        &["trace", "x", "y", "--no-text", "--svg", "a", "--rules-only"],
+        "--rules-only is for the text, which --no-text leaves out",
+    ),
+    (
+        &["batch", "x", "y", "--profile", "-"],
+        "the postings and the profile both go to standard output; expected -o FILE",
+    ),
+    (
+        &["batch", "x", "y", "--profile", "a", "-o", "./a"],
+        "-o ./a and --profile a are one file",
+    ),
+    (
+        &["batch", "x", "y", "--jobs", "0"],
+        "--jobs 0: expected a number from 1 to 256",
+    ),
+    (
+        &["batch", "x", "y", "--jobs", "257"],
+        "expected a number from 1 to 256",
+    ),
+];
+
+/// Help, tour and README say the same.
+#[test]
+fn the_exit_statuses_are_documented_once() {
+    let table = workbench::cli::help::STATUS.trim_end();
+    let (_, table) = table.split_once('\n').unwrap();
+    assert!(kurvneist(&["--help"]).output.contains(table));
+    for page in ["TOUR.md", "../README.md"] {
+        let text = std::fs::read_to_string(page).unwrap();
+        assert!(text.contains(table), "{page}");
+    }
+}
+
 #[test]
 fn wrong_command_lines_are_told() {
-    for (arguments, told) in WRONG {
+    for (arguments, told) in WRONG.iter().chain(LOSING) {
         let ran = kurvneist(arguments);
         assert_eq!((ran.status, ran.output.as_str()), (2, ""), "{arguments:?}");
         assert!(ran.errors.contains(told), "{arguments:?}\n{}", ran.errors);

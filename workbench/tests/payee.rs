@@ -23,13 +23,7 @@ fn lettered(more: &str) -> check::Named {
 
 /// The engine's term of a text.
 fn term(named: &check::Named, text: &[u8]) -> Vec<u8> {
-    let request = Request {
-        book: &named.book,
-        line: text,
-        units: 1,
-        budget: 0,
-        schedule: &[],
-    };
+    let request = Request::new(&named.book, text);
     Engine::new().post_payee(&request).unwrap().term.to_vec()
 }
 
@@ -306,13 +300,11 @@ fn traces_of_random_texts_equal_the_engine() {
     let (mut traced, mut refused, mut rewrites) = (0, 0, 0);
     for number in 0..200 {
         let case = text_case(&mut Random::for_case(18, number));
-        let request = Request {
-            book: &case.book(),
-            line: &case.line,
-            units: case.units,
-            budget: case.budget,
-            schedule: &case.schedule[..case.schedule.len().min(ENTRIES)],
-        };
+        let book = case.book();
+        let request = Request::new(&book, &case.line)
+            .units(case.units)
+            .budget(case.budget)
+            .schedule(&case.schedule[..case.schedule.len().min(ENTRIES)]);
         match trace::run_form(Form::Text, &request, 1, &mut Progress::hidden()) {
             Ok(trace) => {
                 traced += 1;
@@ -385,9 +377,9 @@ fn payees_in_latin1() {
         (0, "Café-Étoile\nWeiß\ny(end)\n")
     );
     let ran = kurvneist_with(&["batch", PAYEES, "-", "--payee"], input);
-    assert!(ran
-        .output
-        .starts_with("! column 4: the byte E9 is not UTF-8; expected UTF-8, or --latin1\n"));
+    assert!(ran.output.starts_with(
+        "! column 4: the byte E9 is not UTF-8; expected UTF-8, or --encoding with the file's\n"
+    ));
 }
 
 #[test]

@@ -29,13 +29,10 @@ fn runs(mut with: impl FnMut(&Named, &Request, Trace)) {
             rule_lines: Vec::new(),
         };
         let schedule = &case.schedule[..case.schedule.len().min(ENTRIES)];
-        let request = Request {
-            book: &named.book,
-            line: &case.line,
-            units: case.units,
-            budget: case.budget,
-            schedule,
-        };
+        let request = Request::new(&named.book, &case.line)
+            .units(case.units)
+            .budget(case.budget)
+            .schedule(schedule);
         match trace::run(&request, 1, &mut Progress::hidden()) {
             Ok(trace) => with(&named, &request, trace),
             Err(Failure::Refused(_)) => {}
@@ -123,13 +120,11 @@ fn well_formed(picture: &str) {
 fn a_difference_stops_the_trace() {
     let named = check::read(&std::fs::read_to_string("examples/ticks.book").unwrap()).unwrap();
     let line = line::read("both(tick(end), tick(end))", &named.names).unwrap();
-    let request = Request {
-        book: &named.book,
-        line: &line,
-        units: 2,
-        budget: 9,
-        schedule: &[0, 1].repeat(40),
-    };
+    let schedule = [0, 1].repeat(40);
+    let request = Request::new(&named.book, &line)
+        .units(2)
+        .budget(9)
+        .schedule(&schedule);
     let lies: [fn(&mut Told); 6] = [
         |told| told.term[0] = 0,
         |told| told.rewrites += 1,

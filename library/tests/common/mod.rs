@@ -92,13 +92,7 @@ pub const LINE_P: [u8; 5] = [2, 1, 0, 1, 0];
 
 /// The page's request but for its schedule.
 pub fn page<'a>(book: &'a [u8], schedule: &'a [u8]) -> Request<'a> {
-    Request {
-        book,
-        line: &LINE_P,
-        units: 1,
-        budget: 9,
-        schedule,
-    }
+    Request::new(book, &LINE_P).budget(9).schedule(schedule)
 }
 
 /// Bytes that no function would write by chance.

@@ -1,48 +1,63 @@
 //! What each command does.
 
+use std::ffi::OsStr;
+use std::io;
+use std::path::Path;
+
 use comparison::model::{self, Form};
-use kurvneist::{Ending, Engine, Request};
+use kurvneist::{Ending, Engine, Refusal, Request};
 
 use crate::batch;
 use crate::cli::files;
 use crate::cli::options::Parsed;
-use crate::cli::{Status, Stop};
+use crate::cli::reading;
+use crate::cli::{say, Status, Stop};
+use crate::compose::composed;
+use crate::items::{BadHeader, Reason};
+use crate::json::Json;
 use crate::letters;
 use crate::line;
 use crate::names::Names;
+use crate::outcome::Outcome;
+use crate::output::Output;
+use crate::posting::{Posted, Schedules};
+use crate::profile::Profile;
 use crate::progress::Progress;
 use crate::text::check::{self, Named};
 use crate::text::printer;
+use crate::told::counted;
 use crate::trace;
 
-fn usage(wrong: String) -> Stop {
+pub fn usage(wrong: String) -> Stop {
     Stop::new(Status::Usage, format!("kurvneist: {wrong}"))
 }
 
 pub fn book(parsed: &Parsed) -> Result<Status, Stop> {
     let name = &parsed.arguments[0];
-    let named = files::named_text(name)?;
-    match parsed.value("-o") {
+    let named = files::named_text(name, parsed.encoding("--encoding").map_err(usage)?)?;
+    match parsed.name("-o") {
         Some(output) => files::write(output, &named.book)?,
-        None => files::print(contents(name, &named).as_bytes())?,
+        None => files::print(contents(Path::new(name), &named).as_bytes())?,
     }
     Ok(Status::Done)
 }
 
-fn contents(name: &str, named: &Named) -> String {
+fn contents(name: &Path, named: &Named) -> String {
+    let name = name.display();
     let read = model::read_book(&named.book).expect("what the proved writer wrote can be read");
     format!(
-        "{name}: {} operators, {} rules, {} bytes packed\n",
-        read.operators.len(),
-        read.rules.len(),
-        named.book.len()
+        "{name}: {}, {}, {} packed\n",
+        counted(read.operators.len() as u64, "operator", "operators"),
+        counted(read.rules.len() as u64, "rule", "rules"),
+        counted(named.book.len() as u64, "byte", "bytes")
     )
 }
 
 /// The text is read back before it is shown: it must give the book again.
 pub fn text(parsed: &Parsed) -> Result<Status, Stop> {
-    let (name, names) = (&parsed.arguments[0], parsed.value("--names"));
-    let named = files::named_packed(name, names, Names::generated)?;
+    let (name, names) = (&parsed.arguments[0], parsed.name("--names"));
+    let encoding = parsed.encoding("--encoding").map_err(usage)?;
+    let named = files::named_packed(name, names, encoding, Names::generated)?;
     let read = model::read_book(&named.book).expect("what the proved writer wrote can be read");
     let text = printer::book(&read, &named.names);
     match check::read(&text) {
@@ -56,7 +71,7 @@ pub fn text(parsed: &Parsed) -> Result<Status, Stop> {
 }
 
 /// What the lines of a command line are.
-fn form(parsed: &Parsed) -> Form {
+pub fn form(parsed: &Parsed) -> Form {
     match parsed.has("--payee") {
         true => Form::Text,
         false => Form::Line,
@@ -64,99 +79,178 @@ fn form(parsed: &Parsed) -> Form {
 }
 
 /// The book, line, units, budget and schedule that a command line says.
-struct Asked {
-    named: Named,
-    form: Form,
+pub struct Asked {
+    pub named: Named,
+    pub form: Form,
+    pub schedules: Schedules,
     line: Vec<u8>,
     units: u8,
     budget: u32,
-    schedule: Vec<u8>,
 }
 
 impl Asked {
-    fn read(parsed: &Parsed) -> Result<Asked, Stop> {
+    pub fn read(parsed: &Parsed) -> Result<Asked, Stop> {
         let units = parsed.units().map_err(usage)?;
         let budget = parsed.number("--budget", 0, 1_000_000).map_err(usage)?;
-        let schedule = parsed.schedule(units).map_err(usage)?;
-        let named = files::named(parsed)?;
-        let written = &parsed.arguments[1];
+        let schedules = files::schedules(parsed, units)?;
+        let named = files::named(parsed, "--encoding")?;
+        let written = files::line(&parsed.arguments[1]).map_err(|stop| {
+            let outcome = Outcome::Mistyped(Reason::whole(stop.message.clone()));
+            not_posted(parsed, &outcome, stop.message)
+        })?;
+        let written = composed(written);
         let form = form(parsed);
         let line = match form {
-            Form::Line => line::read(written, &named.names),
-            Form::Text => line::read_payee(written),
+            Form::Line => line::read(&written, &named.names),
+            Form::Text => line::read_payee(&written),
         };
-        let line =
-            line.map_err(|mistake| Stop::new(Status::NotPosted, mistake.show("LINE", written)))?;
+        let line = line.map_err(|mistake| {
+            let outcome = Outcome::mistyped(&mistake, &written);
+            not_posted(parsed, &outcome, mistake.show("LINE", &written))
+        })?;
         Ok(Asked {
             named,
             form,
             line,
             units,
             budget,
-            schedule,
+            schedules,
         })
     }
 
-    fn request(&self) -> Request<'_> {
-        Request {
-            book: &self.named.book,
-            line: &self.line,
-            units: self.units,
-            budget: self.budget,
-            schedule: &self.schedule,
+    /// By that schedule; a posting has the schedules of its own.
+    pub fn request<'a>(&'a self, schedule: &'a [u8]) -> Request<'a> {
+        Request::new(&self.named.book, &self.line)
+            .units(self.units)
+            .budget(self.budget)
+            .schedule(schedule)
+    }
+
+    /// Says that one unit made the posting in the place of several.
+    pub fn say_instead(&self, posted: &Posted) {
+        if let Some(ending) = posted.instead_of {
+            let units = self.units;
+            say(&format!(
+                "posted by one unit, since the run by {units} ended {ending}"
+            ));
         }
     }
 }
 
-fn status(ending: Ending) -> Status {
+pub fn status(ending: Ending) -> Status {
     match ending {
         Ending::Finished => Status::Done,
         _ => Status::NotPosted,
     }
 }
 
+/// A line without a run: told as a message or, with --json, as an object.
+fn not_posted(parsed: &Parsed, outcome: &Outcome, message: String) -> Stop {
+    if !parsed.has("--json") {
+        return Stop::new(Status::NotPosted, message);
+    }
+    let printed = files::print(object(outcome).as_bytes());
+    printed.err().unwrap_or(Stop::new(Status::NotPosted, ""))
+}
+
+fn object(outcome: &Outcome) -> String {
+    format!("{}\n", Json::from(outcome.fields()))
+}
+
+pub fn refused(parsed: &Parsed, refusal: Refusal) -> Stop {
+    not_posted(parsed, &Outcome::Refused(refusal), letters::told(&refusal))
+}
+
+/// A refused line, or a model that differs from the engine.
+pub fn failed(parsed: &Parsed, failure: trace::Failure) -> Stop {
+    match failure {
+        trace::Failure::Refused(refusal) => refused(parsed, refusal),
+        trace::Failure::Difference { .. } => Stop::new(Status::Difference, failure.to_string()),
+    }
+}
+
 pub fn post(parsed: &Parsed) -> Result<Status, Stop> {
     let asked = Asked::read(parsed)?;
-    let mut engine = Engine::new();
-    let posting = match asked.form {
-        Form::Line => engine.post(&asked.request()),
-        Form::Text => engine.post_payee(&asked.request()),
+    let schedules = &asked.schedules;
+    let posted = schedules.post(&mut Engine::new(), asked.form, &asked.request(&[]));
+    let posted = posted.map_err(|refusal| refused(parsed, refusal))?;
+    let answer = posted.answer;
+    let page = match parsed.has("--json") {
+        true => object(&Outcome::ran(&posted, &asked.named.names)),
+        false => format!(
+            "end {}\nrewrites {}\nentries {}\ngranted {}\nkept {}\nterm {}\n",
+            answer.ending,
+            answer.rewrites,
+            answer.entries,
+            answer.granted,
+            answer.kept,
+            printer::term(&posted.term, &asked.named.names)
+        ),
     };
-    let posting =
-        posting.map_err(|refusal| Stop::new(Status::NotPosted, letters::told(&refusal)))?;
-    let answer = posting.answer;
-    let page = format!(
-        "end {}\nrewrites {}\nentries {}\ngranted {}\nkept {}\nterm {}\n",
-        answer.ending,
-        answer.rewrites,
-        answer.entries,
-        answer.granted,
-        answer.kept,
-        printer::term(posting.term, &asked.named.names)
-    );
     files::print(page.as_bytes())?;
+    asked.say_instead(&posted);
+    if answer.ending == Ending::Cut {
+        say(&cut(answer.entries, schedules.advice()));
+    }
     Ok(status(answer.ending))
+}
+
+fn cut(entries: u64, advice: &str) -> String {
+    let entries = counted(entries, "entry", "entries");
+    format!("cut after {entries}: {advice}")
+}
+
+/// Says what to try where a run was shown and cut: without a schedule, less is
+/// shown than posted.
+pub fn say_shown_cut(parsed: &Parsed, entries: u64, schedules: &Schedules) {
+    let advice = match parsed.has("--schedule") {
+        true => schedules.advice(),
+        false => "to see more takes a --schedule, such as round-robin:1000000",
+    };
+    say(&cut(entries, advice));
+}
+
+/// That each of the text and the picture has a place of its own.
+fn check_outputs(parsed: &Parsed) -> Result<(), Stop> {
+    let picture = parsed.name("--svg");
+    let wrong = match parsed.has("--no-text") {
+        true if picture.is_none() => "--no-text leaves nothing to write; expected --svg FILE",
+        true if parsed.has("-o") => "-o is for the text, which --no-text leaves out",
+        true if parsed.has("--rules-only") => {
+            "--rules-only is for the text, which --no-text leaves out"
+        }
+        false if picture.is_some_and(|name| name == "-") && files::output_name(parsed) == "-" => {
+            "the text and the picture both go to standard output; expected -o FILE or --no-text"
+        }
+        _ => return Ok(()),
+    };
+    Err(usage(wrong.to_owned()))
 }
 
 pub fn trace(parsed: &Parsed) -> Result<Status, Stop> {
     let width = parsed.number("--width", 0, 100).map_err(usage)? as usize;
     let stride = parsed.number("--check", 1, 1).map_err(usage)? as usize;
+    check_outputs(parsed)?;
     let asked = Asked::read(parsed)?;
-    let traced = trace::run_form(asked.form, &asked.request(), stride, &mut Progress::new());
-    let traced = traced.map_err(|failure| {
-        let status = match failure {
-            trace::Failure::Refused(_) => Status::NotPosted,
-            trace::Failure::Difference { .. } => Status::Difference,
-        };
-        Stop::new(status, failure.to_string())
-    })?;
-    if let Some(name) = parsed.value("--svg") {
+    let schedules = &asked.schedules;
+    let schedule = schedules.traced(&mut Engine::new(), asked.form, &asked.request(&[]));
+    let request = asked.request(schedule);
+    let traced = trace::run_form(asked.form, &request, stride, &mut Progress::new());
+    let traced = traced.map_err(|failure| failed(parsed, failure))?;
+    if let Some(name) = parsed.name("--svg") {
         let title = printer::term(&traced.start, &asked.named.names);
         let picture = trace::svg::draw(&traced, &title, &asked.named.rule_lines);
         files::write(name, picture.as_bytes())?;
     }
     if !parsed.has("--no-text") {
-        files::write_or_print(parsed, &trace::text::show(&traced, &asked.named, width))?;
+        let show = match parsed.has("--rules-only") {
+            true => trace::text::show_rules,
+            false => trace::text::show,
+        };
+        files::write_or_print(parsed, &show(&traced, &asked.named, width))?;
+    }
+    if traced.ending == Ending::Cut {
+        say_shown_cut(parsed, schedule.len() as u64, schedules);
     }
     Ok(status(traced.ending))
 }
@@ -164,31 +258,85 @@ pub fn trace(parsed: &Parsed) -> Result<Status, Stop> {
 pub fn batch(parsed: &Parsed) -> Result<Status, Stop> {
     let units = parsed.units().map_err(usage)?;
     let budget = parsed.number("--budget", 0, 1_000_000).map_err(usage)?;
-    let schedule = parsed.schedule(units).map_err(usage)?;
-    let named = files::named(parsed)?;
-    let input = files::bytes(&parsed.arguments[1])?;
+    let jobs = parsed.jobs().map_err(usage)?;
+    let reading = reading::of(parsed)?;
+    let schedules = files::schedules(parsed, units)?;
+    profile_apart(parsed)?;
+    let named = files::named(parsed, "--book-encoding")?;
+    reading::check_template(parsed, &reading, &named.names)?;
+    let name = &parsed.arguments[1];
+    let (mut input, length) = files::input(name)?;
+    let profile = parsed.has("--profile").then(|| Profile::new(&named.book));
     let settings = batch::Settings {
         named: &named,
-        units,
         budget,
-        schedule: &schedule,
+        schedules: &schedules,
         counts: parsed.has("--counts"),
-        latin1: parsed.has("--latin1"),
+        reading: &reading,
+        jobs,
+        json: parsed.has("--json"),
+        profile: profile.as_ref(),
     };
     let quiet = parsed.has("--quiet");
     let mut progress = match quiet {
         true => Progress::hidden(),
         false => Progress::new(),
     };
-    let mut output = files::output(parsed)?;
-    let summary = batch::run_form(form(parsed), &input, &settings, &mut output, &mut progress)
-        .and_then(|summary| output.flush().map(|()| summary))
-        .map_err(|error| Stop::new(Status::Input, format!("the postings: {error}")))?;
+    progress.expect(length);
+    let postings = files::output_name(parsed);
+    let unwritten = |error| files::unusable(postings, error);
+    let mut output = Output::create(postings).map_err(unwritten)?;
+    let run = batch::run(&mut *input, &settings, &mut output, &mut progress);
+    let done = run.and_then(|summary| match output.finish() {
+        Ok(()) => Ok(summary),
+        Err(error) => Err(batch::Failure::Write(error)),
+    });
+    let summary = match done {
+        Ok(summary) => summary,
+        // Who reads the postings, as `head` does, has all that was wanted.
+        Err(batch::Failure::Write(error)) if is_gone(&error) => return Ok(Status::Done),
+        Err(batch::Failure::Write(error)) => return Err(unwritten(error)),
+        Err(batch::Failure::Read(error)) => return Err(files::unusable(name, error)),
+        Err(batch::Failure::Header(BadHeader(wrong))) => {
+            let message = format!("{}: {wrong}", Path::new(name).display());
+            return Err(Stop::new(Status::Input, message));
+        }
+    };
+    if let Some(profile) = &profile {
+        write_profile(parsed, profile, &named)?;
+    }
     if !quiet {
-        eprintln!("{summary}");
+        say(&summary.to_string());
     }
     Ok(match summary.not_posted() {
         0 => Status::Done,
         _ => Status::NotPosted,
     })
+}
+
+fn is_gone(error: &io::Error) -> bool {
+    error.kind() == io::ErrorKind::BrokenPipe
+}
+
+/// Postings and profile don't both go to standard output.
+fn profile_apart(parsed: &Parsed) -> Result<(), Stop> {
+    match parsed.name("--profile") {
+        Some(name) if name == "-" && files::output_name(parsed) == "-" => {
+            let wrong = "the postings and the profile both go to standard output; expected -o FILE";
+            Err(usage(wrong.to_owned()))
+        }
+        _ => Ok(()),
+    }
+}
+
+fn write_profile(parsed: &Parsed, profile: &Profile, named: &Named) -> Result<(), Stop> {
+    if let Some(difference) = profile.difference() {
+        return Err(Stop::new(Status::Difference, difference.to_string()));
+    }
+    let text = match parsed.has("--json") {
+        true => format!("{}\n", profile.json(named)),
+        false => profile.text(named),
+    };
+    let name = parsed.name("--profile").unwrap_or(OsStr::new("-"));
+    files::write(name, text.as_bytes())
 }

@@ -5,13 +5,16 @@ use std::fmt::Write;
 use crate::cli::options::{Command, COMMANDS};
 use crate::schedule;
 
-const STATUS: &str = "\
+pub const STATUS: &str = "\
 Exit status
-  0  done; in post, trace and batch: every run finished
+  0  done; in post, explain, trace and batch: every run finished, or the reader of
+     the postings went away, as head does
   1  a line was refused, mistyped, or its run didn't finish
   2  the command line is wrong
-  3  a book is mistaken or refused, or a file can't be used
-  4  a trace differs from the engine, or a text from its book
+  3  a book is mistaken or refused, has a warning in check --strict, or a file
+     can't be used
+  4  a trace, explanation or profile differs from the engine, or a text from its
+     book
 ";
 
 const FORM: &str = "\
@@ -54,12 +57,16 @@ The text form of a book
             left side; they are numbered as they come there, and X:5 on the
             left gives X the number 5.
   name      letters and digits of any script, and _ ' - . & + in any order, as
-            in Müller, 24, rent-2.OG; but not op, var or rule. A letter with
-            its accent is one character. A name is declared once, before or
-            after its uses.
+            in Müller, 24, rent-2.OG; but not op, var or rule. A name is
+            declared once, before or after its uses.
   string    \"abc\"(t) is a(b(c(t))), and \"abc\" alone is a(b(c(end))). A space
-            in it is the operator _. A character that no name may have is
-            declared in quotes, with arity 1, as in op \",\" \"/\" / 1
+            in it is the operator _, and a quote is doubled: \"24\"\" pipe\". A
+            character that no name may have is declared in quotes, with arity
+            1, as in op \",\" \"/\" \"\"\"\" / 1
+
+  Books and lines are read as UTF-8, or by --encoding as ISO 8859-1 (latin-1) or
+  Windows-1252. A letter whose accent stands behind it (NFD) is read as the one
+  character that both are, and columns count it once. Lines may end in CR LF.
 
   A line is a term without variables or, with --payee, a payee's text.
 
@@ -86,11 +93,63 @@ it is shown. Books keep no names: with --names the operators are called as in
 that text, which must declare as many, with the same arities.
 ";
 
+pub const CHECK: &str = "\
+A warning has the form of a mistake, with line and column. Its kinds:
+  never-first       rules before it match all that the rule matches
+  equal-left        a rule before it has this left side, up to variables' names
+  never-tried       the strategy of the left side's operator has no 0
+  rewritten-before  a part of the left side, which the strategy visits before 0,
+                    is such that a rule always rewrites it: what is left to be
+                    matched never has that part
+  same-sides        the right side is the left side
+  unused-operator   no rule names it; lines may, so this one is a guess. Those of
+                    op letters are left out
+  unused-variable   no rule names it
+  skipped-argument  a strategy leaves out an argument, which then stays as it is
+What is not called a guess is so for every line. Whether several rules together
+match all that a later one does is not told where it takes too long to find out.
+
+With --json, one object:
+  book         the text's name
+  errors       how many there are, and so warnings
+  diagnostics  a list, in the order of the text, of objects with level (error or
+               warning), kind, certain (false for a guess), line, column and
+               message. A mistake has the kind mistake, and refusal, a number or
+               null.
+";
+
+pub const EXPLAIN: &str = "\
+Shows each rewrite: the rule by its number and its line in the text, its place in
+the term, what its variables stand for, and the term before and after, with the
+rewritten part in brackets. The place is the arguments to follow from the root:
+2.1 is argument 1 of argument 2, and 1*5 is five times argument 1. The rewrites
+come from a plain model; after every rewrite, or after 256 of those of a long
+run, its term and counts are compared with what the proved engine answers for the
+schedule cut there. Without --schedule, of a run of over 262144 entries the first
+32768 are explained.
+
+With --json, one object: line, steps, and the fields of post. Each step has
+  step, rule, rule_line  numbers from 1; rule_line is null for a packed book
+  position               a list of arguments' numbers
+  sides                  the rule by names
+  entry, unit            which entry of the schedule, and its unit
+  substitution           a list of objects with variable and term
+  part, becomes          the rewritten part before and after
+  before, after          the whole term before and after
+With --rules-only it ends with position. Where the budget or the room ended the
+run, stopped has the rule and rule_line that would have come next.
+";
+
 pub const POST: &str = "\
 Shows how the run ended (finished, spent, full or cut), the rewrites and entries,
 the FORKs that were granted and those that found nobody idle and were kept, and
 the term. It is a posting if the run finished; granted and kept together are then
 the same for any number of units and any schedule.
+
+With --json, one object: end, rewrites, entries, granted, kept and term, and
+instead_of, an ending, if one unit posted in the place of several whose run ended
+so; or error, an object with kind (mistyped or refused), column or refusal, and
+message. Terms are by names, as in the text.
 ";
 
 pub const TRACE: &str = "\
@@ -106,15 +165,54 @@ waits at a JOIN, a thin line while it is idle, with arrows for FORKs and EXITs.
 Each cell says its entry when the pointer rests on it.
 ";
 
+const TURNS: &str = "\
+Without --schedule the units act in turn, and a run that is cut is made again
+with more entries: 32768, 262144, 2097152, at most 16777216. A line that several
+units then leave full or cut is posted by one unit, if that finishes it, and this
+is told. So more units never make a line fail. A trace shows the several units'
+run; it has at most 262144 entries, or shows the first 32768.
+";
+
 pub const BATCH: &str = "\
 Output line k belongs to input line k. It is the posting by names; a blank or
 comment line as it was; or ! and why there is no posting:
   ! column 7: 'muller' is unknown; expected an operator that is declared
   ! refused 12: the line has over 1,024 bytes
   ! spent after 1000 rewrites at TERM     (also full, and cut after N entries)
+  ! the line has over 1048576 bytes; expected at most so many
 A line that can't be posted doesn't stop the others. A summary goes to standard
-error, and a progress bar if that is a terminal. With --payee too, blank lines
-and those that begin with # stay as they are.
+error, and progress with rate and time left if that is a terminal, but not one
+with TERM=dumb; COLUMNS says how wide it is. With --payee too, blank lines and
+those that begin with # stay as they are. Each line ends as it did, in LF or
+CR LF.
+
+Lines are read and written one by one, or with --jobs in blocks of 64, so LINES
+may have any length. With -o the postings stand in FILE.PID-0.part until all are
+there, and FILE is as it was if the batch is interrupted. No output may be an
+input, also not through a link.
+
+With --column, LINES is a bank export (CSV): a record on each line, its fields
+between separators. A field in quotes may have separators, line ends and doubled
+quotes. A column is given by its name in the header, which is then the first
+record, or by its number from 1. With --payee its text is posted as a payee;
+without, it is a line, or what --template makes one of:
+  --column Payee --template 'line(payee(\"{}\"), purpose(\"{Purpose}\"))'
+{} is the text of the column, and {Purpose} or {3} that of another; both stand in
+strings, and quotes in them are doubled. {{ and }} are braces. Without --column,
+{} is the whole line. Output line k belongs to record k, the header's being a
+comment. A record that can't be posted is told with its first line:
+  ! line 7: 'Payee', character 3: ISO 8859-1 does not have '€' (U+20AC); ..
+  ! line 8: the record has 2 fields; expected 'Purpose' as field 3
+
+With --json, each output line is an object: line, its number from 1, and the
+fields of post; a blank or comment line has comment, the text as it was. Of a bank
+export it begins with record, its number, and line is the record's first; an error
+has field, the column's name, if one is to blame, and column counts its characters.
+
+The profile has a row for each rule, the most used first: its rewrites, the lines
+in which it rewrote, and the rule. With --json it is an object with rules, a list
+of objects with rule, rule_line, sides, rewrites and lines. The engine counts no
+rules, so each run is made again by the plain model and compared at its end.
 ";
 
 pub fn general() -> String {
@@ -125,12 +223,12 @@ pub fn general() -> String {
     for command in COMMANDS {
         put(
             &mut text,
-            &format!("  {:<7}{}\n", command.name, command.about),
+            &format!("  {:<9}{}\n", command.name, command.about),
         );
     }
     put(
         &mut text,
-        "  help   this text; 'help COMMAND' for one command\n",
+        "  help     this text; 'help COMMAND' for one command\n",
     );
     for command in COMMANDS {
         let arguments = arguments(command);
@@ -180,7 +278,7 @@ fn options(command: &Command) -> String {
 }
 
 fn schedules() -> String {
-    format!("Forms of a schedule\n{}\n", schedule::FORMS)
+    format!("Forms of a schedule\n{}\n\n{TURNS}", schedule::FORMS)
 }
 
 fn put(text: &mut String, more: &str) {

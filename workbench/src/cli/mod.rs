@@ -1,10 +1,16 @@
 //! The program: commands, their options and help from one table.
 
+mod checking;
 mod commands;
+mod explaining;
 mod files;
 pub mod help;
 pub mod options;
+mod places;
+mod reading;
 
+use std::ffi::OsString;
+use std::io::{stderr, Write};
 use std::process::ExitCode;
 
 use options::{Command, Parsed};
@@ -19,11 +25,13 @@ pub enum Status {
     Usage = 2,
     /// A book is mistaken or refused, or a file can't be used.
     Input = 3,
-    /// A trace differs from the engine.
+    /// A trace, explanation or profile differs from the engine, or a text from
+    /// its book.
     Difference = 4,
 }
 
-/// Why a command stopped: its status and what is told on standard error.
+/// Why a command stopped: its status and what is told on standard error, if it
+/// isn't told already.
 #[derive(Debug)]
 pub struct Stop {
     pub status: Status,
@@ -39,49 +47,56 @@ impl Stop {
     }
 }
 
-pub fn main(arguments: Vec<String>) -> ExitCode {
+pub fn main(arguments: Vec<OsString>) -> ExitCode {
     let status = match run(&arguments) {
         Ok(status) => status,
         Err(stop) => {
-            eprintln!("{}", stop.message.trim_end());
+            if !stop.message.is_empty() {
+                say(stop.message.trim_end());
+            }
             stop.status
         }
     };
     ExitCode::from(status as u8)
 }
 
-fn run(arguments: &[String]) -> Result<Status, Stop> {
+/// A line on standard error, if anybody listens.
+fn say(line: &str) {
+    let _ = writeln!(stderr(), "{line}");
+}
+
+fn run(arguments: &[OsString]) -> Result<Status, Stop> {
     let (first, rest) = match arguments.split_first() {
         None => return print(&help::general()),
-        Some((first, rest)) => (first.as_str(), rest),
+        Some((first, rest)) => (first.to_string_lossy(), rest),
     };
-    match first {
+    match &*first {
         "help" | "--help" | "-h" => match rest.first() {
             None => print(&help::general()),
-            Some(name) => print(&help::of(command(name)?)),
+            Some(name) => print(&help::of(command(&name.to_string_lossy())?)),
         },
         "--version" | "-V" => print(concat!("kurvneist ", env!("CARGO_PKG_VERSION"), "\n")),
-        _ => run_command(command(first)?, rest),
+        name => run_command(command(name)?, rest),
     }
 }
 
-fn run_command(command: &Command, rest: &[String]) -> Result<Status, Stop> {
+fn run_command(command: &Command, rest: &[OsString]) -> Result<Status, Stop> {
     let mut options = rest.iter().take_while(|word| *word != "--");
     if options.any(|word| word == "--help" || word == "-h") {
         return print(&help::of(command));
     }
-    let parsed = Parsed::read(command, rest).map_err(|wrong| {
-        let message = format!(
-            "kurvneist {}: {wrong}\n{}",
-            command.name,
-            help::usage(command)
-        );
-        Stop::new(Status::Usage, message)
-    })?;
+    let wrong = |wrong: String| {
+        let (name, usage) = (command.name, help::usage(command));
+        Stop::new(Status::Usage, format!("kurvneist {name}: {wrong}\n{usage}"))
+    };
+    let parsed = Parsed::read(command, rest).map_err(wrong)?;
+    places::check(command, &parsed).map_err(wrong)?;
     let run = match command.name {
         "book" => commands::book,
         "text" => commands::text,
+        "check" => checking::check,
         "post" => commands::post,
+        "explain" => explaining::explain,
         "trace" => commands::trace,
         _ => commands::batch,
     };
@@ -95,8 +110,9 @@ fn command(name: &str) -> Result<&'static Command, Stop> {
     found.ok_or_else(|| {
         let names: Vec<&str> = options::COMMANDS.iter().map(|known| known.name).collect();
         let message = format!(
-            "kurvneist: '{name}' is no command; expected {} or help",
-            names.join(", ")
+            "kurvneist: '{name}' is no command; expected {} or help{}",
+            names.join(", "),
+            options::suggestion(names.iter().copied().chain(["help"]), name)
         );
         Stop::new(Status::Usage, message)
     })

@@ -2,8 +2,11 @@
 //! command line by them.
 
 use std::collections::HashMap;
+use std::ffi::{OsStr, OsString};
+use std::os::unix::ffi::OsStrExt;
 
-use crate::schedule;
+use crate::encoding::Encoding;
+use crate::names::nearest;
 
 pub struct Flag {
     pub name: &'static str,
@@ -20,6 +23,13 @@ pub struct Command {
     pub flags: &'static [Flag],
     /// What else its help says.
     pub more: &'static str,
+}
+
+impl Flag {
+    /// Whether its value names a file, in any bytes, or may do so.
+    fn names(&self) -> bool {
+        matches!(self.value, Some("FILE" | "TEXT" | "FORM"))
+    }
 }
 
 const fn flag(name: &'static str, value: Option<&'static str>, help: &'static str) -> Flag {
@@ -46,7 +56,7 @@ const BUDGET: Flag = flag(
 const SCHEDULE: Flag = flag(
     "--schedule",
     Some("FORM"),
-    "which unit acts when (default round-robin:32768)",
+    "which unit acts when (default: in turn, as long as needed)",
 );
 const OUTPUT: Flag = flag(
     "-o",
@@ -54,6 +64,15 @@ const OUTPUT: Flag = flag(
     "write to this file (default -, standard output)",
 );
 
+const JSON: Flag = flag("--json", None, "write an object in JSON");
+const RULES_ONLY: Flag = flag("--rules-only", None, "only which rules rewrote, and where");
+const ENCODING: Flag = flag(
+    "--encoding",
+    Some("E"),
+    "the book text's: utf-8 (default), latin-1 or windows-1252",
+);
+
+const TEXT: (&str, &str) = ("TEXT", "a book in text form; - is standard input");
 const LINE: (&str, &str) = (
     "LINE",
     "a term by the operators' names, or a payee with --payee",
@@ -64,12 +83,15 @@ pub const COMMANDS: &[Command] = &[
     Command {
         name: "book",
         about: "turn a text into a packed book, or check a text",
-        arguments: &[("TEXT", "a book in text form; - is standard input")],
-        flags: &[flag(
-            "-o",
-            Some("FILE"),
-            "write the packed book to this file (default: only check)",
-        )],
+        arguments: &[TEXT],
+        flags: &[
+            flag(
+                "-o",
+                Some("FILE"),
+                "write the packed book to this file (default: only check)",
+            ),
+            ENCODING,
+        ],
         more: super::help::BOOK,
     },
     Command {
@@ -82,16 +104,58 @@ pub const COMMANDS: &[Command] = &[
                 Some("TEXT"),
                 "take the operators' names from this text (default f0, f1, ..)",
             ),
+            ENCODING,
             OUTPUT,
         ],
         more: super::help::TEXT,
     },
     Command {
+        name: "check",
+        about: "warn of rules that never rewrite, and of what nothing uses",
+        arguments: &[TEXT],
+        flags: &[
+            flag("--strict", None, "warnings are errors"),
+            flag(
+                "--allow",
+                Some("KIND,.."),
+                "leave out warnings of these kinds",
+            ),
+            JSON,
+            ENCODING,
+        ],
+        more: super::help::CHECK,
+    },
+    Command {
         name: "post",
         about: "reduce one line and show its posting",
         arguments: &[BOOK, LINE],
-        flags: &[PAYEE, UNITS, BUDGET, SCHEDULE, PACKED, NAMES],
+        flags: &[
+            PAYEE, JSON, UNITS, BUDGET, SCHEDULE, PACKED, NAMES, ENCODING,
+        ],
         more: super::help::POST,
+    },
+    Command {
+        name: "explain",
+        about: "show which rules rewrote what, in order",
+        arguments: &[BOOK, LINE],
+        flags: &[
+            PAYEE,
+            RULES_ONLY,
+            JSON,
+            flag(
+                "--check",
+                Some("N"),
+                "compare with the engine after every Nth rewrite",
+            ),
+            OUTPUT,
+            UNITS,
+            BUDGET,
+            SCHEDULE,
+            PACKED,
+            NAMES,
+            ENCODING,
+        ],
+        more: super::help::EXPLAIN,
     },
     Command {
         name: "trace",
@@ -105,6 +169,11 @@ pub const COMMANDS: &[Command] = &[
                 "write the units over time as a picture",
             ),
             flag("--no-text", None, "don't write the entries as text"),
+            flag(
+                "--rules-only",
+                None,
+                "of the text, only the entries at which a rule acts",
+            ),
             flag(
                 "--width",
                 Some("N"),
@@ -121,6 +190,7 @@ pub const COMMANDS: &[Command] = &[
             SCHEDULE,
             PACKED,
             NAMES,
+            ENCODING,
         ],
         more: super::help::TRACE,
     },
@@ -146,8 +216,45 @@ pub const COMMANDS: &[Command] = &[
                 None,
                 "say each run's counts, as a comment behind the posting",
             ),
-            flag("--latin1", None, "LINES is ISO 8859-1 and not UTF-8"),
+            flag("--json", None, "write an object in JSON for each line"),
+            flag(
+                "--profile",
+                Some("FILE"),
+                "write to this file how often each rule rewrote",
+            ),
+            flag(
+                "--column",
+                Some("C"),
+                "LINES is a bank export; take this column, by name or number",
+            ),
+            flag(
+                "--separator",
+                Some("S"),
+                "what stands between its columns: , (default) ; | or tab",
+            ),
+            flag(
+                "--header",
+                None,
+                "it has a header, though its columns are given by number",
+            ),
+            flag(
+                "--template",
+                Some("T"),
+                "make a line of each text, as in 'line(payee(\"{}\"), rent)'",
+            ),
+            flag(
+                "--encoding",
+                Some("E"),
+                "LINES': utf-8 (default), latin-1 or windows-1252",
+            ),
+            flag("--latin1", None, "the same as --encoding latin-1"),
+            flag("--book-encoding", Some("E"), "the book text's"),
             flag("--quiet", None, "no progress bar and no summary"),
+            flag(
+                "--jobs",
+                Some("N"),
+                "post on so many threads, 1 to 256 (default 1)",
+            ),
             UNITS,
             BUDGET,
             SCHEDULE,
@@ -158,29 +265,38 @@ pub const COMMANDS: &[Command] = &[
     },
 ];
 
+/// What a mistyped word may mean.
+pub fn suggestion<'n>(known: impl Iterator<Item = &'n str>, mistyped: &str) -> String {
+    nearest(known, mistyped).map_or(String::new(), |near| format!("; did you mean '{near}'?"))
+}
+
 /// A command line that fits its command.
 pub struct Parsed {
-    pub arguments: Vec<String>,
-    values: HashMap<&'static str, String>,
+    /// As they were given: the names of files need not be UTF-8.
+    pub arguments: Vec<OsString>,
+    values: HashMap<&'static str, OsString>,
 }
 
 impl Parsed {
-    pub fn read(command: &Command, words: &[String]) -> Result<Parsed, String> {
+    pub fn read(command: &Command, words: &[OsString]) -> Result<Parsed, String> {
         let mut parsed = Parsed {
             arguments: Vec::new(),
             values: HashMap::new(),
         };
         let mut words = words.iter();
         while let Some(word) = words.next() {
-            match word.strip_prefix('-') {
-                Some("-") => parsed.arguments.extend(words.by_ref().cloned()),
-                Some(rest) if !rest.is_empty() => parsed.option(command, word, &mut words)?,
+            match word.as_bytes() {
+                b"--" => parsed.arguments.extend(words.by_ref().cloned()),
+                [b'-', _, ..] => parsed.option(command, word, &mut words)?,
                 _ => parsed.arguments.push(word.clone()),
             }
         }
         let due = command.arguments.len();
         match parsed.arguments.get(due) {
-            Some(extra) => Err(format!("'{extra}' is one argument too many")),
+            Some(extra) => {
+                let extra = extra.to_string_lossy();
+                Err(format!("'{extra}' is one argument too many"))
+            }
             None if parsed.arguments.len() < due => {
                 let missing = command.arguments[parsed.arguments.len()].0;
                 Err(format!("{missing} is missing"))
@@ -193,25 +309,32 @@ impl Parsed {
     fn option(
         &mut self,
         command: &Command,
-        word: &str,
-        words: &mut std::slice::Iter<String>,
+        word: &OsStr,
+        words: &mut std::slice::Iter<OsString>,
     ) -> Result<(), String> {
-        let (name, attached) = match word.split_once('=') {
-            Some((name, value)) => (name, Some(value.to_owned())),
-            None => (word, None),
+        let bytes = word.as_bytes();
+        let (name, attached) = match bytes.iter().position(|byte| *byte == b'=') {
+            Some(end) => (&bytes[..end], Some(OsStr::from_bytes(&bytes[end + 1..]))),
+            None => (bytes, None),
         };
+        let name = String::from_utf8_lossy(name);
         let Some(flag) = command.flags.iter().find(|flag| flag.name == name) else {
-            return Err(format!("'{name}' is no option of this command"));
+            let near = suggestion(command.flags.iter().map(|flag| flag.name), &name);
+            return Err(format!("'{name}' is no option of this command{near}"));
         };
         let value = match (flag.value, attached) {
-            (None, None) => String::new(),
+            (None, None) => OsString::new(),
             (None, Some(_)) => return Err(format!("{name} has no value")),
-            (Some(_), Some(value)) => value,
+            (Some(_), Some(value)) => value.to_owned(),
             (Some(what), None) => words
                 .next()
                 .cloned()
                 .ok_or_else(|| format!("{name} lacks its {what}"))?,
         };
+        if !flag.names() && value.to_str().is_none() {
+            let value = value.to_string_lossy();
+            return Err(format!("{name} {value}: expected a value in UTF-8"));
+        }
         match self.values.insert(flag.name, value) {
             Some(_) => Err(format!("{name} is given twice")),
             None => Ok(()),
@@ -222,8 +345,24 @@ impl Parsed {
         self.values.contains_key(name)
     }
 
+    /// An option's value that names no file.
     pub fn value(&self, name: &str) -> Option<&str> {
-        self.values.get(name).map(String::as_str)
+        self.values.get(name)?.to_str()
+    }
+
+    /// An option's value that names a file.
+    pub fn name(&self, name: &str) -> Option<&OsStr> {
+        self.values.get(name).map(OsString::as_os_str)
+    }
+
+    /// The encoding that an option names, UTF-8 without it.
+    pub fn encoding(&self, name: &str) -> Result<Encoding, String> {
+        match self.value(name) {
+            None => Ok(Encoding::Utf8),
+            Some(written) => {
+                Encoding::named(written).map_err(|wrong| format!("{name} {written}: {wrong}"))
+            }
+        }
     }
 
     pub fn number(&self, name: &str, least: u32, default: u32) -> Result<u32, String> {
@@ -249,8 +388,13 @@ impl Parsed {
         }
     }
 
-    pub fn schedule(&self, units: u8) -> Result<Vec<u8>, String> {
-        let form = self.value("--schedule").unwrap_or("round-robin:32768");
-        schedule::read(form, units).map_err(|wrong| format!("--schedule {form}: {wrong}"))
+    pub fn jobs(&self) -> Result<usize, String> {
+        match self.value("--jobs").unwrap_or("1").parse() {
+            Ok(jobs @ 1..=256) => Ok(jobs),
+            _ => Err(format!(
+                "--jobs {}: expected a number from 1 to 256",
+                self.value("--jobs").unwrap_or_default()
+            )),
+        }
     }
 }

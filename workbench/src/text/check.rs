@@ -2,14 +2,17 @@
 //! reader's conditions checked where a place can be told. The proved writer
 //! has the last word on the packed bytes.
 
-use comparison::draft::{Draft, OperatorDraft};
+use std::collections::HashMap;
+
+use comparison::draft::{Draft, OperatorDraft, Symbol};
 
 use crate::letters;
-use crate::mistake::{place_of, Mistake, Span};
+use crate::mistake::{place_from, place_of, Mistake, Span};
 use crate::names::Names;
 use crate::text::lexer::is_name_character;
-use crate::text::parser::{meant_letters, parse, Name, Statement, Strategy, Words};
+use crate::text::parser::{meant_letters, parse, Name, Statement, Strategy, Word, Words};
 use crate::text::sides::{self, Meaning, Meanings};
+use crate::told::quoted;
 
 /// A book with the names that it was written with.
 #[derive(Clone, Debug)]
@@ -37,7 +40,10 @@ pub fn read(source: &str) -> Result<Named, Vec<Mistake>> {
         if let Statement::Rule { left, right, .. } = statement {
             let [left, right] = [left, right].map(|side| reader.with_letters(side));
             match sides::rule(&mut reader.meanings, &left, &right) {
-                Ok(rule) => reader.draft.rules.push(rule),
+                Ok(rule) => {
+                    reader.names.add_rule(variables(&left, &rule.left));
+                    reader.draft.rules.push(rule);
+                }
                 Err(mistake) => mistakes.push(mistake),
             }
         }
@@ -52,6 +58,15 @@ pub fn read(source: &str) -> Result<Named, Vec<Mistake>> {
     }
     mistakes.sort_by_key(|mistake| mistake.span.start);
     Err(mistakes)
+}
+
+/// What a left side calls its variables, by their numbers.
+fn variables(words: &Words, symbols: &[Symbol]) -> HashMap<u8, String> {
+    let name = |(word, symbol): (&Word, &Symbol)| match symbol {
+        Symbol::Variable(number) => Some((*number, word.name.text.clone())),
+        Symbol::Operator(_) => None,
+    };
+    words.iter().zip(symbols).filter_map(name).collect()
 }
 
 #[derive(Default)]
@@ -76,7 +91,7 @@ impl Reader {
                 strategy,
             } => {
                 let checked = match strategy {
-                    Some(given) => strategy_items(given, *arity).map(Some),
+                    Some(given) => strategy_items(source, given, *arity).map(Some),
                     None => Ok(None),
                 };
                 for name in names {
@@ -157,7 +172,7 @@ impl Reader {
         };
         self.add_name(source, name, meaning)?;
         if arity != 1 && !name.text.chars().all(is_name_character) {
-            let wrong = format!("'{}' can stand in strings only", name.text);
+            let wrong = format!("{} can stand in strings only", quoted(&name.text));
             return Err(Mistake::new(name.span, wrong, "arity 1 for it"));
         }
         self.operators += 1;
@@ -185,7 +200,8 @@ impl Reader {
         if let Some((before, first)) = self.meanings.get_mut(&name.text) {
             *before = Meaning::Unclear;
             let (line, _) = place_of(source, first.start);
-            let wrong = format!("'{}' is declared already on line {line}", name.text);
+            let name_told = quoted(&name.text);
+            let wrong = format!("{name_told} is declared already on line {line}");
             return Err(Mistake::new(name.span, wrong, "a new name"));
         }
         self.meanings
@@ -211,7 +227,10 @@ impl Reader {
 }
 
 /// What the reader refuses by 3, and a list too long for its 5-bit length.
-fn strategy_items(given: &Strategy, arity: u8) -> Result<Vec<u8>, Mistake> {
+fn strategy_items(source: &str, given: &Strategy, arity: u8) -> Result<Vec<u8>, Mistake> {
+    if let Some(mistake) = unclosed_group(source, given) {
+        return Err(mistake);
+    }
     let mut in_group = false;
     for (place, &(item, span)) in given.items.iter().enumerate() {
         if place == 31 {
@@ -238,6 +257,36 @@ fn strategy_items(given: &Strategy, arity: u8) -> Result<Vec<u8>, Mistake> {
         }
         _ => Ok(given.items.iter().map(|item| item.0).collect()),
     }
+}
+
+/// A group without its '}' is told where it was opened. One that another '{'
+/// or '0' stands in, and that is closed behind them, is another mistake.
+fn unclosed_group(source: &str, given: &Strategy) -> Option<Mistake> {
+    let mut open: Vec<Span> = Vec::new();
+    for (place, &(item, span)) in given.items.iter().enumerate() {
+        match item {
+            8 => open.push(span),
+            9 => drop(open.pop()),
+            0 if !open.is_empty() && !is_closed(&given.items[place..], open.len()) => {
+                return Some(group_before(source, open[0], span, "'0'"));
+            }
+            _ => {}
+        }
+    }
+    let first = open.first()?;
+    Some(group_before(source, *first, given.close, "')'"))
+}
+
+/// Whether so many groups are closed behind here before the next is opened.
+fn is_closed(items: &[(u8, Span)], groups: usize) -> bool {
+    let closing = items.iter().take_while(|item| item.0 != 8);
+    closing.filter(|item| item.0 == 9).count() >= groups
+}
+
+fn group_before(source: &str, open: Span, end: Span, what: &str) -> Mistake {
+    let place = place_from(source, open.start, end.start);
+    let expected = format!("'}}' before {what} {place}");
+    Mistake::new(open, "the group isn't closed", expected).refused(3)
 }
 
 fn due_arguments(arity: u8) -> String {

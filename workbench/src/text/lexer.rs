@@ -7,7 +7,7 @@ use crate::mistake::Span;
 pub enum Kind {
     /// A name or a number: which of them, the place decides.
     Word,
-    /// "..." with its quotes.
+    /// "..." with its quotes; a quote in it is doubled.
     String,
     Op,
     Var,
@@ -40,11 +40,6 @@ pub fn is_name_character(character: char) -> bool {
 /// Editors on Windows begin a file with the mark U+FEFF.
 fn is_space(character: char) -> bool {
     character.is_whitespace() || character == '\u{feff}'
-}
-
-/// An accent as a character of its own, behind its letter.
-pub fn is_loose_accent(character: char) -> bool {
-    matches!(character, '\u{300}'..='\u{36f}')
 }
 
 /// Whether there is nothing but space and comments.
@@ -110,10 +105,34 @@ fn word(rest: &str) -> (Kind, usize) {
 }
 
 fn string(rest: &str) -> (Kind, usize) {
-    let inside = &rest[1..];
-    match inside.find(['"', '\n']) {
-        Some(length) if inside[length..].starts_with('"') => (Kind::String, length + 2),
-        Some(length) => (Kind::UnclosedString, length + 1),
-        None => (Kind::UnclosedString, rest.len()),
+    let mut at = 1;
+    while let Some(length) = rest[at..].find(['"', '\n']) {
+        at += length;
+        match &rest[at..] {
+            doubled if doubled.starts_with("\"\"") => at += 2,
+            closing if closing.starts_with('"') => return (Kind::String, at + 1),
+            _ => {
+                return (
+                    Kind::UnclosedString,
+                    rest[..at].trim_end_matches('\r').len(),
+                )
+            }
+        }
     }
+    (Kind::UnclosedString, rest.len())
+}
+
+/// The characters between a string's quotes, with the place of each.
+pub fn inside(string: &str) -> impl Iterator<Item = (usize, char)> + '_ {
+    let inner = &string[..string.len() - 1];
+    let mut is_first = false;
+    inner.char_indices().skip(1).filter(move |(_, character)| {
+        is_first = *character == '"' && !is_first;
+        *character != '"' || is_first
+    })
+}
+
+/// A text as it stands in a string.
+pub fn escaped(text: &str) -> String {
+    text.replace('"', "\"\"")
 }

@@ -1,10 +1,12 @@
 //! Tokens as statements. A statement with a mistake is told once, and reading
 //! goes on at the next word `op`, `var` or `rule`.
 
+use crate::compose::is_loose_accent;
 use crate::letters;
-use crate::mistake::{place_of, Mistake, Span};
+use crate::mistake::{place_from, Mistake, Span};
 use crate::names::nearest;
-use crate::text::lexer::{is_loose_accent, tokens, Kind, Token};
+use crate::text::lexer::{inside, tokens, Kind, Token};
+use crate::told::{code_point, quoted};
 
 /// A name where it stands.
 #[derive(Clone, Debug)]
@@ -238,7 +240,7 @@ impl<'s> Parser<'s> {
         self.expect(Kind::Slash, "'/' and the arity, as in 'both/2'")?;
         let (arity, _) = self.number("an arity from 0 to 7", 7)?;
         let strategy = match self.take_if(Kind::Open) {
-            Some(_) => Some(self.strategy()?),
+            Some(open) => Some(self.strategy(open.span)?),
             None => None,
         };
         Ok(Statement::Operators {
@@ -264,9 +266,9 @@ impl<'s> Parser<'s> {
 
     fn character(&mut self) -> Result<Name, Mistake> {
         let span = self.peek().span;
-        let mut inside = self.source[span.start + 1..span.end - 1].chars();
+        let mut inside = inside(self.written(span));
         match (inside.next(), inside.next()) {
-            (Some(character), None) => {
+            (Some((_, character)), None) => {
                 self.take();
                 Ok(Name::new(&spelled(character), span))
             }
@@ -302,8 +304,8 @@ impl<'s> Parser<'s> {
 
     /// Behind the opening parenthesis. That groups don't nest and the like is
     /// checked later, where the arity is known.
-    fn strategy(&mut self) -> Result<Strategy, Mistake> {
-        let mut items = Vec::new();
+    fn strategy(&mut self, open: Span) -> Result<Strategy, Mistake> {
+        let mut items: Vec<(u8, Span)> = Vec::new();
         loop {
             let Token { kind, span } = self.peek();
             match kind {
@@ -312,6 +314,13 @@ impl<'s> Parser<'s> {
                 Kind::Close => {
                     self.take();
                     return Ok(Strategy { items, close: span });
+                }
+                _ if self.is_over() => {
+                    let group = items.iter().rfind(|item| matches!(item.0, 8 | 9));
+                    return Err(match group {
+                        Some(&(8, group)) => self.unclosed(group, "'}'"),
+                        _ => self.unclosed(open, "')'"),
+                    });
                 }
                 _ => {
                     items.push(self.number(STRATEGY_ITEM, 7)?);
@@ -324,7 +333,13 @@ impl<'s> Parser<'s> {
 
     fn rule(&mut self, keyword: Span) -> Result<Statement, Mistake> {
         let left = self.term()?;
+        if self.is_over() && self.peek().kind != Kind::Equals {
+            return Err(self.without_right_side(keyword, "'=' and a term"));
+        }
         self.expect(Kind::Equals, "'=' between the sides of the rule")?;
+        if self.is_over() {
+            return Err(self.without_right_side(keyword, "a term behind '='"));
+        }
         let right = self.term()?;
         Ok(Statement::Rule {
             keyword,
@@ -333,12 +348,47 @@ impl<'s> Parser<'s> {
         })
     }
 
+    fn without_right_side(&self, keyword: Span, what: &str) -> Mistake {
+        let expected = format!("{what} before {}", self.end_from(keyword.start));
+        Mistake::new(keyword, "the rule has no right side", expected)
+    }
+
+    /// Whether a term or strategy can't go on here, whatever is still open.
+    fn is_over(&self) -> bool {
+        matches!(
+            self.peek().kind,
+            Kind::Op | Kind::Var | Kind::Rule | Kind::Equals | Kind::End
+        )
+    }
+
+    /// What was opened there and isn't closed before the term or strategy ends.
+    fn unclosed(&self, open: Span, closing: &str) -> Mistake {
+        let wrong = format!("{} isn't closed", quoted(self.written(open)));
+        let expected = format!("{closing} before {}", self.end_from(open.start));
+        Mistake::new(open, wrong, expected)
+    }
+
+    /// The token that is due, as it is told from an earlier place.
+    fn end_from(&self, earlier: usize) -> String {
+        let Token { kind, span } = self.peek();
+        match kind {
+            Kind::End => "the text ends".into(),
+            _ => {
+                let place = place_from(self.source, earlier, span.start);
+                format!("{} {place}", quoted(self.written(span)))
+            }
+        }
+    }
+
     /// The open applications are a list and not calls of this function, so
     /// that no nesting is too deep.
     fn term(&mut self) -> Result<Words, Mistake> {
         let mut words = Vec::new();
         let mut open: Vec<Opened> = Vec::new();
         loop {
+            if let (true, Some(innermost)) = (self.is_over(), open.last()) {
+                return Err(self.unclosed(innermost.parenthesis, "a term and ')'"));
+            }
             if !self.symbol(&mut words)? {
                 self.close(&mut words, &mut open)?;
                 if open.is_empty() {
@@ -380,30 +430,20 @@ impl<'s> Parser<'s> {
     /// "abc" spells a(b(c(end))), and "abc"(t) spells a(b(c(t))).
     fn string(&mut self, words: &mut Words) -> Result<bool, Mistake> {
         let span = self.take().span;
-        let inside = Span::new(span.start + 1, span.end - 1);
         let followed = self.peek().kind == Kind::Open;
-        for (offset, character) in self.written(inside).char_indices() {
-            let start = inside.start + offset;
+        for (offset, character) in inside(self.written(span)) {
+            let start = span.start + offset;
             let place = Span::new(start, start + character.len_utf8());
             words.push(spelled_word(&spelled(character), place, 1));
         }
-        if followed && inside.start == inside.end {
+        if followed && span.end - span.start == 2 {
             return Err(self.unexpected("at least one character in the string before it"));
         }
         if !followed {
-            let quote = Span::new(inside.end, span.end);
+            let quote = Span::new(span.end - 1, span.end);
             words.push(spelled_word("end", quote, 0));
         }
         Ok(followed)
-    }
-
-    /// An earlier place, as it is told from the token that is due.
-    fn place_from_here(&self, earlier: usize) -> String {
-        let (line, column) = place_of(self.source, earlier);
-        match place_of(self.source, self.peek().span.start).0 == line {
-            true => format!("in column {column}"),
-            false => format!("in line {line}, column {column},"),
-        }
     }
 
     /// After a whole part: closes what ends here, up to a comma or the end.
@@ -420,9 +460,13 @@ impl<'s> Parser<'s> {
                     self.take();
                     open.pop();
                 }
+                _ if self.is_over() => {
+                    return Err(self.unclosed(innermost.parenthesis, "',' or ')'"));
+                }
                 _ => {
-                    let open = self.place_from_here(innermost.parenthesis.start);
-                    let what = format!("',' or ')': the '(' {open} is still open");
+                    let (here, open) = (self.peek().span, innermost.parenthesis);
+                    let place = place_from(self.source, here.start, open.start);
+                    let what = format!("',' or ')': still open is the '(' {place}");
                     return Err(self.unexpected(&what));
                 }
             }
@@ -469,7 +513,7 @@ fn found(kind: Kind, written: &str) -> (String, Option<&'static str>) {
         ),
         Kind::Op | Kind::Var | Kind::Rule => (format!("'{written}' begins a statement"), None),
         Kind::Stray => stray(written.chars().next().unwrap_or(' ')),
-        _ => (format!("found '{written}'"), None),
+        _ => (format!("found {}", quoted(written)), None),
     }
 }
 
@@ -480,15 +524,15 @@ fn stray(character: char) -> (String, Option<&'static str>) {
     }
     if character.is_control() {
         let expected = "a text; a packed book is read by 'kurvneist text' or with --packed";
-        let wrong = format!("found the byte {:02X}", u32::from(character));
+        let wrong = format!("found {}", quoted(&character.to_string()));
         return (wrong, Some(expected));
     }
-    (format!("found '{character}'"), None)
+    (format!("found {}", quoted(&character.to_string())), None)
 }
 
 /// Names that look the same must be the same, so accents don't stand apart.
 pub fn loose_accent(character: char) -> (String, &'static str) {
-    let code = u32::from(character);
-    let wrong = format!("an accent stands apart from its letter (U+{code:04X})");
+    let code = code_point(character);
+    let wrong = format!("an accent stands apart from its letter ({code})");
     (wrong, "letter and accent as one character")
 }

@@ -8,7 +8,7 @@ use comparison::model::{default_strategy, item_numbers, Book, Item, Operator, Pa
 
 use crate::letters;
 use crate::names::Names;
-use crate::text::lexer::is_name_character;
+use crate::text::lexer::{escaped, is_name_character};
 
 /// The text of a book that the proved writer wrote.
 pub fn book(book: &Book, names: &Names) -> String {
@@ -23,7 +23,7 @@ pub fn book(book: &Book, names: &Names) -> String {
     if !book.rules.is_empty() {
         text.push('\n');
     }
-    let prefix = variable_prefix(names);
+    let prefix = names.variable_prefix();
     let used = variables_used(book);
     if !used.is_empty() {
         text.push_str("var");
@@ -56,7 +56,7 @@ fn operator_line(name: &str, operator: &Operator) -> String {
     let arity = operator.arity;
     let name = match name.chars().all(is_name_character) {
         true => name.to_owned(),
-        false => format!("\"{name}\""),
+        false => format!("\"{}\"", escaped(name)),
     };
     if has_default_strategy(operator) {
         format!("op {name}/{arity}\n")
@@ -81,15 +81,6 @@ pub fn strategy(items: &[Item]) -> String {
     text
 }
 
-/// Variables are called by this and their number; no operator is.
-fn variable_prefix(names: &Names) -> String {
-    let mut prefix = String::from("X");
-    while (0..16).any(|number| names.number(&format!("{prefix}{number}")).is_some()) {
-        prefix.push('_');
-    }
-    prefix
-}
-
 fn variables_used(book: &Book) -> Vec<u8> {
     let mut used: Vec<u8> = book
         .rules
@@ -101,7 +92,7 @@ fn variables_used(book: &Book) -> Vec<u8> {
     used
 }
 
-fn variables(side: &[Symbol]) -> Vec<u8> {
+pub fn variables(side: &[Symbol]) -> Vec<u8> {
     let number = |symbol: &Symbol| match symbol {
         Symbol::Variable(variable) => Some(*variable),
         Symbol::Operator(_) => None,
@@ -126,7 +117,19 @@ fn rule_line(rule: &Rule, names: &Names, prefix: &str) -> String {
     format!("rule {left} = {right}\n")
 }
 
-fn preorder(pattern: &Pattern) -> Vec<Symbol> {
+/// Both sides of a rule, counted from 0, as its text has them.
+pub fn rule(number: usize, rule: &Rule, names: &Names) -> String {
+    let [left, right] = [&rule.left, &rule.right].map(|side| pattern(number, side, names));
+    format!("{left} = {right}")
+}
+
+/// A part of a rule, counted from 0.
+pub fn pattern(number: usize, pattern: &Pattern, names: &Names) -> String {
+    let variable = |variable: u8| names.variable(number, variable);
+    Printer::new(names, &preorder(pattern), &variable).text()
+}
+
+pub fn preorder(pattern: &Pattern) -> Vec<Symbol> {
     match pattern {
         Pattern::Variable(variable) => vec![Symbol::Variable(*variable)],
         Pattern::Operator(operator, arguments) => std::iter::once(Symbol::Operator(*operator))
@@ -236,7 +239,7 @@ impl<'a> Printer<'a> {
 
     /// The constant `end` behind a string is left away.
     fn spelled(&mut self, run: &str) {
-        write!(self.text, "\"{run}\"").expect("a string takes any text");
+        write!(self.text, "\"{}\"", escaped(run)).expect("a string takes any text");
         self.at += run.chars().count();
         if self.ends_here() && self.mark != Some(self.at) {
             self.at += 1;

@@ -5,10 +5,11 @@ use std::collections::HashMap;
 
 use comparison::draft::{RuleDraft, Symbol};
 
+use crate::compose::is_loose_accent;
 use crate::mistake::{Mistake, Span};
 use crate::names::nearest;
-use crate::text::lexer::is_loose_accent;
 use crate::text::parser::{loose_accent, Word, Words};
+use crate::told::quoted;
 
 /// What a declared name means.
 #[derive(Clone, Copy, Debug)]
@@ -160,7 +161,8 @@ pub fn unknown<'n>(word: &Word, known: impl Iterator<Item = &'n str>, what: &str
         return Mistake::new(word.name.span, wrong, expected);
     }
     if word.spelled {
-        let wrong = format!("the string needs the operator '{name}', which is not declared");
+        let name = quoted(name);
+        let wrong = format!("the string needs the operator {name}, which is not declared");
         let expected = "a one-argument operator for each character, '_' for a space, and 'end'";
         return Mistake::new(word.name.span, wrong, expected);
     }
@@ -185,6 +187,6 @@ pub fn arguments(word: &Word, arity: usize) -> Result<(), Mistake> {
         0 => "none".into(),
         _ => format!("{arity}"),
     };
-    let wrong = format!("'{}' stands {stands}", word.name.text);
+    let wrong = format!("{} stands {stands}", quoted(&word.name.text));
     Err(Mistake::new(word.name.span, wrong, due))
 }

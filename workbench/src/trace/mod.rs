@@ -11,7 +11,7 @@ use std::fmt;
 use std::rc::Rc;
 
 use comparison::model::{self, ending, Book, Form, Machine, Order, Term};
-use kurvneist::{Ending, Engine, Refusal, Request};
+use kurvneist::{Answer, Ending, Engine, Refusal, Request};
 
 use crate::letters;
 use crate::progress::Progress;
@@ -110,6 +110,31 @@ pub struct Told {
     pub term: Vec<u8>,
 }
 
+impl Told {
+    pub fn of(answer: &Answer, term: &[u8]) -> Told {
+        Told {
+            ending: answer.ending,
+            rewrites: answer.rewrites.into(),
+            entries: answer.entries,
+            granted: answer.granted,
+            kept: answer.kept,
+            term: term.to_vec(),
+        }
+    }
+
+    /// What the model stands at; `Cut` where nothing has ended it.
+    pub(crate) fn of_model(machine: &Machine, ended: Option<Ending>) -> Told {
+        Told {
+            ending: ended.unwrap_or(Ending::Cut),
+            rewrites: machine.rewrites,
+            entries: machine.entries,
+            granted: machine.granted,
+            kept: machine.kept,
+            term: machine.term.preorder(),
+        }
+    }
+}
+
 impl fmt::Display for Told {
     fn fmt(&self, f: &mut fmt::Formatter) -> fmt::Result {
         write!(
@@ -136,22 +161,19 @@ pub fn run_form(
     stride: usize,
     progress: &mut Progress,
 ) -> Result<Trace, Failure> {
+    run_form_against(form, &mut engine_of(form), request, stride, progress)
+}
+
+/// The proved engine, for requests of that form.
+pub(crate) fn engine_of(form: Form) -> impl FnMut(&Request) -> Result<Told, Refusal> {
     let mut engine = Engine::new();
-    let mut answering = |asked: &Request| {
+    move |asked| {
         let posting = match form {
-            Form::Line => engine.post(asked)?,
-            Form::Text => engine.post_payee(asked)?,
+            Form::Line => engine.post(asked),
+            Form::Text => engine.post_payee(asked),
         };
-        Ok(Told {
-            ending: posting.answer.ending,
-            rewrites: posting.answer.rewrites.into(),
-            entries: posting.answer.entries,
-            granted: posting.answer.granted,
-            kept: posting.answer.kept,
-            term: posting.term.to_vec(),
-        })
-    };
-    run_form_against(form, &mut answering, request, stride, progress)
+        posting.map(|posting| Told::of(&posting.answer, posting.term))
+    }
 }
 
 /// Traces a term's run against anything that answers as an engine should.
@@ -179,13 +201,15 @@ fn run_form_against(
     let mut machine = Machine::new(&book, line, request.units, request.budget);
     let mut trace = Trace::new(&machine);
     compare(engine, request, &machine, None)?;
+    // The time goes with the square of the entries.
+    progress.expect(Some((request.schedule.len() as u64).pow(2)));
     for (entry, &unit) in (1..).zip(request.schedule) {
         let (step, ended) = step(&mut machine, unit.into(), trace.term());
         trace.steps.push(step);
         if entry % stride == 0 || ended.is_some() || entry == request.schedule.len() {
             compare(engine, request, &machine, ended)?;
         }
-        progress.tell(entry, request.schedule.len(), " entries");
+        progress.tell(entry, "entries", "", (entry as u64).pow(2));
         if let Some(ending) = ended {
             trace.ending = ending;
             break;
@@ -199,26 +223,16 @@ fn run_form_against(
 }
 
 /// The engine asked again, with the schedule cut where the model stands.
-fn compare(
+pub(crate) fn compare(
     engine: &mut Answering,
     request: &Request,
     machine: &Machine,
     ended: Option<Ending>,
 ) -> Result<(), Failure> {
     let entry = machine.entries as usize;
-    let cut = Request {
-        schedule: &request.schedule[..entry],
-        ..*request
-    };
+    let cut = request.schedule(&request.schedule[..entry]);
     let engine = engine(&cut).map_err(Failure::Refused)?;
-    let model = Told {
-        ending: ended.unwrap_or(Ending::Cut),
-        rewrites: machine.rewrites,
-        entries: machine.entries,
-        granted: machine.granted,
-        kept: machine.kept,
-        term: machine.term.preorder(),
-    };
+    let model = Told::of_model(machine, ended);
     match engine == model {
         true => Ok(()),
         false => Err(Failure::Difference {
@@ -268,7 +282,7 @@ fn step(machine: &mut Machine, unit: usize, before: &Rc<[u8]>) -> (Step, Option<
     (step, ended)
 }
 
-fn shown_ending(number: u8) -> Ending {
+pub(crate) fn shown_ending(number: u8) -> Ending {
     match number {
         ending::FINISHED => Ending::Finished,
         ending::SPENT => Ending::Spent,
@@ -352,7 +366,7 @@ impl Watch {
     }
 }
 
-fn rule_number(book: &Book, term: &Term, at: &[u8]) -> Option<usize> {
+pub(crate) fn rule_number(book: &Book, term: &Term, at: &[u8]) -> Option<usize> {
     let (found, _) = book.first_match(term.part(at)?)?;
     let place = book.rules.iter().position(|rule| std::ptr::eq(rule, found));
     place.map(|place| place + 1)
@@ -366,7 +380,7 @@ fn count_of(order: &Order) -> usize {
 }
 
 /// Where a part starts in preorder.
-fn offset(term: &Term, at: &[u8]) -> usize {
+pub(crate) fn offset(term: &Term, at: &[u8]) -> usize {
     let Some((&argument, rest)) = at.split_first() else {
         return 0;
     };

@@ -12,6 +12,16 @@ use crate::trace::{Deed, State, Step, Trace};
 
 /// `width` is the room for the present term, 0 for as much as it needs.
 pub fn show(trace: &Trace, named: &Named, width: usize) -> String {
+    show_if(&|_| true, trace, named, width)
+}
+
+/// The entries alone at which a rule acts, or would.
+pub fn show_rules(trace: &Trace, named: &Named, width: usize) -> String {
+    let by_rule = |deed: &Deed| matches!(deed, Deed::Rewrite(_) | Deed::Stopped(..));
+    show_if(&by_rule, trace, named, width)
+}
+
+fn show_if(shown: &dyn Fn(&Deed) -> bool, trace: &Trace, named: &Named, width: usize) -> String {
     let names = &named.names;
     let mut text = String::from(HEAD);
     let (start, _) = marked_term(&trace.start, names, None);
@@ -22,17 +32,19 @@ pub fn show(trace: &Trace, named: &Named, width: usize) -> String {
     let mut before = vec![State::Idle; trace.units];
     before[0] = State::Busy;
     for (entry, step) in (1..).zip(&trace.steps) {
-        let (term, marked) = marked_term(&step.term, names, step.place);
-        row(
-            &mut text,
-            [
-                &entry.to_string(),
-                &step.unit.to_string(),
-                order(&step.deed),
-                &change(step, before[step.unit], &named.rule_lines),
-                &cut(&term, marked, width),
-            ],
-        );
+        if shown(&step.deed) {
+            let (term, marked) = marked_term(&step.term, names, step.place);
+            row(
+                &mut text,
+                [
+                    &entry.to_string(),
+                    &step.unit.to_string(),
+                    order(&step.deed),
+                    &change(step, before[step.unit], &named.rule_lines),
+                    &cut(&term, marked, width),
+                ],
+            );
+        }
         before.clone_from(&step.states);
     }
     writeln!(text, "\n{}", closing(trace)).expect("a string takes any text");
@@ -88,7 +100,7 @@ pub fn change(step: &Step, before: State, rule_lines: &[usize]) -> String {
 }
 
 /// A rule by its number, and its line in the text if there is one.
-fn rule_name(rule: usize, rule_lines: &[usize]) -> String {
+pub fn rule_name(rule: usize, rule_lines: &[usize]) -> String {
     match rule_lines.get(rule - 1) {
         Some(line) => format!("rule {rule} (line {line})"),
         None => format!("rule {rule}"),

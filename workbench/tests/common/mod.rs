@@ -1,6 +1,8 @@
 //! What several tests need.
 #![allow(dead_code)]
 
+pub mod json;
+
 use std::io::Write;
 use std::path::PathBuf;
 use std::process::{Command, Stdio};

@@ -1,0 +1,67 @@
+//! What callers can't rely on, so that these types may grow without breaking them.
+//!
+//! A request is not made of its fields:
+//!
+//! ```compile_fail,E0639
+//! let request = kurvneist::Request { book: &[], line: &[], units: 1, budget: 0, schedule: &[] };
+//! ```
+//!
+//! An answer or a posting is not taken apart into all its fields; with `..` it is:
+//!
+//! ```compile_fail,E0638
+//! fn rewrites(answer: kurvneist::Answer) -> u32 {
+//!     let kurvneist::Answer { ending: _, rewrites, entries: _, granted: _, kept: _, length: _ } = answer;
+//!     rewrites
+//! }
+//! ```
+//!
+//! ```compile_fail,E0638
+//! fn symbols(posting: kurvneist::Posting) -> usize {
+//!     let kurvneist::Posting { answer: _, term } = posting;
+//!     term.len()
+//! }
+//! ```
+//!
+//! ```
+//! fn rewrites(posting: kurvneist::Posting) -> u32 {
+//!     let kurvneist::Posting { answer: kurvneist::Answer { rewrites, .. }, .. } = posting;
+//!     rewrites
+//! }
+//! ```
+//!
+//! Endings and refusals have an arm for those to come; then they can be matched:
+//!
+//! ```compile_fail,E0004
+//! # use kurvneist::Ending;
+//! fn is_posting(ending: Ending) -> bool {
+//!     match ending {
+//!         Ending::Finished => true,
+//!         Ending::Spent | Ending::Full | Ending::Cut => false,
+//!     }
+//! }
+//! ```
+//!
+//! ```
+//! # use kurvneist::{Ending, Refusal};
+//! fn is_posting(ending: Ending) -> bool {
+//!     match ending {
+//!         Ending::Finished => true,
+//!         _ => false,
+//!     }
+//! }
+//! fn is_too_long(refusal: Refusal) -> bool {
+//!     matches!(refusal, Refusal::LineTooLong | Refusal::TextTooLong)
+//! }
+//! ```
+//!
+//! ```compile_fail,E0004
+//! use kurvneist::Refusal::*;
+//! fn all(refusal: kurvneist::Refusal) {
+//!     match refusal {
+//!         BookRunsOut | NoOperator | BadStrategy | UnknownOperatorInRule | LeftSideIsVariable
+//!         | LeftSideRepeatsVariable | RightSideAddsVariable | SideTooLong | BookLeftOver | LineIsNoTerm
+//!         | UnknownOperatorInLine | LineTooLong | BadUnits | UnknownUnitInSchedule | WorkTooShort
+//!         | OutputTooShort | BadInput | TextTooLong | NoLetters => (),
+//!     }
+//! }
+//! ```

@@ -1,0 +1,62 @@
+/* A null pointer with a length of 0 is a buffer without bytes, wherever one is lent. */
+#include "kurvneist.h"
+#include <stdio.h>
+
+/* one constant, no rules */
+static const uint8_t constant[] = {0x01, 0x00, 0x00};
+static const uint8_t line[] = {0};
+
+/* operator 0 without arguments, 1 to 42 with one each, no rules */
+static const uint8_t letters[] = {43,   0x02, 0x22, 0x22, 0x22, 0x22, 0x22, 0x22, 0x22, 0x22, 0x22, 0x22,
+                                  0x22, 0x22, 0x22, 0x22, 0x22, 0x22, 0x22, 0x22, 0x22, 0x22, 0x20, 0x00};
+
+static uint8_t work[KURVNEIST_WORK_LENGTH];
+static uint8_t output[KURVNEIST_OUTPUT_LENGTH];
+static uint64_t answer[KURVNEIST_ANSWER_LENGTH];
+static int wrong = 0;
+
+static void due(const char *what, uint8_t expected, uint8_t told) {
+    if (told == expected) return;
+    printf("%s: %u in the place of %u\n", what, told, expected);
+    wrong++;
+}
+
+static void lines(void) {
+    due("no book", KURVNEIST_BOOK_RUNS_OUT,
+        kurvneist_reduce(NULL, 0, line, sizeof line, 1, 9, NULL, 0, work, sizeof work, output, sizeof output, answer));
+    due("no line", KURVNEIST_LINE_IS_NO_TERM,
+        kurvneist_reduce(constant, sizeof constant, NULL, 0, 1, 9, NULL, 0, work, sizeof work, output, sizeof output, answer));
+    due("no work area", KURVNEIST_WORK_TOO_SHORT,
+        kurvneist_reduce(constant, sizeof constant, line, sizeof line, 1, 9, NULL, 0, NULL, 0, output, sizeof output, answer));
+    due("no output", KURVNEIST_OUTPUT_TOO_SHORT,
+        kurvneist_reduce(constant, sizeof constant, line, sizeof line, 1, 9, NULL, 0, work, sizeof work, NULL, 0, answer));
+    due("nothing", KURVNEIST_BAD_UNITS, kurvneist_reduce(NULL, 0, NULL, 0, 0, 0, NULL, 0, NULL, 0, NULL, 0, answer));
+    due("no schedule", KURVNEIST_ACCEPTED,
+        kurvneist_reduce(constant, sizeof constant, line, sizeof line, 1, 9, NULL, 0, work, sizeof work, output, sizeof output,
+                         answer));
+    due("the ending without a schedule", KURVNEIST_CUT, (uint8_t)answer[KURVNEIST_ENDING]);
+}
+
+static void texts(void) {
+    due("a text without a book", KURVNEIST_BOOK_RUNS_OUT,
+        kurvneist_payee(NULL, 0, NULL, 0, 1, 9, NULL, 0, work, sizeof work, output, sizeof output, answer));
+    due("no text, no letters", KURVNEIST_NO_LETTERS,
+        kurvneist_payee(constant, sizeof constant, NULL, 0, 1, 9, NULL, 0, work, sizeof work, output, sizeof output, answer));
+    output[0] = 7;
+    due("no text", KURVNEIST_ACCEPTED,
+        kurvneist_payee(letters, sizeof letters, NULL, 0, 1, 9, NULL, 0, work, sizeof work, output, sizeof output, answer));
+    due("the symbols of no text", 1, (uint8_t)answer[KURVNEIST_LENGTH]);
+    due("the term of no text", 0, output[0]);
+}
+
+static void books(void) {
+    due("nothing to write", KURVNEIST_BOOK_RUNS_OUT, kurvneist_write_book(NULL, 0, NULL, 0, answer));
+    due("nowhere to write", KURVNEIST_OUTPUT_TOO_SHORT, kurvneist_write_book(constant, sizeof constant, NULL, 0, answer));
+}
+
+int main(void) {
+    lines();
+    texts();
+    books();
+    return wrong != 0;
+}

@@ -1,0 +1,272 @@
+//! The tables and examples of docs/FORMAT.md, held to the engine.
+
+mod common;
+
+use std::fs;
+
+use common::*;
+use kurvneist::{
+    written_book, Ending, Engine, Posting, Refusal, Request, LONGEST_BOOK, OUTPUT_LENGTH,
+    WORK_LENGTH,
+};
+
+fn format() -> String {
+    fs::read_to_string("../docs/FORMAT.md").unwrap()
+}
+
+/// The block that is marked by this word.
+fn block<'a>(format: &'a str, word: &str) -> &'a str {
+    let (_, rest) = format.split_once(&format!("```{word}\n")).expect(word);
+    rest.split_once("```").unwrap().0
+}
+
+/// The cells of each row of the table with this head, without the marks of code.
+fn table(format: &str, head: &str) -> Vec<Vec<String>> {
+    let (_, rest) = format.split_once(head).expect(head);
+    let rows = rest.lines().skip(2).take_while(|row| row.starts_with('|'));
+    let cells = |row: &str| {
+        let cells = row.trim_matches('|').split(" | ");
+        cells
+            .map(|cell| cell.trim().replace('`', ""))
+            .collect::<Vec<_>>()
+    };
+    rows.map(cells).collect()
+}
+
+fn bytes(hexadecimal: &str) -> Vec<u8> {
+    let digits = hexadecimal.split_whitespace();
+    digits
+        .map(|digits| u8::from_str_radix(digits, 16).expect(digits))
+        .collect()
+}
+
+/// `7 to 9` or `7`, in this base, as the first and the last.
+fn range(words: &str, base: u32) -> (usize, usize) {
+    let (first, last) = words.split_once(" to ").unwrap_or((words, words));
+    let number = |digits| usize::from_str_radix(digits, base).expect(words);
+    (number(first), number(last))
+}
+
+#[test]
+fn the_book_bit_by_bit() {
+    let format = format();
+    let book = bytes(block(&format, "book"));
+    assert_eq!(book, book_p());
+    let mut bits = String::new();
+    for row in table(&format, "| Bits | Are | Value | Say |") {
+        let [place, are, value, _] = &row[..] else {
+            panic!("{row:?}")
+        };
+        assert_eq!(
+            range(place, 10),
+            (bits.len(), bits.len() + are.len() - 1),
+            "{row:?}"
+        );
+        assert_eq!(u8::from_str_radix(are, 2), value.parse(), "{row:?}");
+        bits.push_str(are);
+    }
+    let packed: String = book.iter().map(|byte| format!("{byte:08b}")).collect();
+    assert_eq!(bits, packed);
+}
+
+#[test]
+fn written_books() {
+    let rows = table(&format(), "| Read | Written | The book |");
+    assert_eq!(rows.len(), 2);
+    for row in rows {
+        assert_eq!(written_book(&bytes(&row[0])), Ok(bytes(&row[1])));
+    }
+    // The two strategies that it settles.
+    let written = |arity, items: &[u8]| written_book(&book(&[(arity, Some(items))], &[]));
+    assert_eq!(
+        written(2, &[8, 1, 1, 9, 8, 9, 2, 0]),
+        written(2, &[1, 2, 0])
+    );
+    assert_eq!(written(1, &[1, 0, 1, 0]), written(1, &[1, 0]));
+}
+
+/// A standard input as the table of its parts says.
+struct Input<'a> {
+    book: &'a [u8],
+    line: &'a [u8],
+    units: u8,
+    budget: u32,
+    schedule: &'a [u8],
+}
+
+fn input(bytes: &[u8]) -> Input<'_> {
+    let announced = |bytes: &[u8]| usize::from(u16::from_be_bytes([bytes[0], bytes[1]]));
+    let (book, rest) = bytes[2..].split_at(announced(bytes));
+    let (line, rest) = rest[2..].split_at(announced(rest));
+    Input {
+        book,
+        line,
+        units: rest[0],
+        budget: u32::from_be_bytes(rest[1..5].try_into().unwrap()),
+        schedule: &rest[5..],
+    }
+}
+
+fn page_of(posting: &Posting) -> String {
+    let answer = posting.answer;
+    let symbols = posting.term.iter().map(|symbol| format!(" {symbol}"));
+    format!(
+        "REDUCE 1\nend {}\nrewrites {}\nentries {}\ngranted {}\nkept {}\nterm{}\n",
+        answer.ending.number(),
+        answer.rewrites,
+        answer.entries,
+        answer.granted,
+        answer.kept,
+        symbols.collect::<String>()
+    )
+}
+
+#[test]
+fn the_input_has_the_page() {
+    let format = format();
+    let bytes = bytes(block(&format, "input"));
+    let asked = input(&bytes);
+    let request = Request::new(asked.book, asked.line)
+        .units(asked.units)
+        .budget(asked.budget)
+        .schedule(asked.schedule);
+    let mut engine = Engine::new();
+    let posting = engine.post(&request).unwrap();
+    let page = block(&format, "page");
+    assert_eq!(page_of(&posting), page);
+    // The gate puts this file through the proved program.
+    assert_eq!(fs::read("../examples/finished.in").unwrap(), bytes);
+    assert_eq!(
+        fs::read_to_string("../examples/finished.out").unwrap(),
+        page
+    );
+}
+
+/// Operators 0 to 42 as texts ask for them.
+fn letters() -> Vec<u8> {
+    book(&[vec![(0, None)], vec![(1, None); 42]].concat(), &[])
+}
+
+fn line_of(text: &[u8]) -> Vec<u8> {
+    let book = letters();
+    let mut engine = Engine::new();
+    let posting = engine.post_payee(&Request::new(&book, text)).unwrap();
+    posting.term.to_vec()
+}
+
+/// The class that the table gives each byte; 0 separates.
+fn classes(format: &str) -> [u8; 256] {
+    let mut classes = [0; 256];
+    for row in table(format, "| Bytes | Class | Are |") {
+        let (first_class, last_class) = range(&row[1], 10);
+        for words in row[0].split(", ") {
+            let (first, last) = range(words, 16);
+            for (byte, class) in classes.iter_mut().enumerate().take(last + 1).skip(first) {
+                assert_eq!(*class, 0, "{byte:02X} stands twice");
+                *class = last_class.min(first_class + byte - first) as u8;
+            }
+        }
+    }
+    classes
+}
+
+#[test]
+fn classes_of_texts() {
+    let format = format();
+    for (byte, class) in (0..=255).zip(classes(&format)) {
+        let due = match class {
+            0 => vec![0],
+            class => vec![class, 0],
+        };
+        assert_eq!(line_of(&[byte]), due, "{byte:02X}");
+    }
+    let example = bytes(block(&format, "text"));
+    for text in [&b"Caf\xE9 7"[..], b" CAFE - 7."] {
+        assert_eq!(line_of(text), example);
+    }
+}
+
+#[test]
+fn endings_by_number_and_name() {
+    let rows = table(&format(), "| Ending | | |");
+    assert_eq!(rows.len(), (0..).map_while(Ending::new).count());
+    for (number, row) in (0..).zip(rows) {
+        let ending = Ending::new(number).unwrap();
+        assert_eq!(row[..2], [number.to_string(), ending.to_string()]);
+    }
+}
+
+#[test]
+fn refusals_by_number_name_and_condition() {
+    let rows = table(&format(), "| Number | Rust | C | Condition |");
+    assert_eq!(rows.len(), Refusal::ALL.len());
+    for (row, refusal) in rows.iter().zip(Refusal::ALL) {
+        let due = [
+            refusal.number().to_string(),
+            format!("{refusal:?}"),
+            refusal.condition().to_owned(),
+        ];
+        assert_eq!([&row[0], &row[1], &row[3]], due.each_ref());
+        // That the name in C has this number is seen in tests/c.rs.
+        let words = row[2].trim_start_matches("KURVNEIST").replace('_', "");
+        assert_eq!(words, row[1].to_uppercase());
+    }
+}
+
+/// What the page says of faults that are near each other, and the order of its table of places.
+#[test]
+fn which_fault_is_told() {
+    let told = |book: &[u8], line: &[u8], units, schedule: &[u8]| {
+        let request = Request::new(book, line).units(units).schedule(schedule);
+        Engine::new()
+            .post(&request)
+            .map_or_else(|x| x, |_| panic!("accepted"))
+    };
+    let sound = book_p();
+    let two = [(0, None), (1, None)];
+    let rule = |left: &[Symbol], right: &[Symbol]| book(&two, &[(left, right)]);
+    assert_eq!(told(&[], &[], 0, &[9]), Refusal::BadUnits);
+    assert_eq!(told(&[], &[], 1, &[9]), Refusal::BookRunsOut);
+    assert_eq!(told(&[0], &[], 1, &[9]), Refusal::NoOperator);
+    assert_eq!(told(&sound, &[255; 1025], 1, &[9]), Refusal::LineTooLong);
+    assert_eq!(told(&sound, &[0, 255], 1, &[9]), Refusal::LineIsNoTerm);
+    assert_eq!(
+        told(&sound, &[2, 255], 1, &[9]),
+        Refusal::UnknownOperatorInLine
+    );
+    assert_eq!(told(&sound, &[0], 1, &[9]), Refusal::UnknownUnitInSchedule);
+    // Operator 2 is not there, at the 64th place.
+    let chain = |last: u8| [vec![op(1); 63], vec![op(last)]].concat();
+    assert_eq!(
+        told(&rule(&chain(2), &[]), &[], 1, &[]),
+        Refusal::UnknownOperatorInRule
+    );
+    assert_eq!(
+        told(&rule(&chain(1), &[]), &[], 1, &[]),
+        Refusal::SideTooLong
+    );
+    assert_eq!(
+        told(&rule(&[X], &[]), &[], 1, &[]),
+        Refusal::LeftSideIsVariable
+    );
+    // A group that is still open at the end.
+    let open = book(&[(1, Some(&[8, 1]))], &[]);
+    assert_eq!(told(&open, &[], 1, &[]), Refusal::BadStrategy);
+}
+
+#[test]
+fn lengths() {
+    let format = format();
+    for length in [WORK_LENGTH, OUTPUT_LENGTH, LONGEST_BOOK, 32_768] {
+        let shown = format!("{},{:03}", length / 1000, length % 1000);
+        assert!(format.contains(&shown), "{shown}");
+    }
+}
+
+#[test]
+fn those_who_need_it_are_led_to_it() {
+    for file in ["../README.md", "include/kurvneist.h", "src/lib.rs"] {
+        let text = fs::read_to_string(file).unwrap();
+        assert!(text.contains("docs/FORMAT.md"), "{file}");
+    }
+}

@@ -1,0 +1,172 @@
+//! Runs as a command line asks for them: by the schedule that it gives, or by
+//! longer and longer ones.
+
+use std::sync::OnceLock;
+
+use comparison::model::Form;
+use kurvneist::{round_robin, Answer, Ending, Engine, Refusal, Request};
+
+/// Where no schedule is given, the units take turns, and a run that is cut is
+/// made again with the next of these lengths.
+pub const LENGTHS: [usize; 4] = [1 << 15, 1 << 18, 1 << 21, 1 << 24];
+
+/// So many of them for a trace, whose time grows with the square of the length.
+const TRACED: usize = 2;
+
+/// What came of a line.
+pub struct Posted {
+    pub answer: Answer,
+    pub term: Vec<u8>,
+    /// How the run by several units ended, if one unit made this one in its
+    /// place.
+    pub instead_of: Option<Ending>,
+}
+
+/// The schedules by which lines are posted, one for all lines and threads.
+pub struct Schedules {
+    given: Option<Vec<u8>>,
+    shared: Turns,
+    alone: Turns,
+}
+
+impl Schedules {
+    pub fn new(units: u8, given: Option<Vec<u8>>) -> Schedules {
+        Schedules {
+            given,
+            shared: Turns::new(units),
+            alone: Turns::new(1),
+        }
+    }
+
+    /// Posts a line; the request's own units and schedule don't count.
+    ///
+    /// Several units may fill the term where one, which does part after part,
+    /// does not, and they use entries faster. So without a given schedule one
+    /// unit tries what they left undone: more units never make a line fail.
+    pub fn post(
+        &self,
+        engine: &mut Engine,
+        form: Form,
+        request: &Request,
+    ) -> Result<Posted, Refusal> {
+        if let Some(given) = &self.given {
+            return once(engine, form, request, self.shared.units, given);
+        }
+        let shared = self.shared.post(engine, form, request, LENGTHS.len())?;
+        let ending = shared.answer.ending;
+        if self.shared.units == 1 || !matches!(ending, Ending::Full | Ending::Cut) {
+            return Ok(shared);
+        }
+        let alone = self.alone.post(engine, form, request, LENGTHS.len())?;
+        Ok(match alone.answer.ending {
+            Ending::Finished => Posted {
+                instead_of: Some(ending),
+                ..alone
+            },
+            _ => shared,
+        })
+    }
+
+    /// The schedule of a trace: the given one, or the entries that the run
+    /// uses, if those aren't too many to be shown.
+    pub fn traced(&self, engine: &mut Engine, form: Form, request: &Request) -> &[u8] {
+        if let Some(given) = &self.given {
+            return given;
+        }
+        let run = self.shared.post(engine, form, request, TRACED);
+        match run.map(|run| (run.answer.ending, run.answer.entries as usize)) {
+            Ok((Ending::Cut, _)) | Err(_) => self.shared.schedule(0),
+            Ok((_, entries)) => &self.shared.longest_made()[..entries],
+        }
+    }
+
+    /// The units of a posting, and the entries that they used.
+    pub fn used(&self, posted: &Posted) -> (u8, &[u8]) {
+        let entries = posted.answer.entries as usize;
+        match (&self.given, posted.instead_of) {
+            (Some(given), _) => (self.shared.units, &given[..entries]),
+            (None, Some(_)) => (1, &self.alone.longest_made()[..entries]),
+            (None, None) => (self.shared.units, &self.shared.longest_made()[..entries]),
+        }
+    }
+
+    /// The same, but the first entries alone of a run that is too long to be
+    /// explained.
+    pub fn explained(&self, posted: &Posted) -> (u8, &[u8]) {
+        match self.used(posted) {
+            (units, used) if self.given.is_none() && used.len() > LENGTHS[TRACED - 1] => {
+                (units, &used[..LENGTHS[0]])
+            }
+            used => used,
+        }
+    }
+
+    /// What to try where a run was cut.
+    pub fn advice(&self) -> &'static str {
+        match self.given {
+            Some(_) => "try a longer --schedule in which every unit acts, or none",
+            None => "the most without --schedule; file:NAME takes a longer one",
+        }
+    }
+}
+
+/// Units that take turns, for each of the lengths.
+struct Turns {
+    units: u8,
+    schedules: [OnceLock<Vec<u8>>; LENGTHS.len()],
+}
+
+impl Turns {
+    fn new(units: u8) -> Turns {
+        Turns {
+            units,
+            schedules: Default::default(),
+        }
+    }
+
+    fn schedule(&self, level: usize) -> &[u8] {
+        self.schedules[level].get_or_init(|| round_robin(self.units, LENGTHS[level]))
+    }
+
+    fn longest_made(&self) -> &[u8] {
+        let made = self.schedules.iter().filter_map(OnceLock::get).next_back();
+        made.map_or(&[], Vec::as_slice)
+    }
+
+    /// The first run that isn't cut, or that of the last of so many lengths.
+    fn post(
+        &self,
+        engine: &mut Engine,
+        form: Form,
+        request: &Request,
+        lengths: usize,
+    ) -> Result<Posted, Refusal> {
+        let mut level = 0;
+        loop {
+            let posted = once(engine, form, request, self.units, self.schedule(level))?;
+            level += 1;
+            if posted.answer.ending != Ending::Cut || level == lengths {
+                return Ok(posted);
+            }
+        }
+    }
+}
+
+fn once(
+    engine: &mut Engine,
+    form: Form,
+    request: &Request,
+    units: u8,
+    schedule: &[u8],
+) -> Result<Posted, Refusal> {
+    let request = request.units(units).schedule(schedule);
+    let posting = match form {
+        Form::Line => engine.post(&request),
+        Form::Text => engine.post_payee(&request),
+    }?;
+    Ok(Posted {
+        answer: posting.answer,
+        term: posting.term.to_vec(),
+        instead_of: None,
+    })
+}

@@ -1,0 +1,148 @@
+//! What a book may not mean: warnings on a text without mistakes.
+//!
+//! Each says what is so for every line, decided exactly on the book that the
+//! engine gets, or calls itself a guess.
+
+mod declarations;
+mod patterns;
+mod rules;
+
+use comparison::model;
+
+use crate::json::{Fields, Json};
+use crate::mistake::{Mistake, Span};
+use crate::text::check::Named;
+use crate::text::parser::{parse, Words};
+
+#[derive(Clone, Copy, Debug, PartialEq, Eq)]
+pub enum Kind {
+    /// Rules before it match all that the rule matches.
+    NeverFirst,
+    /// A rule before it has this left side, up to the variables' names.
+    EqualLeft,
+    /// The strategy of the left side's operator never tries rules.
+    NeverTried,
+    /// A part of the left side is rewritten before the rule is tried.
+    RewrittenBefore,
+    SameSides,
+    UnusedOperator,
+    UnusedVariable,
+    SkippedArgument,
+}
+
+impl Kind {
+    pub const ALL: [Kind; 8] = [
+        Kind::NeverFirst,
+        Kind::EqualLeft,
+        Kind::NeverTried,
+        Kind::RewrittenBefore,
+        Kind::SameSides,
+        Kind::UnusedOperator,
+        Kind::UnusedVariable,
+        Kind::SkippedArgument,
+    ];
+
+    pub fn name(self) -> &'static str {
+        match self {
+            Kind::NeverFirst => "never-first",
+            Kind::EqualLeft => "equal-left",
+            Kind::NeverTried => "never-tried",
+            Kind::RewrittenBefore => "rewritten-before",
+            Kind::SameSides => "same-sides",
+            Kind::UnusedOperator => "unused-operator",
+            Kind::UnusedVariable => "unused-variable",
+            Kind::SkippedArgument => "skipped-argument",
+        }
+    }
+
+    /// Lines may name what no rule names.
+    pub fn is_guess(self) -> bool {
+        self == Kind::UnusedOperator
+    }
+}
+
+#[derive(Clone, Debug)]
+pub struct Warning {
+    pub kind: Kind,
+    pub mistake: Mistake,
+}
+
+impl Warning {
+    fn new(kind: Kind, span: Span, wrong: impl Into<String>, expected: &str) -> Warning {
+        let expected = match kind.is_guess() {
+            true => format!("{expected} (a guess)"),
+            false => expected.to_owned(),
+        };
+        Warning {
+            kind,
+            mistake: Mistake::new(span, wrong, expected),
+        }
+    }
+
+    /// As a mistake is shown; where it is none, it says so.
+    pub fn show(&self, name: &str, source: &str, strict: bool) -> String {
+        let mut mistake = self.mistake.clone();
+        if !strict {
+            mistake.wrong = format!("warning: {}", mistake.wrong);
+        }
+        mistake.show(name, source)
+    }
+
+    pub fn json(&self, source: &str, strict: bool) -> Json {
+        let level = match strict {
+            true => "error",
+            false => "warning",
+        };
+        let mut fields: Fields = vec![
+            ("level", level.into()),
+            ("kind", self.kind.name().into()),
+            ("certain", (!self.kind.is_guess()).into()),
+        ];
+        fields.extend(place_and_message(&self.mistake, source));
+        fields.into()
+    }
+}
+
+/// A mistake as a warning's object has it.
+pub fn mistake_json(mistake: &Mistake, source: &str) -> Json {
+    let mut fields: Fields = vec![
+        ("level", "error".into()),
+        ("kind", "mistake".into()),
+        ("certain", true.into()),
+    ];
+    fields.extend(place_and_message(mistake, source));
+    fields.push(("refusal", mistake.refusal.into()));
+    fields.into()
+}
+
+fn place_and_message(mistake: &Mistake, source: &str) -> Fields {
+    let (line, column) = mistake.place(source);
+    vec![
+        ("line", line.into()),
+        ("column", column.into()),
+        ("message", mistake.message().into()),
+    ]
+}
+
+/// The warnings on a book and the text that it was read from, in the order of
+/// the text.
+pub fn of(source: &str, named: &Named) -> Vec<Warning> {
+    let (statements, _) = parse(source);
+    let book = model::read_book(&named.book).expect("what the proved writer wrote can be read");
+    let mut warnings = rules::warnings(source, &statements, named, &book);
+    warnings.extend(declarations::warnings(&statements, named, &book));
+    warnings.sort_by_key(|warning| warning.mistake.span.start);
+    warnings
+}
+
+/// Where a side stands, with its quotes and parentheses.
+fn side_span(source: &str, words: &Words) -> Span {
+    let (first, last) = (&words[0], &words[words.len() - 1]);
+    let quote = first.spelled && source[..first.name.span.start].ends_with('"');
+    let start = first.name.span.start - usize::from(quote);
+    let end = last.name.span.end;
+    let behind = &source[end..];
+    let closing = behind.find(|next| !matches!(next, ')' | '"' | ' '));
+    let closed = end + closing.unwrap_or(behind.len());
+    Span::new(start, source[..closed].trim_end().len())
+}
