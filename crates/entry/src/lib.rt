@@ -233,8 +233,7 @@ pub fn enter(
     ensures { λ s r. ⌜ E.outcome r (S.state (now (symbols .exit)) (now (work .exit)) (now (units .exit)) (E.after p r) l) ≡ E.entered (now (book .entry)) l u s ⌝ }
     ensures { λ s r. ⌜ S.Arrays (now (symbols .exit)) (now (scratch .exit)) (now (work .exit)) (now (units .exit)) (E.after p r) l ⌝ }
 {
-    let unit = units::load(units, u);
-    if !unit.busy {
+    if !units::is_busy(units, u) {
         return Entry::Going(p);
     }
     match units::top(work, units, u) {

@@ -57,7 +57,7 @@ fn cell_of(busy: bool, height: usize) -> u16
     (height + 2048) as u16
 }
 
-pub fn load(units: &[u16; 8], u: usize) -> Unit
+fn load(units: &[u16; 8], u: usize) -> Unit
     requires { ⌜ u < 8 ⌝ }
     ensures { λ r. ⌜ U.State-of (now (units .entry)) u r ⌝ }
 {
@@ -68,7 +68,15 @@ pub fn load(units: &[u16; 8], u: usize) -> Unit
     }
 }
 
-pub fn store(units: &mut [u16; 8], u: usize, x: Unit)
+// Is unit u busy?
+pub fn is_busy(units: &[u16; 8], u: usize) -> bool
+    requires { ⌜ u < 8 ⌝ }
+    ensures { λ r. ⌜ r ≡ K.busy-in (now (units .entry)) u ⌝ }
+{
+    units[u] < 2048
+}
+
+fn store(units: &mut [u16; 8], u: usize, x: Unit)
     requires { ⌜ (u < 8) × (x .height < 2048) ⌝ }
     ensures { λ _. ⌜ now (units .exit) ≡ set (now (units .entry)) u (K.cell (x .busy) (x .height)) ⌝ }
 {

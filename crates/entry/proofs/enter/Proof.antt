@@ -7,18 +7,18 @@ use Rattle.entry.proofs.Orders.{stayed, finished, slept, exit-asks, exi
 use Rattle.entry.proofs.enter.Statement.{statement}
 use Rattle.entry.proofs.enter.Tie as tie
 
-load-requires : tie.Need-load-requires
-load-requires c κs = search needs
+is-busy-requires : tie.Need-is-busy-requires
+is-busy-requires c κs = search needs
 
 returns : tie.Need-returns
 returns c =
-    let b = c .before .before in
+    let b = c .before in
     let q = b .before .before .before .before .pre in
-    stayed (q .0) (q .1 .0) (q .1 .1) (sym (b .load .ensures .busy) ∙ not-true _ (c .if1 .taken))
+    stayed (q .0) (q .1 .0) (q .1 .1) (sym (b .is-busy .ensures) ∙ not-true _ (c .if1 .taken))
 
 top-requires : tie.Need-top-requires
 top-requires c κs =
-    let q = c .before .before .before .before .before .before .before .before .pre in
+    let q = c .before .before .before .before .before .before .before .pre in
     has-frame (q .0) (q .1 .0) (q .1 .1)
 
 enum-known-job : tie.Need-enum-known-job
@@ -29,9 +29,9 @@ carry-out-requires c κs =
     let m = c .before .before .before .before .before in
     let o = m .before .before in
     let i = o .before .before .before in
-    let b = i .before .before in
+    let b = i .before in
     let q = b .before .before .before .before .pre in
-    (q .0, (q .1 .0, q .1 .1, record { busy = sym (b .load .ensures .busy) ∙ not-false _ (i .if1 .left); top = rw (m .job .given .1) at (o .top .ensures) }))
+    (q .0, (q .1 .0, q .1 .1, record { busy = sym (b .is-busy .ensures) ∙ not-false _ (i .if1 .left); top = rw (m .job .given .1) at (o .top .ensures) }))
 
 enum-known-exit : tie.Need-enum-known-exit
 enum-known-exit c = search needs
@@ -41,9 +41,9 @@ exit-requires c κs =
     let m = c .before .before .before in
     let o = m .before .before in
     let i = o .before .before .before in
-    let b = i .before .before in
+    let b = i .before in
     let q = b .before .before .before .before .pre in
-    exit-asks (q .0) (q .1 .0) (q .1 .1) (sym (b .load .ensures .busy) ∙ not-false _ (i .if1 .left)) (rw (m .exit .given .1) at (o .top .ensures))
+    exit-asks (q .0) (q .1 .0) (q .1 .1) (sym (b .is-busy .ensures) ∙ not-false _ (i .if1 .left)) (rw (m .exit .given .1) at (o .top .ensures))
 
 enum-told : tie.Need-enum-told
 enum-told c = search needs
@@ -69,9 +69,9 @@ returns-3 c =
     let m = x .before .before .before .before in
     let o = m .before .before in
     let i = o .before .before .before in
-    let b = i .before .before in
+    let b = i .before in
     let q = b .before .before .before .before .pre in
-    exited (q .0) (q .1 .0) (q .1 .1) (sym (b .load .ensures .busy) ∙ not-false _ (i .if1 .left)) (rw (m .exit .given .1) at (o .top .ensures)) (x .exit2 .ensures)
+    exited (q .0) (q .1 .0) (q .1 .1) (sym (b .is-busy .ensures) ∙ not-false _ (i .if1 .left)) (rw (m .exit .given .1) at (o .top .ensures)) (x .exit2 .ensures)
 
 same-length-3 : tie.Need-same-length-3
 same-length-3 c = search needs
@@ -81,9 +81,9 @@ returns-4 c =
     let m = c .before .before in
     let o = m .before .before in
     let i = o .before .before .before in
-    let b = i .before .before in
+    let b = i .before in
     let q = b .before .before .before .before .pre in
-    slept (q .0) (q .1 .0) (q .1 .1) (sym (b .load .ensures .busy) ∙ not-false _ (i .if1 .left)) (rw (m .enum-told .given .1) at (o .top .ensures)) (c .sleep-unit .ensures)
+    slept (q .0) (q .1 .0) (q .1 .1) (sym (b .is-busy .ensures) ∙ not-false _ (i .if1 .left)) (rw (m .enum-told .given .1) at (o .top .ensures)) (c .sleep-unit .ensures)
 
 same-length-4 : tie.Need-same-length-4
 same-length-4 c = search needs
@@ -92,15 +92,15 @@ returns-5 : tie.Need-returns-5
 returns-5 c =
     let o = c .before .before in
     let i = o .before .before .before in
-    let b = i .before .before in
+    let b = i .before in
     let q = b .before .before .before .before .pre in
-    finished (q .0) (q .1 .0) (q .1 .1) (sym (b .load .ensures .busy) ∙ not-false _ (i .if1 .left)) (rw (c .enum-told2 .given .1) at (o .top .ensures))
+    finished (q .0) (q .1 .0) (q .1 .1) (sym (b .is-busy .ensures) ∙ not-false _ (i .if1 .left)) (rw (c .enum-told2 .given .1) at (o .top .ensures))
 
 pub enter-spec : {M : Type 1} → statement M
 enter-spec =
     tie.close
     (tie.spec
-    load-requires
+    is-busy-requires
     returns
     top-requires
     enum-known-job
