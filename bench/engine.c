@@ -265,7 +265,7 @@ static int whole(engine *e, unsigned unit, uint8_t *top, unsigned o, unsigned of
 }
 
 static void fork_part(engine *e, unsigned unit, uint8_t *top, unsigned o, unsigned offset, unsigned k, unsigned count, unsigned argument) {
-    unsigned part = skip(e, offset + 1, argument), idle = ~e->busy & ((1u << e->units) - 1) & ~1u;
+    unsigned part = skip(e, offset + 1, argument), idle = ~e->busy & ((1u << e->units) - 1);
     if (!idle) {
         e->kept++;
         proceed(e, unit, top, o, offset, k, count - 1);

@@ -7,7 +7,7 @@ use std::collections::HashMap;
 use std::io;
 
 use crate::model::{
-    self, Answer, Book, Filling, Form, Item, Machine, Operator, Order, Pattern, Term, GAP,
+    self, Answer, Book, Filling, Form, Item, Machine, Operator, Order, Pattern, Term, Unit, GAP,
 };
 use crate::program::Pages;
 use crate::subject::{hand_over, ModelSubject, Question, Subject, Told, Written, MODEL_PUBLISHED};
@@ -58,9 +58,15 @@ pub enum Slip {
     Twice,
     /// The page has its line `kept` above `granted`.
     Lines,
+    /// FORK looks from unit 1 up.
+    Main,
+    /// FORK takes the lowest other unit, busy or idle.
+    Busy,
+    /// A waiting unit gets its work below its JOIN.
+    Below,
 }
 
-pub const SLIPS: [(&str, Slip); 22] = [
+pub const SLIPS: [(&str, Slip); 25] = [
     ("join", Slip::Join),
     ("list", Slip::List),
     ("zeros", Slip::Zeros),
@@ -83,6 +89,9 @@ pub const SLIPS: [(&str, Slip); 22] = [
     ("kept", Slip::Kept),
     ("twice", Slip::Twice),
     ("lines", Slip::Lines),
+    ("main", Slip::Main),
+    ("busy", Slip::Busy),
+    ("below", Slip::Below),
 ];
 
 pub struct BrokenModel {
@@ -215,6 +224,13 @@ impl BrokenModel {
                 Slip::Copies => entry_counting_copies_once(machine, unit),
                 Slip::Kept => entry_counting_at_joins(machine, unit, &mut open),
                 Slip::Twice => entry_counting_grants_twice(machine, unit),
+                Slip::Main => {
+                    entry_with_states(machine, unit, |other| (other == 0).then_some(true))
+                }
+                Slip::Busy => {
+                    entry_with_states(machine, unit, |other| (other != unit).then_some(false))
+                }
+                Slip::Below => entry_working_below(machine, unit),
                 _ => machine.entry(unit),
             };
             if let Some(ending) = ending {
@@ -371,6 +387,64 @@ fn entry_counting_grants_twice(machine: &mut Machine, unit: usize) -> Option<u8>
     let granted = machine.granted;
     let ending = machine.entry(unit);
     machine.kept += machine.granted - granted;
+    ending
+}
+
+/// A FORK sees units as busy or idle where `seen` says so; a unit that gets no
+/// part has its own state again afterwards.
+fn entry_with_states(
+    machine: &mut Machine,
+    unit: usize,
+    seen: impl Fn(usize) -> Option<bool>,
+) -> Option<u8> {
+    if !is_due(machine, unit, |order| matches!(order, Order::Fork { .. })) {
+        return machine.entry(unit);
+    }
+    let before: Vec<(bool, usize)> = machine.units.iter().map(state_and_height).collect();
+    for (other, unit) in machine.units.iter_mut().enumerate() {
+        unit.busy = seen(other).unwrap_or(unit.busy);
+    }
+    let ending = machine.entry(unit);
+    for (unit, (busy, height)) in machine.units.iter_mut().zip(before) {
+        if unit.orders.len() <= height {
+            unit.busy = busy;
+        }
+    }
+    ending
+}
+
+fn state_and_height(unit: &Unit) -> (bool, usize) {
+    (unit.busy, unit.orders.len())
+}
+
+fn is_due(machine: &Machine, unit: usize, is: impl Fn(&Order) -> bool) -> bool {
+    let unit = &machine.units[unit];
+    unit.busy && unit.orders.last().is_some_and(is)
+}
+
+/// The JOIN then stands two orders higher, and its EXITs with it.
+fn entry_working_below(machine: &mut Machine, unit: usize) -> Option<u8> {
+    let granted = machine.granted;
+    let waiting: Vec<(bool, usize)> = machine.units.iter().map(state_and_height).collect();
+    let ending = machine.entry(unit);
+    if machine.granted == granted {
+        return ending;
+    }
+    let helper = (0..waiting.len())
+        .find(|&other| machine.units[other].orders.len() == waiting[other].1 + 2)
+        .expect("a granted part stands on some list");
+    let join = waiting[helper].1 - 1;
+    if matches!(machine.units[helper].orders[join], Order::Join { .. }) {
+        machine.units[helper].orders[join..].rotate_left(1);
+        for order in machine.units.iter_mut().flat_map(|unit| &mut unit.orders) {
+            match order {
+                Order::Exit { unit, join: place } if (*unit, *place) == (helper, join) => {
+                    *place += 2;
+                }
+                _ => {}
+            }
+        }
+    }
     ending
 }
 

@@ -734,7 +734,7 @@ impl Unit {
         }
     }
 
-    fn helper() -> Unit {
+    fn other() -> Unit {
         Unit {
             busy: false,
             orders: vec![Order::Sleep],
@@ -764,13 +764,13 @@ pub struct Machine<'b> {
 
 impl<'b> Machine<'b> {
     pub fn new(book: &'b Book, line: Term, units: u8, budget: u32) -> Machine<'b> {
-        let helpers = (1..units).map(|_| Unit::helper());
+        let others = (1..units).map(|_| Unit::other());
         Machine {
             book,
             size: line.size(),
             size_limit: TERM_LIMIT,
             term: line,
-            units: [Unit::main()].into_iter().chain(helpers).collect(),
+            units: [Unit::main()].into_iter().chain(others).collect(),
             budget: u64::from(budget),
             rewrites: 0,
             entries: 0,
@@ -830,7 +830,7 @@ impl<'b> Machine<'b> {
     }
 
     fn fork(&mut self, unit: usize, argument: Position, join: usize) {
-        match self.lowest_idle_helper() {
+        match self.lowest_idle() {
             Some(helper) => {
                 self.granted += 1;
                 let helper = &mut self.units[helper];
@@ -846,8 +846,9 @@ impl<'b> Machine<'b> {
         }
     }
 
-    fn lowest_idle_helper(&self) -> Option<usize> {
-        (1..self.units.len()).find(|&helper| !self.units[helper].busy)
+    /// From unit 0 up: the main unit is idle while it waits at a JOIN.
+    fn lowest_idle(&self) -> Option<usize> {
+        self.units.iter().position(|unit| !unit.busy)
     }
 
     fn wait(&mut self, unit: usize, top: Order) {

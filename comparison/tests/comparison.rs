@@ -48,8 +48,8 @@ fn every_slip_is_found_and_made_small() {
 fn found(slip: Slip) -> Option<Difference> {
     let mut subject = BrokenModel { slip };
     match slip {
-        Slip::Lines => compare_pages(&subject, 32, 0..20_000).1,
-        _ => compare(&mut subject, 32, 0..20_000).1,
+        Slip::Lines => compare_pages(&subject, 34, 0..20_000).1,
+        _ => compare(&mut subject, 34, 0..20_000).1,
     }
 }
 

@@ -90,6 +90,97 @@ fn some_unit_can_act_and_joins_count_what_is_open() {
     }
 }
 
+/// When a FORK gives work to a unit, that unit has SLEEP or a JOIN with a count
+/// above 0 on top, unit 0 never SLEEP. The orders below stay as they are, but
+/// for the counts of JOINs, until the work has exited.
+#[test]
+fn work_lies_above_what_a_unit_waits_with() {
+    let (mut helped, mut deepest) = (0, 0);
+    for (case, _) in runs(28).take(1000) {
+        let book = read_book(&case.book()).unwrap();
+        let line = read_line(&book, &case.line).unwrap();
+        let mut machine = Machine::new(&book, line, case.units, case.budget);
+        let mut taken: Vec<Vec<Vec<Order>>> = vec![Vec::new(); machine.units.len()];
+        for &unit in &case.schedule {
+            let (before, granted) = (machine.units.clone(), machine.granted);
+            if machine.entry(unit.into()).is_some() {
+                break;
+            }
+            if machine.granted > granted {
+                let helper = helper(&before, &machine.units);
+                assert_waits(&before[helper], helper, &case);
+                taken[helper].push(uncounted(&before[helper].orders));
+                helped += u64::from(helper == 0);
+                deepest = deepest.max(taken[helper].len());
+            }
+            for (unit, taken) in machine.units.iter().zip(&mut taken) {
+                assert_stays(unit, taken, &case);
+            }
+        }
+    }
+    assert!(helped > 1000, "unit 0 took {helped} parts");
+    assert!(deepest > 3, "at most {deepest} parts on a list");
+}
+
+/// The unit that a FORK gave work to.
+fn helper(before: &[Unit], after: &[Unit]) -> usize {
+    let mut changed = (0..after.len()).filter(|&unit| !before[unit].busy && after[unit].busy);
+    let helper = changed.next().expect("some unit became busy");
+    assert_eq!(changed.next(), None);
+    helper
+}
+
+fn assert_waits(unit: &Unit, number: usize, case: &Case) {
+    match unit.orders.last().unwrap() {
+        Order::Sleep => assert_ne!(number, 0, "{case:?}"),
+        Order::Join { count } => assert!(*count > 0, "{case:?}"),
+        other => panic!("{other:?} on top of a unit that takes work: {case:?}"),
+    }
+}
+
+/// `taken` has, for each part that the unit took, the orders below it.
+fn assert_stays(unit: &Unit, taken: &mut Vec<Vec<Order>>, case: &Case) {
+    while taken
+        .last()
+        .is_some_and(|below| unit.orders.len() <= below.len())
+    {
+        let below = taken.pop().unwrap();
+        assert_eq!(uncounted(&unit.orders), below, "{case:?}");
+    }
+    let orders = uncounted(&unit.orders);
+    for below in taken {
+        assert_eq!(orders[..below.len()], below[..], "{case:?}");
+        assert!(matches!(orders[below.len()], Order::Exit { .. }));
+    }
+}
+
+fn uncounted(orders: &[Order]) -> Vec<Order> {
+    let uncounted = |order: &Order| match order {
+        Order::Join { .. } => Order::Join { count: 0 },
+        other => other.clone(),
+    };
+    orders.iter().map(uncounted).collect()
+}
+
+#[test]
+fn a_run_finishes_with_nothing_left() {
+    let mut finished = 0;
+    for (case, answer) in runs(29).filter(|(_, answer)| answer.ending == ending::FINISHED) {
+        let book = read_book(&case.book()).unwrap();
+        let line = read_line(&book, &case.line).unwrap();
+        let mut machine = Machine::new(&book, line, case.units, case.budget);
+        let last = case.schedule[answer.entries as usize - 1];
+        machine.run(&case.schedule[..answer.entries as usize - 1]);
+        assert_eq!(last, 0, "{case:?}");
+        assert_eq!(machine.units[0].orders, [Order::Bingo], "{case:?}");
+        for unit in &machine.units[1..] {
+            assert_eq!(unit.orders, [Order::Sleep], "{case:?}");
+        }
+        finished += 1;
+    }
+    assert!(finished > 100);
+}
+
 /// A JOIN's count is its FORKs still to come and its EXITs together.
 fn assert_joins_count_what_is_open(machine: &Machine) {
     for (number, unit) in machine.units.iter().enumerate() {

@@ -309,3 +309,43 @@ fn lowest_idle_unit_gets_the_part() {
     let busy: Vec<bool> = machine.units.iter().map(|unit| unit.busy).collect();
     assert_eq!(busy, [true, true, false, false, false, false, false, false]);
 }
+
+/// A node with both arguments in a group, and no rules.
+fn nodes() -> Draft {
+    Draft {
+        operators: vec![operator(0), with_strategy(2, &[8, 1, 2, 9, 0])],
+        rules: vec![],
+    }
+}
+
+#[test]
+fn main_unit_helps_while_it_waits() {
+    // Unit 1 gets the inner node and forks while unit 0 waits for that node.
+    let line = [1, 1, 0, 0, 0];
+    let book = read_book(&nodes().encode()).unwrap();
+    let mut machine = Machine::new(&book, read_line(&book, &line).unwrap(), 2, 9);
+    machine.run(&[0; 5]);
+    assert!(!machine.units[0].busy);
+    let waiting = machine.units[0].orders.clone();
+    machine.run(&[1, 1]);
+    assert!(machine.units[0].busy);
+    assert_eq!((machine.granted, machine.kept), (2, 0));
+    let (below, work) = machine.units[0].orders.split_at(waiting.len());
+    assert_eq!(below, waiting);
+    assert_eq!(
+        work,
+        [Order::Exit { unit: 1, join: 3 }, Order::Visit(vec![1, 1])]
+    );
+    // The work over, unit 0 waits at the JOIN that it waited at before.
+    assert_eq!(machine.run(&[0; 4]), ending::CUT);
+    assert_eq!(machine.units[0].orders, waiting);
+    assert!(!machine.units[0].busy);
+    assert_eq!(machine.run(&[0, 1].repeat(10)), ending::FINISHED);
+}
+
+#[test]
+fn main_unit_takes_nothing_while_it_is_busy() {
+    // As above, but unit 1 forks while unit 0 is still at its own argument.
+    let found = ask(&nodes(), &[1, 1, 0, 0, 0], 2, 9, &[0, 0, 1, 1]).unwrap();
+    assert_eq!((found.granted, found.kept), (1, 1));
+}

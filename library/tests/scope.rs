@@ -69,6 +69,26 @@ fn join_passes_at_entry_thirteen() {
     assert_eq!(up_to(14).rewrites, 1);
 }
 
+/// Unit 0 waits at its JOIN after five entries, and takes what unit 1 forks then; one entry earlier it is busy.
+#[test]
+fn the_main_unit_helps_while_it_waits() {
+    let book = book_p();
+    let line = [2, 2, 1, 0, 0, 0];
+    let after = |zeros: usize, then: &[u8]| {
+        let schedule = [&vec![0; zeros][..], &[1, 1], then].concat();
+        let (answer, term) = posted(&page(&book, &schedule).line(&line).units(2));
+        (answer.ending, answer.granted, answer.kept, term)
+    };
+    assert_eq!(after(5, &[]), (Ending::Cut, 2, 0, line.to_vec()));
+    assert_eq!(after(4, &[]), (Ending::Cut, 1, 1, line.to_vec()));
+    // Unit 1 alone gets no further: its JOIN waits for unit 0.
+    assert_eq!(after(5, &[1; 100]), (Ending::Cut, 2, 0, line.to_vec()));
+    let turns = round_robin(2, 100);
+    let (ending, granted, kept, term) = after(5, &turns);
+    assert_eq!((ending, granted + kept), (Ending::Finished, 4));
+    assert_eq!(term, [1, 0]);
+}
+
 /// The units take turns of 1 to 9 entries, upwards and downwards.
 fn schedules(units: u8) -> Vec<Vec<u8>> {
     let upwards = (1..=9).map(|turn| {

@@ -350,7 +350,7 @@ fn payees_are_explained() {
     assert_eq!(ran.status, 0);
     assert!(ran
         .output
-        .starts_with("line \"konig ag\"\n\n1. rule 17 (line 61): \" ag\" = end\n"));
+        .starts_with("line \"konig ag\"\n\n1. rule 17 (line 63): \" ag\" = end\n"));
     assert!(ran.output.ends_with("term König\n"));
     let ran = kurvneist(&["explain", "examples/ticks.book", "König", "--payee"]);
     assert_eq!(ran.status, 1);

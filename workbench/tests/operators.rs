@@ -73,7 +73,7 @@ fn jobs_change_nothing_but_the_time() {
     let one = run("1");
     assert_eq!(one.0, 1);
     assert!(
-        one.2.starts_with("1680 lines: 1000 posted, 160 not, 520"),
+        one.2.starts_with("1720 lines: 1040 posted, 160 not, 520"),
         "{}",
         one.2
     );

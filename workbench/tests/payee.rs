@@ -408,5 +408,5 @@ fn a_packed_book_has_letters_where_it_has_no_names() {
         kurvneist(&[&arguments[..], more].concat()).output
     };
     assert!(post(&["--names", PAYEES]).ends_with("term \"haus \"(König)\n"));
-    assert!(post(&[]).ends_with("term \"haus \"(f51)\n"));
+    assert!(post(&[]).ends_with("term \"haus \"(f52)\n"));
 }

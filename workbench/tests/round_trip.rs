@@ -134,7 +134,7 @@ fn spoiled_texts_are_read_or_told() {
     let pieces: Vec<char> = "(){},=/:\"#\n\t \u{301}é0189ao\u{0}€".chars().collect();
     let (mut books, mut mistaken, mut messages) = (0, 0, 0);
     for number in 0..300 {
-        let mut random = Random::for_case(11, number);
+        let mut random = Random::for_case(13, number);
         let mut spoiled = good.clone();
         let place = random.below(spoiled.len());
         match random.below(3) {

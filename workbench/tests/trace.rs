@@ -47,12 +47,13 @@ fn count(trace: &Trace, deed: impl Fn(&Deed) -> bool) -> u64 {
 
 #[test]
 fn traces_equal_the_engine_and_count_what_it_counts() {
-    let (mut traced, mut endings, mut granted, mut kept) = (0, [0; 4], 0, 0);
+    let (mut traced, mut endings, mut granted, mut kept, mut helped) = (0, [0; 4], 0, 0, 0);
     runs(|named, request, trace| {
         traced += 1;
         endings[trace.ending as usize] += 1;
         granted += trace.granted;
         kept += trace.kept;
+        helped += count(&trace, |deed| *deed == Deed::Fork(Some(0)));
         let rewrites = count(&trace, |deed| matches!(deed, Deed::Rewrite(_)));
         assert_eq!(rewrites, trace.rewrites);
         let grants = count(&trace, |deed| matches!(deed, Deed::Fork(Some(_))));
@@ -65,22 +66,32 @@ fn traces_equal_the_engine_and_count_what_it_counts() {
     });
     assert!(traced > 200, "{traced}");
     assert!(granted > 200 && kept > 200, "{granted} {kept}");
+    assert!(helped > 20, "unit 0 took {helped} parts");
     assert!(endings.iter().all(|number| *number > 0), "{endings:?}");
 }
 
 /// A unit acts exactly if it was busy, waits exactly after a JOIN that didn't
-/// pass, and goes idle by SLEEP alone.
+/// pass, and goes idle by SLEEP alone. What is lent goes to one that waits, and
+/// so helps, or is idle.
 fn states_fit(trace: &Trace) {
     let mut before = vec![State::Idle; trace.units];
     before[0] = State::Busy;
     for step in &trace.steps {
         let (was, is) = (before[step.unit], step.states[step.unit]);
-        assert_eq!(step.deed == Deed::Nothing, was != State::Busy);
+        assert_eq!(step.deed == Deed::Nothing, !was.acts());
         match step.deed {
             Deed::Nothing => assert_eq!(was, is),
             Deed::Join(1..) => assert_eq!(is, State::Waiting),
             Deed::Sleep => assert_eq!(is, State::Idle),
-            _ => assert_eq!(is, State::Busy),
+            _ => assert!(is.acts()),
+        }
+        if let Deed::Fork(Some(unit)) = step.deed {
+            let due = match before[unit] {
+                State::Waiting => State::Helping,
+                State::Idle => State::Busy,
+                other => panic!("unit {unit} takes a part: {other:?}"),
+            };
+            assert_eq!(step.states[unit], due);
         }
         before.clone_from(&step.states);
     }
@@ -235,4 +246,47 @@ fn long_terms_are_cut_around_the_orders_part() {
         "both(end, both([both(end, tick(end))], end))"
     );
     assert_eq!(last_term("24"), "…d, both([both(end, tick(…");
+}
+
+/// Unit 0 waits for a line that turns out to be two, and takes one of them. Its
+/// work is drawn above the JOIN, and the FORK's arrow ends there.
+#[test]
+fn unit_0_helps_above_its_join() {
+    let picture = file("helping.svg", "");
+    let line = "both(line(payee(Weiß), rent-and-charges), 1600-deposits)";
+    let words = ["trace", "examples/payees.book", line, "--units=2", "--svg"];
+    let ran = kurvneist(&[&words[..], &[&picture]].concat());
+    assert_eq!(ran.status, 0);
+    let taken: Vec<&str> = ran
+        .output
+        .lines()
+        .filter(|row| row.contains("takes this part"))
+        .collect();
+    assert_eq!(taken.len(), 2, "{}", ran.output);
+    let first = "    3     0  FORK   unit 1 takes this part         ";
+    assert!(taken[0].starts_with(first), "{}", taken[0]);
+    let second = "   26     1  FORK   unit 0 takes this part, above its JOIN         \
+                  both(both([line(payee(Weiß), rent)], line(payee(Weiß), charges)), 1600-deposits)";
+    assert_eq!(taken[1], second);
+    let picture = std::fs::read_to_string(picture).unwrap();
+    well_formed(&picture);
+    assert!(picture.contains("helps: busy with another unit's part, above its own JOIN"));
+    // The lane of unit 0 begins at 74: work up to 92, and 8 for the JOIN.
+    let boxes = |begins: &str, ends: &str| {
+        let is = |line: &&str| line.contains(begins) && line.contains(ends);
+        picture.lines().filter(is).count()
+    };
+    assert_eq!(boxes("y=\"74.0\"", "height=\"18\" fill=\"#9ccbee\""), 1);
+    assert_eq!(boxes("y=\"92.0\"", "height=\"8\" fill=\"url(#waits)\""), 1);
+    assert!(picture.contains("V91.0\" stroke=\"#00664b\""));
+}
+
+#[test]
+fn a_picture_without_help_has_no_legend_for_it() {
+    let picture = file("alone.svg", "");
+    let line = "both(tick(end), tick(end))";
+    let words = ["trace", "examples/ticks.book", line, "--units=2", "--svg"];
+    assert_eq!(kurvneist(&[&words[..], &[&picture]].concat()).status, 0);
+    let picture = std::fs::read_to_string(picture).unwrap();
+    assert!(!picture.contains("helps"));
 }

@@ -145,6 +145,9 @@ fn check(cases: &[Case]) {
         Slip::Padding,
         Slip::Kept,
         Slip::Twice,
+        Slip::Main,
+        Slip::Busy,
+        Slip::Below,
     ] {
         let shows = |case: &Case| shows(case, slip);
         assert!(picked_cases().iter().any(shows), "no case shows {slip:?}");
@@ -189,7 +192,10 @@ fn picked_cases() -> Vec<Case> {
         vec![
             last_unit("1024 symbols, mostly unit 7's", 4060),
             last_unit("1024 symbols, mostly unit 7's, cut", 2000),
+            main_unit("1024 symbols, mostly unit 0's, above its JOIN", 4079),
+            main_unit("1024 symbols, mostly unit 0's, above its JOIN, cut", 2000),
         ],
+        helping_cases(),
         slip_cases(),
     ]
     .concat()
@@ -623,6 +629,42 @@ fn last_unit(name: &str, entries: usize) -> Case {
     groups(name, &line, 8).schedule([vec![0; 9], vec![7; entries], in_turn].concat())
 }
 
+/// Unit 0 lends a node to unit 1 and waits; what unit 1 then forks, a chain that fills the term, goes to unit 0, on top of its JOIN.
+fn main_unit(name: &str, entries: usize) -> Case {
+    let line = [vec![2, 2], chain(4, TERM_LIMIT - 4), vec![0, 0]].concat();
+    groups(name, &line, 2)
+        .schedule([vec![0; 5], vec![1; 2], vec![0; entries], [0, 1].repeat(20)].concat())
+}
+
+/// Nodes whose first argument is a node, so deep.
+fn leaning(depth: usize) -> Vec<u8> {
+    [vec![1; depth], vec![0; depth + 1]].concat()
+}
+
+fn helping_cases() -> Vec<Case> {
+    let nodes = |name, depth| {
+        case(name, nodes_book())
+            .line(leaning(depth))
+            .units(2)
+            .budget(2000)
+    };
+    let lent = |ones: usize, then: &[u8]| [&[0; 5][..], &vec![1; ones], then].concat();
+    let in_turn = [0, 1].repeat(20);
+    let by_sixes = |times: usize| [[0; 6], [1; 6]].concat().repeat(times);
+    vec![
+        nodes("a FORK finds only unit 0 idle", 2).schedule(lent(8, &in_turn)),
+        nodes("a FORK finds unit 0 busy", 2).schedule([&[0; 4][..], &[1; 8], &in_turn].concat()),
+        nodes("unit 0 helps, cut before it exits", 2).schedule(lent(8, &[0; 2])),
+        nodes("unit 0 helps, and waits again above its JOIN", 3).schedule(by_sixes(2)),
+        nodes("two units lend to each other", 40).schedule(by_sixes(42)),
+        nodes("two units lend to each other, 1023 symbols", 511).schedule(by_sixes(520)),
+        nodes("two units lend to each other, cut at the deepest", 511).schedule(by_sixes(256)),
+        nodes("unit 0 before unit 2, both idle", 2)
+            .units(3)
+            .schedule(lent(2, &[0, 1, 2].repeat(14))),
+    ]
+}
+
 fn slip_cases() -> Vec<Case> {
     let forgets = book(
         &[plain(0), plain(0), given(1, &[0, 1, 0]), plain(2)],
@@ -639,10 +681,6 @@ fn slip_cases() -> Vec<Case> {
         woken("woken at another JOIN, cut later", 60),
         woken("woken at another JOIN", 100),
         half_open("an EXIT before the last one wakes nobody"),
-        case("a FORK finds only unit 0 idle", nodes_book())
-            .line([1, 1, 0, 0, 0])
-            .units(2)
-            .schedule([&[0; 5][..], &[1; 8], &[0, 1].repeat(10)].concat()),
         case("a FORK is kept, and its JOIN not reached", nodes_book())
             .line([1, 0, 0])
             .zeros(2),

@@ -89,15 +89,7 @@ module _ {read read₂ : LineReader} {book book₂ line line₂ : List ℕ} {uni
     book-read = b;
     line-read = l;
     units-named = r .units-named;
-    is = r .is;
-    demand-3 = r .demand-3;
-    posting = r .posting;
-    grants = r .grants;
-    accounted = r .accounted;
-    allowed = r .allowed;
-    used = r .used;
-    forks-within = r .forks-within;
-    fits = r .fits;
+    holds = r .holds;
   }
 
   pub reduced-as : {work′ output′ : List ℕ} {r : D.Answer} →

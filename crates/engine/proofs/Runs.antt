@@ -18,6 +18,7 @@ use Rattle.paper.proofs.Readers.{accepted-injective, refused-accepted}
 use Rattle.paper.proofs.Books.{read-sound}
 use Rattle.paper.proofs.Line.{line-correct}
 use Rattle.paper.proofs.Trees.{size-preorder}
+use Rattle.paper.proofs.Above.{helps}
 use Rattle.paper.proofs.Demand3.{demand-3, forks-within}
 use Rattle.paper.proofs.OneUnit.{grants, accounted}
 use Rattle.flat.specs.Machine.{FlatState, flat-start, with-units}
@@ -127,6 +128,7 @@ module _ (budget : ℕ) (schedule : List ℕ) {book operators rules symbols work
           accepted (record { ending = a .ending; rewrites = a .rewrites; entries = a .entries; granted = a .granted; kept = a .kept; length = n })) answer-is length-is
 
       run-of : RunOf book line units budget schedule work output A
+      unfolding run
       run-of =
           let d = demand-3 book line B (s .term) (s .tables .read) (s .term-read) units budget schedule in
           let sound = read-sound book B (s .tables .read) in
@@ -136,15 +138,18 @@ module _ (budget : ℕ) (schedule : List ℕ) {book operators rules symbols work
             book-read = s .tables .read;
             line-read = s .term-read;
             units-named = names;
-            is = refl;
-            demand-3 = d;
-            posting = d .posting;
-            grants = grants B sound (s .term) (of-line .0) (limited budget) units schedule;
-            accounted = accounted B sound (s .term) (of-line .0) (limited budget) units schedule;
-            allowed = omega (arith, rewrites-are, bounded .allowed, limit);
-            used = omega (arith, entries-are, bounded .used);
-            forks-within = forks-within B sound (s .term) (of-line .0) (limited budget) units schedule;
-            fits = omega (arith, length-is, bounded .most);
+            holds = record {
+              is = refl;
+              demand-3 = d;
+              helps = helps book line B (s .term) (s .tables .read) (s .term-read) units budget schedule;
+              posting = d .posting;
+              grants = grants B sound (s .term) (of-line .0) (limited budget) units schedule;
+              accounted = accounted B sound (s .term) (of-line .0) (limited budget) units schedule;
+              allowed = omega (arith, rewrites-are, bounded .allowed, limit);
+              used = omega (arith, entries-are, bounded .used);
+              forks-within = forks-within B sound (s .term) (of-line .0) (limited budget) units schedule;
+              fits = omega (arith, length-is, bounded .most);
+            };
           }
 
       pub reduced : {work′ output′ : List ℕ} → work′ ≡ replicate (length work) 0 → output′ ≡ take (r .length) symbols′ ++ drop (r .length) output →

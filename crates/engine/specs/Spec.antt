@@ -1,5 +1,5 @@
 -- The entry points of a run: which definition their answers equal, and what becomes of the lent buffers (document 01, 'What is checked where', 'How a
--- run ends', 'What a reviewer will try, in order'; document 02, Changes 1 and 2). Assumes nothing.
+-- run ends', 'What a reviewer will try, in order'; document 02, Changes 1 to 3). Assumes nothing.
 use mathlib.Core.Bool.{true}
 use mathlib.Core.List.{List, _++_}
 use mathlib.Core.Path.{_≡_}
@@ -12,10 +12,11 @@ use Rattle.paper.specs.Reader.{readBook}
 use Rattle.paper.specs.Line.{readLine}
 use Rattle.paper.specs.Text.{readText}
 use Rattle.paper.specs.Reduction.{rewrites, Reduces}
-use Rattle.paper.specs.Machine.{Ending}
+use Rattle.paper.specs.Machine.{Ending, in-force}
 use Rattle.paper.specs.Run.{Answer, run}
 use Rattle.paper.specs.OneUnit.{Grants, Accounted}
 use Rattle.paper.specs.Demand3.{Demand3}
+use Rattle.paper.specs.Idle.{Helps}
 use Rattle.paper.specs.Page.{Request, LineReader, all-below, answerBy}
 use Rattle.entry.specs.State.{limited}
 use Rattle.run.specs.Contracts.{ending}
@@ -87,6 +88,27 @@ request book line units budget schedule work output = record {
   output = length output;
 }
 
+-- what holds of the answer A of a run by the rules from the term, however the two were read
+pub record RunHolds (rules : Book) (term : Term) (units budget : ℕ) (schedule : List ℕ) (A : Answer) : Type 0 where
+  pub is : A ≡ run rules (limited budget) units schedule term
+  -- demand 3 of this run, whole
+  pub demand-3 : Demand3 in-force rules (limited budget) units schedule term
+  -- work that an idle unit takes, unit 0 at its JOIN included, lies above what it waited at; a finished run has left nothing to do
+  pub helps : Helps in-force rules (limited budget) units schedule term
+  -- a posting: term and rewrites of a finished run are those of reduction one after the other
+  pub posting : A .ending ≡ Ending.finished → Reduces rules rewrites term (A .rewrites) (A .term)
+  -- FORKs granted in a finished run are at most the FORK orders of a one-unit run without symbol limit
+  pub grants : A .ending ≡ Ending.finished → Grants rules budget term A
+  -- every FORK accounted for: in a finished run grants and kept together are exactly the FORKs of a one-unit run without symbol limit
+  pub accounted : A .ending ≡ Ending.finished → Accounted rules budget term A
+  -- The papers leave free which ending comes where one order of units ends full and another finishes: it is that of this schedule. Whichever
+  -- comes, these hold.
+  pub allowed : A .rewrites ≤ budget
+  pub used : A .entries ≤ length schedule
+  -- FORKs granted and FORKs that found nobody idle are together at most the entries used, so neither count can pass them
+  pub forks-within : A .granted + A .kept ≤ A .entries
+  pub fits : length (preorder (A .term)) ≤ 1024
+
 -- by either reader
 module _ (read : LineReader) (book line : List ℕ) (units budget : ℕ) (schedule work output : List ℕ) where
   abbrev pub answeredBy : Result Answer
@@ -99,22 +121,7 @@ module _ (read : LineReader) (book line : List ℕ) (units budget : ℕ) (schedu
     pub book-read : readBook book ≡ accepted rules
     pub line-read : read rules line ≡ accepted term
     pub units-named : all-below units schedule ≡ true
-    pub is : A ≡ run rules (limited budget) units schedule term
-    -- demand 3 of this run, whole
-    pub demand-3 : Demand3 rules (limited budget) units schedule term
-    -- a posting: term and rewrites of a finished run are those of reduction one after the other
-    pub posting : A .ending ≡ Ending.finished → Reduces rules rewrites term (A .rewrites) (A .term)
-    -- FORKs granted in a finished run are at most the FORK orders of a one-unit run without symbol limit
-    pub grants : A .ending ≡ Ending.finished → Grants rules budget term A
-    -- every FORK accounted for: in a finished run grants and kept together are exactly the FORKs of a one-unit run without symbol limit
-    pub accounted : A .ending ≡ Ending.finished → Accounted rules budget term A
-    -- The papers leave free which ending comes where one order of units ends full and another finishes: it is that of this schedule. Whichever
-    -- comes, these hold.
-    pub allowed : A .rewrites ≤ budget
-    pub used : A .entries ≤ length schedule
-    -- FORKs granted and FORKs that found nobody idle are together at most the entries used, so neither count can pass them
-    pub forks-within : A .granted + A .kept ≤ A .entries
-    pub fits : length (preorder (A .term)) ≤ 1024
+    pub holds : RunHolds rules term units budget schedule A
 
   -- Book, line and schedule are lent to be read, so they are unchanged. The answer and the output are said by `answeredBy`, which is asked with the
   -- work area's length alone, so nothing depends on what it held (proofs/Laws, forgets).

@@ -13,12 +13,12 @@ use Rattle.paper.specs.Strategy.{Step}
 use Rattle.paper.specs.Book.{arity, steps}
 use Rattle.flat.specs.Machine.{Frame, FlatUnit, flat-unit, asleep, FlatState, FlatOutcome, going, proceed, idle, idle-from, do-fork, do-step, flat-entry}
 use Rattle.flat.specs.Rules.{stack}
+use Rattle.flat.proofs.Idle.{idle-is, idle-other}
 use Rattle.flat.proofs.Inside.{fork-within}
 use Rattle.tables.specs.Layout.{step-of, code-in, steps-in}
 use Rattle.units.specs.Stacks.{store, height-in, units-in}
 use Rattle.units.specs.declared.frames.Job.{Job}
 use Rattle.orders.specs.Contracts as O
-use Rattle.orders.proofs.Idle.{idle-other}
 use Rattle.orders.proofs.Tables.{argument-by, argument-said}
 use Rattle.orders.proofs.Entries as entries
 use Rattle.whole.specs.declared.Progress.{Progress}
@@ -27,22 +27,6 @@ use Rattle.entry.specs.State.{state, Arrays}
 use Rattle.entry.specs.Contracts.{Running, Turn, Working, forked}
 use Rattle.entry.proofs.Facts as F
 use Rattle.entry.proofs.Orders as orders
-
--- the unit that is found is one of them
-found-below : (k : ℕ) (us : List FlatUnit) (v : ℕ) → idle-from k us ≡ some v → v < k + length us
-unfolding idle-from
-found-below k [] v e = let z : _≡_ {A = ℕ} 0 1 = cc in absurd (omega arith)
-found-below k (x ∷ us) v e = go (x .busy) refl (found-below (suc k) us v)
-  where
-    go : (b : Bool) → x .busy ≡ b → (idle-from (suc k) us ≡ some v → v < suc k + length us) → v < k + length (x ∷ us)
-    go true q rest = omega (arith, rest (rw q at e))
-    go false q rest =
-        let h : _≡_ {A = Option ℕ} (some k) (some v) = rw q at e in
-        let j : k ≡ v = cc in omega arith
-
-idle-below : (us : List FlatUnit) (v : ℕ) → 0 < length us → idle us ≡ some v → v < length us
-unfolding idle
-idle-below us v l e = omega (arith, found-below 1 (drop 1 us) v e, length-drop 1 us)
 
 module _ {bytes operators rules symbols scratch work units : List ℕ} {u : ℕ} {p : Progress} {l : Limits} (z : Arrays symbols scratch work units p l)
     (r : Running bytes operators rules l (state symbols work units p l)) (t : Turn l u (state symbols work units p l)) {x : Job}
@@ -102,7 +86,7 @@ module _ {bytes operators rules symbols scratch work units : List ℕ} {u : ℕ}
   granted-fits : (v : ℕ) → idle (s .units) ≡ some v → (v ≢ u) × (height-in units v + 2 ≤ 1026)
   unfolding do-fork
   granted-fits v q =
-      let m = idle-below (s .units) v (omega (arith, inside)) q in
+      let m = idle-is (s .units) v q .0 in
       let us = put (s .units) u (flat-unit true (O.goes-on ss x (x .count) (stack s u))) in
       let y = flat-unit true (Frame.job (a .offset) 0 0 ∷ Frame.exit u (length fs) ∷ stack s v) in
       let h = stack-fits _ us v y (by-idle (some v) q) refl (omega (arith, m, length-set (s .units) u (flat-unit true (O.goes-on ss x (x .count) (stack s u))))) in (

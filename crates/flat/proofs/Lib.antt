@@ -20,3 +20,4 @@ pub mod Indices
 pub mod Inside
 pub mod Tallies
 pub mod Tops
+pub mod Idle

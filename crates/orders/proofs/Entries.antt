@@ -37,6 +37,7 @@ use Rattle.flat.specs.Machine.{
 use Rattle.tables.specs.Layout.{step-of, code-in, steps-in}
 use Rattle.tables.specs.Tables.{Tables}
 use Rattle.tables.proofs.Rows.{here-is}
+use Rattle.flat.proofs.Idle.{idle-other}
 use Rattle.units.specs.Stacks.{height-in, Store, units-in}
 use Rattle.units.specs.Contracts.{Stacks-fit, dropped, idled, at, Changed, Cell-changed}
 use Rattle.units.specs.declared.frames.Job.{Job}
@@ -61,7 +62,6 @@ use Rattle.orders.specs.Contracts.{
   grants,
   Forked,
 }
-use Rattle.orders.proofs.Idle.{idle-other}
 use Rattle.orders.proofs.Tables.{rowed-said, steps-said, argument-by, argument-said}
 
 -- the state with other units, after a FORK that was granted or kept

@@ -1,6 +1,5 @@
 pub mod Steps
 pub mod Changes
 pub mod Forks
-pub mod Idle
 pub mod Tables
 pub mod Entries

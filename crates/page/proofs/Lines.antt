@@ -62,7 +62,7 @@ module _ {read : LineReader} {book line : List ℕ} {units budget : ℕ} {schedu
   front a e = ap (take (length (preorder (a .term)))) (d .written a e) ∙ take-at (preorder (a .term)) _ _ refl
 
   pub reduced-fits : length output′ ≡ 1024 → Term-fits r output′
-  reduced-fits l = fits-as r _ output′ (d .answer) l (λ a e. d .run-of a e .fits)
+  reduced-fits l = fits-as r _ output′ (d .answer) l (λ a e. d .run-of a e .holds .fits)
 
   pub reduced-lines : (budget′ : ℕ) (schedule′ : List ℕ) → budget ≡ budget′ → schedule ≡ schedule′ → length work ≡ R.published → length output ≡ 1024 →
       lines r output′ ≡ answer-lines (answerBy read 0 (asked book line units budget′ schedule′))

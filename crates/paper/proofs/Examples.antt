@@ -406,9 +406,9 @@ pub record Runs : Type 0 where
   -- a FORK goes to the lowest-numbered idle unit: the part is unit 1's, and unit 2 has nothing to do
   pub lowest-idle : pageOf (input (2 ∷ 0 ∷ 0 ∷ []) 3 9 (0 ∷ 0 ∷ 1 ∷ 1 ∷ 1 ∷ replicate 7 0)) ≡
       ascii "REDUCE 1\nend 0\nrewrites 1\nentries 12\ngranted 1\nkept 0\nterm 0\n"
-  -- from 1 up: unit 0 waits at its JOIN, and the FORK of unit 1 finds nobody
-  pub never-unit-0 : pageOf (input (2 ∷ 2 ∷ 0 ∷ 0 ∷ 0 ∷ []) 2 9 (0 ∷ 0 ∷ 0 ∷ 0 ∷ 0 ∷ 1 ∷ 1 ∷ [])) ≡
-      ascii "REDUCE 1\nend 3\nrewrites 0\nentries 7\ngranted 1\nkept 1\nterm 2 2 0 0 0\n"
+  -- from 0 up: unit 0 waits at its JOIN, and takes the FORK of unit 1
+  pub unit-0-helps : pageOf (input (2 ∷ 2 ∷ 0 ∷ 0 ∷ 0 ∷ []) 2 9 (0 ∷ 0 ∷ 0 ∷ 0 ∷ 0 ∷ 1 ∷ 1 ∷ [])) ≡
+      ascii "REDUCE 1\nend 3\nrewrites 0\nentries 7\ngranted 2\nkept 0\nterm 2 2 0 0 0\n"
   -- every FORK accounted for: of the two, two units grant one and keep one, and one unit keeps both
   pub forks-of-two : pageOf (input (2 ∷ 2 ∷ 0 ∷ 0 ∷ 0 ∷ []) 2 9 (turns 99)) ≡
       ascii "REDUCE 1\nend 0\nrewrites 2\nentries 33\ngranted 1\nkept 1\nterm 0\n"
@@ -451,7 +451,7 @@ runs = record {
   first-argument = refl;
   empty-given = refl;
   lowest-idle = refl;
-  never-unit-0 = refl;
+  unit-0-helps = refl;
   forks-of-two = refl;
   forks-of-one = refl;
   three-parts = refl;

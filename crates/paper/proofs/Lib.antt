@@ -29,11 +29,14 @@ pub mod Starred
 pub mod Examples
 pub mod Payees
 pub mod Fork
+pub mod Idle
 pub mod Exit
 pub mod Entry
 pub mod Progress
 pub mod Course
 pub mod Joined
+pub mod Waits
 pub mod Demand3
+pub mod Above
 pub mod OneUnit
 pub mod Refusals

@@ -15,4 +15,5 @@ pub mod Machine
 pub mod Run
 pub mod OneUnit
 pub mod Demand3
+pub mod Idle
 pub mod Page

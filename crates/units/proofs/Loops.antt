@@ -37,10 +37,9 @@ use Rattle.units.proofs.Changes.{store-same, store-other}
 
 -- the search, from unit 1 up: what is left of it at unit u with m units to go
 module _ (w c : List ℕ) where
-  pub idle-start : (n : ℕ) → idle (units-of w c n) ≡ idle-from 1 (units-from w c 1 (n - 1))
-  unfolding idle units-from
-  idle-start zero = refl
-  idle-start (suc n) = let e : suc n - 1 ≡ n = omega arith in rw e
+  pub idle-start : (n : ℕ) → idle (units-of w c n) ≡ idle-from 0 (units-from w c 0 (n - 0))
+  unfolding idle
+  idle-start n = let e : n - 0 ≡ n = omega arith in rw e
 
   pub idle-next : (u v m k : ℕ) → getD c u 0 < 2048 → v ≡ u + 1 → m ≡ k + 1 → idle-from u (units-from w c u m) ≡ idle-from v (units-from w c v k)
   unfolding idle-from units-from

@@ -97,13 +97,13 @@ pub record Top-is (u : ℕ) (f : Frame) (s : Store) : Type 0 where
   pub stack : (n : ℕ) → u < n → unit (units-in s n) u .stack ≡ f ∷ drop 1 (unit (units-in s n) u .stack)
   pub fits : In-three-bytes f
 
--- an answer of the search for an idle unit, as the machine on lists has it, and that it is one of units 1 to n - 1
+-- an answer of the search for an idle unit, as the machine on lists has it, and that it is one of the n
 abbrev pub answer : I.Idle → Option ℕ
 answer (I.the-variants.Unit u) = some u
 answer I.the-variants.None = none
 
 abbrev pub One-of : ℕ → I.Idle → Type 0
-One-of n (I.the-variants.Unit u) = (1 ≤ u) × (u < n)
+One-of n (I.the-variants.Unit u) = u < n
 One-of n I.the-variants.None = Unit {0}
 
 pub record Lowest-idle (c : List ℕ) (n : ℕ) (r : I.Idle) : Type 0 where

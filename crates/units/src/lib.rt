@@ -107,7 +107,7 @@ pub fn sleep_unit(units: &mut [u16; 8], u: usize)
     store(units, u, load(units, u).sleep());
 }
 
-// The lowest-numbered idle unit from 1 up, of n units.
+// The lowest-numbered idle unit, of count units.
 pub enum Idle {
     Unit(usize),
     None,
@@ -117,12 +117,12 @@ pub fn lowest_idle(units: &[u16; 8], count: usize) -> Idle
     requires { ⌜ count ≤ 8 ⌝ }
     ensures { λ r. ⌜ U.Lowest-idle (now (units .entry)) count r ⌝ }
 {
-    let mut u = 1;
-    while u < count {
-        if 2048 <= units[u] {
-            return Idle::Unit(u);
+    let mut v = 0;
+    while v < count {
+        if 2048 <= units[v] {
+            return Idle::Unit(v);
         }
-        u += 1;
+        v += 1;
     }
     Idle::None
 }

@@ -161,8 +161,9 @@ for this grows with the square of the entries; --check 100 compares after every
 100th entry, and at the end.
 
 The picture has a lane for each unit: a box while it is busy, hatched while it
-waits at a JOIN, a thin line while it is idle, with arrows for FORKs and EXITs.
-Each cell says its entry when the pointer rests on it.
+waits at a JOIN, a thin line while it is idle, with arrows for FORKs and EXITs. A
+unit that waits may take a part; its box then stands above a hatched strip, the
+JOIN. Each cell says its entry when the pointer rests on it.
 ";
 
 const TURNS: &str = "\

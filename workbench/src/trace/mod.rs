@@ -44,8 +44,16 @@ pub enum Deed {
 #[derive(Clone, Copy, Debug, PartialEq, Eq)]
 pub enum State {
     Busy,
+    /// Busy with a part that it took while it waited: its JOIN lies below.
+    Helping,
     Waiting,
     Idle,
+}
+
+impl State {
+    pub fn acts(self) -> bool {
+        matches!(self, State::Busy | State::Helping)
+    }
 }
 
 #[derive(Clone, Debug)]
@@ -293,11 +301,19 @@ pub(crate) fn shown_ending(number: u8) -> Ending {
 
 fn states(machine: &Machine) -> Vec<State> {
     let state = |unit: &model::Unit| match (unit.busy, unit.orders.last()) {
+        (true, _) if helps(&unit.orders) => State::Helping,
         (true, _) => State::Busy,
         (false, Some(Order::Join { .. })) => State::Waiting,
         (false, _) => State::Idle,
     };
     machine.units.iter().map(state).collect()
+}
+
+/// A part that was taken lies between its EXIT and what the unit waited with.
+fn helps(orders: &[Order]) -> bool {
+    orders
+        .windows(2)
+        .any(|pair| matches!(pair, [Order::Join { .. }, Order::Exit { .. }]))
 }
 
 /// What stands before an entry, to tell by it what the entry did.
@@ -339,7 +355,7 @@ impl Watch {
                 Deed::Visit(orders[self.below..].iter().rev().cloned().collect())
             }
             (Some(Order::Fork { .. }), ..) => {
-                Deed::Fork((1..machine.units.len()).find(|unit| woken(unit)))
+                Deed::Fork((0..machine.units.len()).find(|unit| woken(unit)))
             }
             (Some(Order::Join { count }), ..) => Deed::Join(*count),
             (Some(Order::Exit { unit, join }), ..) => Deed::Exit {

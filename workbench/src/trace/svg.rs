@@ -1,7 +1,8 @@
 //! A trace as a picture: a lane for each unit, time from left to right.
 //!
 //! A busy unit's lane is a box, a waiting one's is hatched, an idle one's is a
-//! thin line, so that the three differ in shape and not in colour alone.
+//! thin line, so that the three differ in shape and not in colour alone. A unit
+//! that helps has its box above a hatched strip, the JOIN at which it waited.
 
 use std::fmt::{Display, Write};
 
@@ -18,8 +19,11 @@ const RIGHT: f64 = 30.0;
 const TOP: f64 = 74.0;
 const LANE: f64 = 26.0;
 const LANE_GAP: f64 = 20.0;
+/// The JOIN under the work of a unit that helps.
+const STRIP: f64 = 8.0;
 const AXIS: f64 = 46.0;
 const LEGEND: f64 = 112.0;
+const HELPING_LEGEND: f64 = 30.0;
 /// Narrower cells have no letter, and narrower still no cell of their own.
 const LETTER_CELL: f64 = 10.0;
 const OWN_CELL: f64 = 3.0;
@@ -61,7 +65,11 @@ struct Layout {
     cell: f64,
     row_height: f64,
     width: f64,
+    /// Where the legend begins.
+    legend: f64,
     height: f64,
+    /// Does a unit help?
+    helping: bool,
 }
 
 impl Layout {
@@ -79,13 +87,20 @@ impl Layout {
         let cell = (PLOT_WIDTH / row_entries as f64).min(WIDEST_CELL);
         let row_height = trace.units as f64 * (LANE + LANE_GAP) + AXIS;
         let plot = cell * row_entries as f64;
+        let helping = trace
+            .steps
+            .iter()
+            .any(|step| step.states.contains(&State::Helping));
+        let plots = TOP + rows as f64 * row_height;
         Layout {
             rows,
             row_entries,
             cell,
             row_height,
             width: (LEFT + plot + RIGHT).max(LEAST_WIDTH),
-            height: TOP + rows as f64 * row_height + LEGEND,
+            legend: plots + 12.0,
+            height: plots + LEGEND + if helping { HELPING_LEGEND } else { 0.0 },
+            helping,
         }
     }
 
@@ -142,7 +157,7 @@ impl Picture<'_> {
     fn shares(&self) -> String {
         let entries = self.trace.steps.len();
         let share = |unit: usize| {
-            let busy = |entry: &usize| self.state(unit, *entry) == State::Busy;
+            let busy = |entry: &usize| self.state(unit, *entry).acts();
             let count = (0..entries).filter(busy).count();
             format!(
                 "unit {unit} {} %",
@@ -206,16 +221,30 @@ impl Picture<'_> {
         let width = of.len() as f64 * self.layout.cell;
         let (fill, top, height) = match state {
             State::Busy => (BUSY, y, LANE),
-            State::Waiting => ("url(#waits)", y + 4.0, LANE - 8.0),
+            State::Helping => (BUSY, y, LANE - STRIP),
+            State::Waiting => return self.hatched(x, y + 4.0, width, LANE - 8.0),
             State::Idle => (IDLE, y + LANE / 2.0 - 1.0, 2.0),
         };
-        let stroke = match state {
-            State::Waiting => format!(" stroke=\"{WAITS}\""),
-            _ => String::new(),
-        };
         self.put(format_args!(
-            "<rect x=\"{x:.2}\" y=\"{top:.1}\" width=\"{width:.2}\" height=\"{height}\" fill=\"{fill}\"{stroke}/>"
+            "<rect x=\"{x:.2}\" y=\"{top:.1}\" width=\"{width:.2}\" height=\"{height}\" fill=\"{fill}\"/>"
         ));
+        if state == State::Helping {
+            self.hatched(x, y + LANE - STRIP, width, STRIP);
+        }
+    }
+
+    fn hatched(&mut self, x: f64, y: f64, width: f64, height: f64) {
+        self.put(format_args!(
+            "<rect x=\"{x:.2}\" y=\"{y:.1}\" width=\"{width:.2}\" height=\"{height}\" fill=\"url(#waits)\" stroke=\"{WAITS}\"/>"
+        ));
+    }
+
+    /// How much of the lane is left to the work of a unit that an entry meets.
+    fn work_height(&self, unit: usize, entry: usize) -> f64 {
+        match self.state(unit, entry) {
+            State::Helping => LANE - STRIP,
+            _ => LANE,
+        }
     }
 
     /// The entry's own cell, in the lane of the unit that acts.
@@ -223,7 +252,8 @@ impl Picture<'_> {
         let step = &self.trace.steps[entry];
         let cell = self.layout.cell;
         let (x, y) = (self.layout.x(row, entry), self.layout.lane(row, step.unit));
-        let middle = (x + cell / 2.0, y + LANE / 2.0);
+        let height = self.work_height(step.unit, entry);
+        let middle = (x + cell / 2.0, y + height / 2.0);
         let title = self.cell_title(entry, step);
         let drawn = match step.deed {
             Deed::Nothing => lost(middle, cell),
@@ -232,7 +262,7 @@ impl Picture<'_> {
                 let (x, width) = (x + gap, cell - 2.0 * gap);
                 let fill = acting_fill(&step.deed);
                 format!(
-                    "<rect x=\"{x:.2}\" y=\"{y}\" width=\"{width:.2}\" height=\"{LANE}\" fill=\"{fill}\"/>{}",
+                    "<rect x=\"{x:.2}\" y=\"{y}\" width=\"{width:.2}\" height=\"{height}\" fill=\"{fill}\"/>{}",
                     letter(&step.deed, middle, cell)
                 )
             }
@@ -250,27 +280,24 @@ impl Picture<'_> {
         ))
     }
 
-    /// A granted FORK and an EXIT lead from the acting unit to another.
+    /// A granted FORK and an EXIT lead from the acting unit to another: from
+    /// its work, a FORK to the other's work and an EXIT to the other's JOIN.
     fn arrow(&mut self, row: usize, entry: usize) {
         let step = &self.trace.steps[entry];
-        let (to, class) = match step.deed {
-            Deed::Fork(Some(unit)) => (unit, "fork"),
-            Deed::Exit { unit, .. } => (unit, "exit"),
+        let (to, class, height) = match step.deed {
+            Deed::Fork(Some(unit)) => (unit, "fork", self.work_height(unit, entry + 1)),
+            Deed::Exit { unit, .. } => (unit, "exit", LANE),
             _ => return,
         };
         let x = self.layout.x(row, entry) + self.layout.cell;
-        let (y1, y2) = self.arrow_ends(row, step.unit, to);
+        let from = self.work_height(step.unit, entry);
+        let (start, end) = (self.layout.lane(row, step.unit), self.layout.lane(row, to));
+        let (y1, y2) = match step.unit < to {
+            true => (start + from - 4.0, end + 1.0),
+            false => (start + 4.0, end + height - 1.0),
+        };
         let thin = self.layout.cell < OWN_CELL;
         self.put(arrow(class, x, y1, y2, thin));
-    }
-
-    /// From the near edge of one lane to the near edge of the other.
-    fn arrow_ends(&self, row: usize, from: usize, to: usize) -> (f64, f64) {
-        let (start, end) = (self.layout.lane(row, from), self.layout.lane(row, to));
-        match from < to {
-            true => (start + LANE - 4.0, end + 1.0),
-            false => (start + 4.0, end + LANE - 1.0),
-        }
     }
 
     fn axis(&mut self, row: usize, entries: std::ops::Range<usize>) {
@@ -302,7 +329,7 @@ impl Picture<'_> {
     // The legend
 
     fn legend(&mut self) {
-        let y = self.layout.height - LEGEND + 12.0;
+        let y = self.layout.legend;
         let own_cells = self.layout.cell >= OWN_CELL;
         self.legend_box(20.0, y, BUSY, "busy");
         self.put(format_args!(
@@ -322,9 +349,25 @@ impl Picture<'_> {
              <text x=\"574\" y=\"{0}\">EXIT gives it back</text>",
             y + 12.0
         ));
-        if own_cells {
-            self.cell_legend(y + 30.0);
+        let mut y = y + 30.0;
+        if self.layout.helping {
+            self.helping_legend(y);
+            y += HELPING_LEGEND;
         }
+        if own_cells {
+            self.cell_legend(y);
+        }
+    }
+
+    fn helping_legend(&mut self, y: f64) {
+        self.put(format_args!(
+            "<rect x=\"20\" y=\"{y}\" width=\"28\" height=\"10\" fill=\"{BUSY}\"/>"
+        ));
+        self.hatched(20.0, y + 10.0, 28.0, 6.0);
+        self.put(format_args!(
+            "<text x=\"56\" y=\"{}\">helps: busy with another unit's part, above its own JOIN</text>",
+            y + 12.0
+        ));
     }
 
     fn cell_legend(&mut self, y: f64) {

@@ -86,6 +86,9 @@ pub fn change(step: &Step, before: State, rule_lines: &[usize]) -> String {
             let placed: Vec<String> = orders.iter().map(placed).collect();
             format!("gives {}", placed.join(", "))
         }
+        Deed::Fork(Some(unit)) if step.states[*unit] == State::Helping => {
+            format!("unit {unit} takes this part, above its JOIN")
+        }
         Deed::Fork(Some(unit)) => format!("unit {unit} takes this part"),
         Deed::Fork(None) => "no unit is idle: becomes VISIT".into(),
         Deed::Join(0) => "passes".into(),

@@ -1,7 +1,7 @@
 -- `units::lowest_idle` meets its contract: the loop's invariant: the whole search gives what the search from unit u gives. Assumes nothing.
 use mathlib.Core.List.{List}
 use mathlib.Core.Path.{_≡_, refl, _∙_}
-use Prim.Native.Nat.{ℕ, _-_, _≤_}
+use Prim.Native.Nat.{ℕ, _-_}
 use native.Mathlib.Omega.{arith}
 use borrow.Author.Needs.{needs}
 use Rattle.flat.specs.Machine.{idle, idle-from}
@@ -11,28 +11,28 @@ use Rattle.units.proofs.lowest_idle.Statement.{statement}
 use Rattle.units.proofs.lowest_idle.Tie as tie
 
 abbrev Inv-loop : tie.InvT-loop
-Inv-loop units n u₀ u = (1 ≤ u) × ((w : List ℕ) → idle (units-of w units n) ≡ idle-from u (units-from w units u (n - u)))
+Inv-loop units n u₀ u = (w : List ℕ) → idle (units-of w units n) ≡ idle-from u (units-from w units u (n - u))
 
 abbrev μ-loop : tie.MeasureT-loop
 μ-loop units n u₀ u = n - u
 
 loop-holds : tie.Need-loop-holds Inv-loop μ-loop
-loop-holds c = (omega arith, λ w. idle-start w _ _)
+loop-holds c w = idle-start w _ _
 
 returns : tie.Need-returns Inv-loop μ-loop
 returns c =
     let l = c .before .before .before in
     let i = l .loop .inv in
-    record { units = λ w. i .1 w ∙ idle-here w _ _ _ (c .if1 .taken) (omega arith); one = (i .0, c .before .before .loop-test .taken) }
+    record { units = λ w. i w ∙ idle-here w _ _ _ (c .if1 .taken) (omega arith); one = c .before .before .loop-test .taken }
 
 loop-again : tie.Need-loop-again Inv-loop μ-loop
 loop-again c =
     let l = c .before .before .before in
-    (omega arith, λ w. l .loop .inv .1 w ∙ idle-next w _ _ _ _ _ (c .if1 .left) refl (omega arith))
+    λ w. l .loop .inv w ∙ idle-next w _ _ _ _ _ (c .if1 .left) refl (omega arith)
 
 returns-2 : tie.Need-returns-2 Inv-loop μ-loop
 returns-2 c =
-    record { units = λ w. c .before .loop .inv .1 w ∙ idle-none w _ _ _ (omega arith); one = tt }
+    record { units = λ w. c .before .loop .inv w ∙ idle-none w _ _ _ (omega arith); one = tt }
 
 pub lowest-idle-spec : {M : Type 1} → statement M
 lowest-idle-spec = tie.close (tie.spec Inv-loop μ-loop loop-holds (λ c. search needs) (λ c. search needs) returns (λ c. search needs) (λ c. search needs) loop-again returns-2)
