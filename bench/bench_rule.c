@@ -41,13 +41,19 @@ static size_t term_size(const uint8_t *symbols, const uint8_t *arities, size_t a
 // The offset behind the term that a left side agrees with, or 0. The root, of nine bits, agrees already.
 static size_t match(side s, const tables *t, const uint8_t *symbols, size_t size, size_t offset, uint16_t *starts, uint16_t *sizes) {
     size_t q = offset + 1, due = t->arities[symbols[offset]];
+    unsigned bound = 0;
     s.at += 9;
     while (due) {
         due--;
         if (field(&s, 1)) {
             unsigned v = field(&s, 4);
-            starts[v] = (uint16_t)q;
-            sizes[v] = (uint16_t)term_size(symbols, t->arities, q);
+            if (bound >> v & 1) {
+                if (q + sizes[v] > size || memcmp(symbols + q, symbols + starts[v], sizes[v])) return 0;
+            } else {
+                bound |= 1u << v;
+                starts[v] = (uint16_t)q;
+                sizes[v] = (uint16_t)term_size(symbols, t->arities, q);
+            }
             q += sizes[v];
         } else {
             unsigned o = field(&s, 8);

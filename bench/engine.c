@@ -78,9 +78,18 @@ static inline unsigned symbol(const engine *e, size_t *at) {
     return x & VARIABLE ? VARIABLE | x >> 4 : x;
 }
 
-static inline void bind(engine *e, unsigned v, unsigned from, unsigned to) {
+// The offset behind the part at an offset, where variable v stands, or 0 if v stood before and that part is another. A part that begins with the
+// symbols of another has no more.
+static inline unsigned bind(engine *e, unsigned v, unsigned *bound, unsigned from) {
+    if (*bound >> v & 1) {
+        unsigned to = from + e->sizes[v];
+        return to <= e->length && !memcmp(e->symbols + from, e->symbols + e->starts[v], e->sizes[v]) ? to : 0;
+    }
+    unsigned to = skip(e, from, 1);
+    *bound |= 1u << v;
     e->starts[v] = (uint16_t)from;
     e->sizes[v] = (uint16_t)(to - from);
+    return to;
 }
 
 #ifdef PACKED
@@ -88,13 +97,11 @@ static inline void bind(engine *e, unsigned v, unsigned from, unsigned to) {
 // The offset behind the term at an offset if the rule's left side matches it, or 0. The root, of nine bits, agrees already.
 static unsigned match(engine *e, unsigned i, unsigned offset) {
     size_t at = e->read.lefts[i] + 9;
-    unsigned q = offset + 1;
+    unsigned q = offset + 1, bound = 0;
     for (int due = 1 + e->more[e->symbols[offset]]; due > 0;) {
         unsigned s = symbol(e, &at);
         if (s & VARIABLE) {
-            unsigned from = q;
-            q = skip(e, q, 1);
-            bind(e, s & 15, from, q);
+            if (!(q = bind(e, s & 15, &bound, q))) return 0;
             due--;
         } else {
             if (e->symbols[q] != s) return 0;
@@ -155,13 +162,11 @@ static void decode(engine *e, unsigned i) {
 static unsigned match(engine *e, unsigned i, unsigned offset) {
     if (!e->decoded[i]) decode(e, i);
     const rule *r = &e->sides[i];
-    unsigned q = offset + 1;
+    unsigned q = offset + 1, bound = 0;
     for (unsigned k = 1; k < r->left_size; k++) {
         unsigned s = r->left[k];
         if (s & VARIABLE) {
-            unsigned from = q;
-            q = skip(e, q, 1);
-            bind(e, s & 15, from, q);
+            if (!(q = bind(e, s & 15, &bound, q))) return 0;
         } else if (e->symbols[q++] != s) return 0;
     }
     return q;

@@ -109,7 +109,6 @@ static unsigned side(reader *r, unsigned n, const tables *t, unsigned *vars, int
             due += t->arities[x];
         } else if (left) {
             if (!i) { r->fault = 5; return 0; }
-            if (*vars >> x & 1) { r->fault = 6; return 0; }
             *vars |= 1u << x;
         } else if (!(*vars >> x & 1)) { r->fault = 7; return 0; }
     }

@@ -6,10 +6,10 @@ use crate::model::SIDE_LIMIT;
 use crate::random::Random;
 
 pub fn draft(random: &mut Random) -> Draft {
-    if random.one_in(5) {
-        arithmetic(random)
-    } else {
-        any_draft(random)
+    match random.below(10) {
+        0 | 1 => arithmetic(random),
+        2 => matching(random),
+        _ => any_draft(random),
     }
 }
 
@@ -74,7 +74,8 @@ fn arity(random: &mut Random, widest: usize) -> usize {
 pub fn strategy(random: &mut Random, arity: u8) -> Option<Vec<u8>> {
     match random.below(30) {
         0..=6 => None,
-        7..=21 => Some(full_group(random, arity)),
+        7..=18 => Some(full_group(random, arity)),
+        19..=21 => Some(part_group(random, arity)),
         22 => Some(Vec::new()),
         _ => Some(mixed_strategy(random, arity)),
     }
@@ -86,6 +87,15 @@ fn full_group(random: &mut Random, arity: u8) -> Vec<u8> {
         random.shuffle(&mut arguments);
     }
     [vec![8], arguments, vec![9, 0]].concat()
+}
+
+/// Some arguments in a group, and others before and behind it.
+fn part_group(random: &mut Random, arity: u8) -> Vec<u8> {
+    let mut arguments: Vec<u8> = (1..=arity).collect();
+    random.shuffle(&mut arguments);
+    let before = arguments.split_off(arguments.len().div_ceil(2));
+    let behind = arguments.split_off(arguments.len().min(random.between(2, 3)));
+    [before, vec![8], arguments, vec![9], behind, vec![0]].concat()
 }
 
 /// Any allowed list: 0s inside, empty groups, groups of one, repeated items.
@@ -206,7 +216,22 @@ fn left_side(random: &mut Random, draft: &Draft, root: u8, limit: usize) -> Opti
     let mut room = limit.saturating_sub(root.len());
     let mut symbols = Vec::new();
     grower.grow_branch(random, &root, &mut room, &mut symbols)?;
+    if random.one_in(2) {
+        repeat_variable(random, &mut symbols);
+    }
     Some(symbols)
+}
+
+/// Lets one variable of a left side stand in the place of others, mostly of
+/// one.
+fn repeat_variable(random: &mut Random, side: &mut [Symbol]) {
+    let is_variable = |place: &usize| matches!(side[*place], Symbol::Variable(_));
+    let mut places: Vec<usize> = (0..side.len()).filter(is_variable).collect();
+    random.shuffle(&mut places);
+    places.truncate(*random.pick(&[2, 2, 2, 3, 3, 16]));
+    if let Some(first) = places.first().map(|place| side[*place]) {
+        places.into_iter().for_each(|place| side[place] = first);
+    }
 }
 
 pub fn right_side(
@@ -330,5 +355,47 @@ fn arithmetic_rules() -> Vec<RuleDraft> {
             &[FIBONACCI, NEXT, NEXT, X],
             &[SUM, FIBONACCI, NEXT, X, FIBONACCI, X],
         ),
+    ]
+}
+
+// ---------------------------------------------------------------------------
+// Entries that match: variables that stand again, also in a group and beside it
+
+const ENTRY: Symbol = Symbol::Operator(2);
+const PAIR: Symbol = Symbol::Operator(3);
+const TRIPLE: Symbol = Symbol::Operator(4);
+const Z: Symbol = Symbol::Variable(7);
+
+/// Two constants, and operators of one to three arguments.
+fn matching(random: &mut Random) -> Draft {
+    let operators = [0, 0, 1, 2, 3].into_iter().map(|arity| OperatorDraft {
+        arity,
+        strategy: match random.below(3) {
+            0 => strategy(random, arity),
+            1 => Some(full_group(random, arity)),
+            _ => Some(part_group(random, arity)),
+        },
+    });
+    let operators = operators.collect();
+    let mut rules = matching_rules();
+    random.shuffle(&mut rules);
+    rules.truncate(random.between(1, 4));
+    Draft { operators, rules }
+}
+
+fn matching_rules() -> Vec<RuleDraft> {
+    let rule = |left: &[Symbol], right: &[Symbol]| RuleDraft {
+        left: left.into(),
+        right: right.into(),
+    };
+    vec![
+        rule(&[PAIR, X, X], &[ENTRY, X]),
+        rule(&[PAIR, ENTRY, X, PAIR, X, Y], &[PAIR, X, Y]),
+        rule(&[PAIR, PAIR, X, Y, PAIR, X, Y], &[PAIR, Y, X]),
+        rule(&[TRIPLE, X, X, X], &[X]),
+        rule(&[TRIPLE, X, Y, X], &[PAIR, X, Y]),
+        rule(&[TRIPLE, X, Y, Y], &[PAIR, Y, X]),
+        rule(&[TRIPLE, X, PAIR, Y, X, Z], &[TRIPLE, Y, Z, X]),
+        rule(&[TRIPLE, PAIR, X, Y, ENTRY, Y, X], &[ENTRY, PAIR, Y, Y]),
     ]
 }

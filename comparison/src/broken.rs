@@ -64,9 +64,15 @@ pub enum Slip {
     Busy,
     /// A waiting unit gets its work below its JOIN.
     Below,
+    /// Of a repeated variable's parts only the lengths are compared.
+    Lengths,
+    /// Of a repeated variable's parts the last symbol is not compared.
+    Last,
+    /// A repeated variable is bound anew.
+    Anew,
 }
 
-pub const SLIPS: [(&str, Slip); 25] = [
+pub const SLIPS: [(&str, Slip); 28] = [
     ("join", Slip::Join),
     ("list", Slip::List),
     ("zeros", Slip::Zeros),
@@ -92,6 +98,9 @@ pub const SLIPS: [(&str, Slip); 25] = [
     ("main", Slip::Main),
     ("busy", Slip::Busy),
     ("below", Slip::Below),
+    ("lengths", Slip::Lengths),
+    ("last", Slip::Last),
+    ("anew", Slip::Anew),
 ];
 
 pub struct BrokenModel {
@@ -231,6 +240,9 @@ impl BrokenModel {
                     entry_with_states(machine, unit, |other| (other != unit).then_some(false))
                 }
                 Slip::Below => entry_working_below(machine, unit),
+                Slip::Lengths | Slip::Last | Slip::Anew => {
+                    entry_taking_as_alike(machine, unit, self.slip)
+                }
                 _ => machine.entry(unit),
             };
             if let Some(ending) = ending {
@@ -446,6 +458,62 @@ fn entry_working_below(machine: &mut Machine, unit: usize) -> Option<u8> {
         }
     }
     ending
+}
+
+/// Where a left side matches by the slip, the part is first made what the left
+/// side takes it for.
+fn entry_taking_as_alike(machine: &mut Machine, unit: usize, slip: Slip) -> Option<u8> {
+    let book = machine.book;
+    if let (true, Some(Order::Whole { term, .. })) = (
+        machine.units[unit].busy,
+        machine.units[unit].orders.last().cloned(),
+    ) {
+        let part = machine.term.part_mut(&term).expect("no order is stray");
+        let before = part.clone();
+        let taken = book.rules.iter().find_map(|rule| {
+            let mut filling = [None; 16];
+            takes_as_alike(&rule.left, &before, &mut filling, slip)
+                .then(|| rule.left.filled(&filling))
+        });
+        *part = taken.unwrap_or_else(|| before.clone());
+        machine.size = machine.size + part.size() - before.size();
+    }
+    machine.entry(unit)
+}
+
+fn takes_as_alike<'t>(
+    side: &Pattern,
+    term: &'t Term,
+    filling: &mut Filling<'t>,
+    slip: Slip,
+) -> bool {
+    match side {
+        Pattern::Variable(variable) => {
+            let filled = &mut filling[usize::from(*variable)];
+            match (*filled, slip) {
+                (Some(first), Slip::Lengths) => first.size() == term.size(),
+                (Some(first), Slip::Last) => front(first) == front(term),
+                _ => {
+                    *filled = Some(term);
+                    true
+                }
+            }
+        }
+        Pattern::Operator(operator, sides) => {
+            *operator == term.operator
+                && sides
+                    .iter()
+                    .zip(&term.arguments)
+                    .all(|(side, part)| takes_as_alike(side, part, filling, slip))
+        }
+    }
+}
+
+/// All symbols but the last.
+fn front(term: &Term) -> Vec<u8> {
+    let mut symbols = term.preorder();
+    symbols.pop();
+    symbols
 }
 
 fn with_kept_above_granted(page: &[u8]) -> Vec<u8> {

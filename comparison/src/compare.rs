@@ -1,16 +1,19 @@
 //! Compares a subject with the model on random cases.
 
 use std::fmt::{self, Display, Formatter};
-use std::ops::{Range, RangeInclusive};
+use std::ops::Range;
 
 use crate::draft::Case;
+use crate::model::refusal::OF_BOOKS;
 use crate::model::{self, Answer, Form};
 use crate::random;
+use crate::repeats::{Repeats, KINDS};
 use crate::shrink::shrink;
 use crate::subject::{Question, Subject, Told, Written};
 
-/// The numbers of the book's own refusals.
-const BOOK: RangeInclusive<usize> = 1..=9;
+/// Those of a run that are not its book's. Refusal 17 is about the program's
+/// input, which a subject never sees.
+const OTHERS: [u8; 9] = [10, 11, 12, 13, 14, 15, 16, 18, 19];
 
 /// How often each ending and each refusal number was due.
 #[derive(Clone, Debug, Default, PartialEq, Eq)]
@@ -24,25 +27,31 @@ pub struct Tally {
     pub text_refusals: [u64; 20],
     pub books_written: u64,
     pub writer_refusals: [u64; 20],
+    pub repeats: Repeats,
 }
 
 impl Tally {
-    /// What was never met, though enough random cases meet all of it. Refusal
-    /// 17 is about the program's input, which a subject never sees.
+    /// What was never met, though enough random cases meet all of it.
     pub fn missing(&self) -> Vec<String> {
-        let unmet = |name: &str, numbers: &[usize], counts: &[u64]| -> Vec<String> {
-            let numbers = numbers.iter().filter(|&&number| counts[number] == 0);
+        let unmet = |name: &str, numbers: &[u8], counts: &[u64]| -> Vec<String> {
+            let is_unmet = |number: &&u8| counts[usize::from(**number)] == 0;
+            let numbers = numbers.iter().filter(is_unmet);
             numbers.map(|number| format!("{name} {number}")).collect()
         };
-        let all: Vec<usize> = (1..=16).chain([18, 19]).collect();
-        let of_text: Vec<usize> = BOOK.chain([13, 14, 15, 16, 18, 19]).collect();
+        let all = [&OF_BOOKS[..], &OTHERS].concat();
+        let of_text = [&OF_BOOKS[..], &[13, 14, 15, 16, 18, 19]].concat();
+        let kinds = KINDS.iter().zip(self.repeats.counts);
+        let kinds = kinds.filter(|(_, count)| *count == 0);
         [
             unmet("ending", &[0, 1, 2, 3], &self.endings),
             unmet("refusal", &all, &self.refusals),
             unmet("a text's ending", &[0, 1, 2, 3], &self.text_endings),
             unmet("a text's refusal", &of_text, &self.text_refusals),
-            unmet("writer's refusal", &all[..9], &self.writer_refusals),
+            unmet("writer's refusal", &OF_BOOKS, &self.writer_refusals),
             unmet("writer's refusal", &[16], &self.writer_refusals),
+            kinds
+                .map(|(kind, _)| format!("parts of a repeated variable {kind}"))
+                .collect(),
         ]
         .concat()
     }
@@ -148,6 +157,9 @@ impl<'a> Comparison<'a> {
         let question = Question::of(case, book);
         let expected = question.answer(work_len, case.output_len, published);
         self.tally.count_run(case.form, &expected);
+        if expected.is_ok() {
+            self.tally.repeats.count(&question);
+        }
         let work = self.work.lend(work_len, case.junk);
         let output = self.output.lend(case.output_len, !case.junk);
         let found = self.subject.answer(&question, work, output);
@@ -294,8 +306,9 @@ impl Display for Tally {
             let texts = self.text_endings[ending];
             writeln!(text, "ending {ending:2}   {count}, texts {texts}")?;
         }
-        for number in (1..=16).chain([18, 19]) {
-            let (count, texts) = (self.refusals[number], self.text_refusals[number]);
+        for number in OF_BOOKS.into_iter().chain(OTHERS) {
+            let place = usize::from(number);
+            let (count, texts) = (self.refusals[place], self.text_refusals[place]);
             writeln!(text, "refused {number:2}  {count}, texts {texts}")?;
         }
         writeln!(text, "books written {}", self.books_written)?;
@@ -304,6 +317,6 @@ impl Display for Tally {
                 writeln!(text, "writer refused {number:2}  {count}")?;
             }
         }
-        Ok(())
+        write!(text, "{}", self.repeats)
     }
 }

@@ -1,7 +1,7 @@
 //! Faults put into a case, so that every refusal is due now and then.
 
 use crate::draft::{Case, Damage, Draft, RuleDraft, Symbol};
-use crate::grow::split_operators;
+use crate::grow::{split_operators, Place};
 use crate::model::{squeezed, Form, OUTPUT_LEN, SIDE_LIMIT, TERM_LIMIT};
 use crate::random::Random;
 use crate::texts;
@@ -129,12 +129,11 @@ fn spoil_rules(random: &mut Random, draft: &mut Draft) {
         _ => random.below(draft.rules.len()),
     };
     let mut rule = draft.rules[place].clone();
-    match random.below(9) {
+    match random.below(7) {
         0 => *some_symbol(random, &mut rule) = unknown_operator(random, draft),
         1 => rule.left = vec![Symbol::Variable(random.below(16) as u8)],
-        2 | 3 => repeat_variable(random, &mut rule.left),
-        4 | 5 => *any_symbol(random, &mut rule.right) = Symbol::Variable(random.below(16) as u8),
-        6 => {
+        2 | 3 => *any_symbol(random, &mut rule.right) = Symbol::Variable(random.below(16) as u8),
+        4 => {
             some_side(random, &mut rule).pop();
         }
         _ => *some_side(random, &mut rule) = long_side(random, draft),
@@ -168,15 +167,6 @@ fn unknown_operator(random: &mut Random, draft: &Draft) -> Symbol {
     Symbol::Operator(random.between(draft.operators.len().min(255), 255) as u8)
 }
 
-fn repeat_variable(random: &mut Random, side: &mut [Symbol]) {
-    let places: Vec<usize> = (0..side.len())
-        .filter(|&place| matches!(side[place], Symbol::Variable(_)))
-        .collect();
-    if places.len() > 1 {
-        side[*random.pick(&places)] = side[*random.pick(&places)];
-    }
-}
-
 /// A side near the limit: a chain of one operator, closed or left incomplete,
 /// and sometimes with a fault in the last symbol that a side may have.
 fn long_side(random: &mut Random, draft: &Draft) -> Vec<Symbol> {
@@ -184,7 +174,9 @@ fn long_side(random: &mut Random, draft: &Draft) -> Vec<Symbol> {
     if branches.is_empty() {
         return vec![Symbol::Operator(0)];
     }
-    let chain = random.pick(&branches)[0].expect("a branch starts with its operator");
+    let Place::Is(chain) = random.pick(&branches)[0] else {
+        unreachable!("a branch starts with its operator")
+    };
     let length = random.from_ranges(&[(SIDE_LIMIT - 2, SIDE_LIMIT + 1), (SIDE_LIMIT, SIDE_LIMIT)]);
     let mut side = vec![chain; length];
     if let (Some(leaf), false) = (constants.first(), random.one_in(3)) {

@@ -1,11 +1,22 @@
 //! Grows random sides and lines in preorder within a number of symbols.
 
+use std::ops::Range;
+
 use crate::draft::{Draft, Symbol};
 use crate::model::TERM_LIMIT;
 use crate::random::Random;
 
-/// Symbols with holes (`None`) for the parts still to grow.
-pub type Branch = Vec<Option<Symbol>>;
+/// What stands at a place of a branch.
+#[derive(Clone, Copy, Debug, PartialEq, Eq)]
+pub enum Place {
+    Is(Symbol),
+    /// For a part that is still to grow.
+    Hole,
+    /// The same, for a variable that stands in other places too.
+    Shared(u8),
+}
+
+pub type Branch = Vec<Place>;
 
 pub struct Grower {
     pub branches: Vec<Branch>,
@@ -18,6 +29,9 @@ pub struct Grower {
     pub stop: usize,
     /// Holes share the room evenly; otherwise the first ones take it.
     pub even: bool,
+    /// The operators' arities, by which parts are made that nearly equal
+    /// others.
+    pub arities: Vec<usize>,
 }
 
 impl Grower {
@@ -29,6 +43,7 @@ impl Grower {
             linear: false,
             stop: *random.pick(&[2, 3, 6, 50]),
             even: random.one_in(2),
+            arities: Vec::new(),
         }
     }
 
@@ -62,19 +77,112 @@ impl Grower {
         room: &mut usize,
         symbols: &mut Vec<Symbol>,
     ) -> Option<()> {
-        let mut holes = branch.iter().filter(|symbol| symbol.is_none()).count();
-        for symbol in branch {
-            if let Some(symbol) = symbol {
+        let mut holes = branch.iter().filter(|place| place.is_open()).count();
+        // Where parts are to be equal, the first one leaves room for the others.
+        let even = self.even || branch.iter().any(|place| place.shared().is_some());
+        let mut grown: Vec<(u8, Range<usize>)> = Vec::new();
+        for place in branch {
+            if let Place::Is(symbol) = place {
                 symbols.push(*symbol);
                 continue;
             }
-            let lent = if self.even { *room / holes } else { *room };
+            let lent = if even { *room / holes } else { *room };
             let mut left = lent;
-            self.grow(random, &mut left, symbols)?;
+            let start = symbols.len();
+            let before = grown
+                .iter()
+                .find(|(variable, _)| Some(*variable) == place.shared());
+            match before.map(|(_, part)| symbols[part.clone()].to_vec()) {
+                Some(first) => self.grow_again(random, first, &mut left, symbols)?,
+                None => self.grow(random, &mut left, symbols)?,
+            }
+            grown.extend(
+                place
+                    .shared()
+                    .map(|variable| (variable, start..symbols.len())),
+            );
             *room -= lent - left;
             holes -= 1;
         }
         Some(())
+    }
+
+    /// A part where a variable stands again: mostly equal to the first one, or
+    /// nearly so.
+    fn grow_again(
+        &mut self,
+        random: &mut Random,
+        first: Vec<Symbol>,
+        room: &mut usize,
+        symbols: &mut Vec<Symbol>,
+    ) -> Option<()> {
+        let last = first.len() - 1;
+        let part = match random.below(12) {
+            0..=5 => Some(first),
+            6..=8 => self.with_other_symbol(random, first, last),
+            9 => self.with_other_symbol(random, first, 0),
+            10 => self.of_other_length(random, first),
+            _ => None,
+        };
+        match part.filter(|part| part.len() - 1 <= *room) {
+            Some(part) => {
+                *room -= part.len() - 1;
+                symbols.extend(part);
+                Some(())
+            }
+            None => self.grow(random, room, symbols),
+        }
+    }
+
+    /// Another operator with as many arguments, if there is one.
+    fn with_other_symbol(
+        &self,
+        random: &mut Random,
+        mut part: Vec<Symbol>,
+        place: usize,
+    ) -> Option<Vec<Symbol>> {
+        let others: Vec<Symbol> = (0..self.arities.len())
+            .map(|operator| Symbol::Operator(operator as u8))
+            .filter(|&other| other != part[place] && self.arity(other) == self.arity(part[place]))
+            .collect();
+        if others.is_empty() {
+            return None;
+        }
+        part[place] = *random.pick(&others);
+        Some(part)
+    }
+
+    /// Some argument inside becomes a constant, or a constant becomes longer.
+    fn of_other_length(&mut self, random: &mut Random, part: Vec<Symbol>) -> Option<Vec<Symbol>> {
+        let start = random.below(part.len());
+        let end = self.part_end(&part, start);
+        let leaf = self.leaf(random)?;
+        let other = match end - start {
+            1 => {
+                let operator = random.below(self.arities.len());
+                let leaves = vec![leaf; self.arities[operator]];
+                [vec![Symbol::Operator(operator as u8)], leaves].concat()
+            }
+            _ => vec![leaf],
+        };
+        Some([&part[..start], &other, &part[end..]].concat())
+    }
+
+    fn arity(&self, symbol: Symbol) -> usize {
+        match symbol {
+            Symbol::Operator(operator) => self.arities[usize::from(operator)],
+            Symbol::Variable(_) => 0,
+        }
+    }
+
+    fn part_end(&self, part: &[Symbol], start: usize) -> usize {
+        let mut due = 1;
+        let mut end = start;
+        while due > 0 {
+            due = due + self.arity(part[end]) - 1;
+            end += 1;
+        }
+        end
     }
 
     fn choose_branch(&self, random: &mut Random, room: usize) -> Option<Branch> {
@@ -119,11 +227,24 @@ impl Grower {
     }
 }
 
+impl Place {
+    fn is_open(&self) -> bool {
+        !matches!(self, Place::Is(_))
+    }
+
+    fn shared(&self) -> Option<u8> {
+        match self {
+            Place::Shared(variable) => Some(*variable),
+            _ => None,
+        }
+    }
+}
+
 /// An operator with a hole for each argument.
 pub fn branch(draft: &Draft, operator: u8) -> Branch {
     let symbol = Symbol::Operator(operator);
     let holes = draft.arity(symbol);
-    [vec![Some(symbol)], vec![None; holes]].concat()
+    [vec![Place::Is(symbol)], vec![Place::Hole; holes]].concat()
 }
 
 pub fn numbers(draft: &Draft) -> impl Iterator<Item = u8> + '_ {
@@ -173,6 +294,9 @@ pub fn line(random: &mut Random, draft: &Draft) -> Vec<u8> {
         }
     }
     let mut grower = Grower::new(random, branches, constants);
+    grower.arities = numbers(draft)
+        .map(|operator| draft.arity(Symbol::Operator(operator)))
+        .collect();
     grower.stop = if limit > 60 {
         50
     } else {
@@ -183,9 +307,13 @@ pub fn line(random: &mut Random, draft: &Draft) -> Vec<u8> {
 }
 
 fn holes_for_variables(side: &[Symbol]) -> Branch {
-    side.iter()
-        .map(|&symbol| matches!(symbol, Symbol::Operator(_)).then_some(symbol))
-        .collect()
+    let times = |variable: &Symbol| side.iter().filter(|other| *other == variable).count();
+    let place = |symbol: &Symbol| match symbol {
+        Symbol::Operator(_) => Place::Is(*symbol),
+        Symbol::Variable(variable) if times(symbol) > 1 => Place::Shared(*variable),
+        Symbol::Variable(_) => Place::Hole,
+    };
+    side.iter().map(place).collect()
 }
 
 fn operator_number(symbol: Symbol) -> u8 {

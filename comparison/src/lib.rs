@@ -6,6 +6,7 @@
 //! - `random`, `books`, `texts`, `grow`, `faults`: random cases.
 //! - `subject`: what an implementation under comparison must offer.
 //! - `compare`, `shrink`: the comparison, and how a difference is made small.
+//! - `repeats`: what the cases try of variables that stand again on the left.
 //! - `broken`: the model with one slip, to show that slips are found.
 //! - `library`: the static library as a subject, under the feature `library`.
 //! - `program`: the pages of the programs `reduce` and `payee`.
@@ -22,6 +23,7 @@ pub mod library;
 pub mod model;
 pub mod program;
 pub mod random;
+pub mod repeats;
 pub mod shrink;
 pub mod subject;
 pub mod texts;

@@ -14,12 +14,15 @@ pub const SCHEDULE_LIMIT: usize = 32_768;
 
 /// The refusal numbers of the table of checks.
 pub mod refusal {
+    /// Those of a book's places. 6, for a variable twice in a left side, is
+    /// given no longer.
+    pub const OF_BOOKS: [u8; 8] = [1, 2, 3, 4, 5, 7, 8, 9];
+
     pub const BITS_RUN_OUT: u8 = 1;
     pub const NO_OPERATOR: u8 = 2;
     pub const STRATEGY: u8 = 3;
     pub const RULE_OPERATOR: u8 = 4;
     pub const LEFT_IS_VARIABLE: u8 = 5;
-    pub const VARIABLE_TWICE: u8 = 6;
     pub const VARIABLE_ABSENT: u8 = 7;
     pub const SIDE_TOO_LONG: u8 = 8;
     pub const BOOK_END: u8 = 9;
@@ -67,7 +70,7 @@ impl Term {
         }
     }
 
-    fn part_mut(&mut self, at: &[u8]) -> Option<&mut Term> {
+    pub fn part_mut(&mut self, at: &[u8]) -> Option<&mut Term> {
         match at.split_first() {
             None => Some(self),
             Some((&argument, rest)) => self
@@ -101,12 +104,13 @@ pub enum Pattern {
 pub type Filling<'t> = [Option<&'t Term>; 16];
 
 impl Pattern {
-    /// Left sides name no variable twice, so a variable matches any part.
+    /// A variable matches any part at first, and where it stands again a part
+    /// that is equal, symbol by symbol.
     fn matches<'t>(&self, term: &'t Term, filling: &mut Filling<'t>) -> bool {
         match self {
             Pattern::Variable(variable) => {
-                filling[usize::from(*variable)] = Some(term);
-                true
+                let first = filling[usize::from(*variable)].get_or_insert(term);
+                *first == term
             }
             Pattern::Operator(operator, arguments) => {
                 *operator == term.operator
@@ -118,7 +122,7 @@ impl Pattern {
         }
     }
 
-    fn filled(&self, filling: &Filling) -> Term {
+    pub fn filled(&self, filling: &Filling) -> Term {
         match self {
             Pattern::Variable(variable) => filled_variable(filling, *variable).clone(),
             Pattern::Operator(operator, arguments) => Term {
@@ -354,9 +358,6 @@ fn read_rule(bits: &mut Bits, operators: &[Operator]) -> Result<Rule, u8> {
     let left = read_side(bits, operators, &mut |variable, symbols_before| {
         if symbols_before == 0 {
             return Err(refusal::LEFT_IS_VARIABLE);
-        }
-        if on_left.contains(&variable) {
-            return Err(refusal::VARIABLE_TWICE);
         }
         on_left.push(variable);
         Ok(())

@@ -48,7 +48,8 @@ pub fn draft(random: &mut Random, alphabet: &[u8]) -> Draft {
     for _ in 0..count {
         let rule = match random.below(12) {
             0 | 1 => copying_rule(random, &draft, alphabet),
-            2..=4 => other_rule(random, &draft, &habits),
+            2 => matching_rule(random, &draft),
+            3 | 4 => other_rule(random, &draft, &habits),
             _ => class_rule(random, &draft, alphabet, &habits),
         };
         draft.rules.extend(rule);
@@ -104,23 +105,48 @@ fn other_rule(random: &mut Random, draft: &Draft, habits: &RuleHabits) -> Option
 }
 
 /// A rule that puts what follows a letter under an operator of several
-/// arguments: a text's term has none, and so nothing that units could share.
+/// arguments, some of them with a letter before: a text's term has none such,
+/// and so nothing that units could share, or that could be equal.
 fn copying_rule(random: &mut Random, draft: &Draft, alphabet: &[u8]) -> Option<RuleDraft> {
     let root = Symbol::Operator(letter(random, alphabet));
+    let operator = wide_operator(random, draft)?;
+    if draft.arity(root) != 1 {
+        return None;
+    }
+    let rest = Symbol::Variable(random.below(16) as u8);
+    let mut right = vec![operator];
+    for _ in 0..draft.arity(operator) {
+        let before = Symbol::Operator(letter(random, alphabet));
+        if draft.arity(before) == 1 && random.one_in(4) {
+            right.push(before);
+        }
+        right.push(rest);
+    }
+    Some(RuleDraft {
+        left: vec![root, rest],
+        right,
+    })
+}
+
+/// A rule for equal arguments.
+fn matching_rule(random: &mut Random, draft: &Draft) -> Option<RuleDraft> {
+    let operator = wide_operator(random, draft)?;
+    let mut left = vec![operator];
+    left.extend((0..draft.arity(operator)).map(|_| Symbol::Variable(random.below(2) as u8)));
+    let right = *random.pick(&left[1..]);
+    Some(RuleDraft {
+        left,
+        right: vec![right],
+    })
+}
+
+/// An operator of several arguments, if there is one.
+fn wide_operator(random: &mut Random, draft: &Draft) -> Option<Symbol> {
     let wide: Vec<Symbol> = numbers(draft)
         .map(Symbol::Operator)
         .filter(|&operator| draft.arity(operator) > 1)
         .collect();
-    if wide.is_empty() || draft.arity(root) != 1 {
-        return None;
-    }
-    let rest = Symbol::Variable(random.below(16) as u8);
-    let operator = *random.pick(&wide);
-    let copies = vec![rest; draft.arity(operator)];
-    Some(RuleDraft {
-        left: vec![root, rest],
-        right: [vec![operator], copies].concat(),
-    })
+    (!wide.is_empty()).then(|| *random.pick(&wide))
 }
 
 /// A rule for a few letters in a row. Where arities were spoiled, the row can

@@ -48,8 +48,8 @@ fn every_slip_is_found_and_made_small() {
 fn found(slip: Slip) -> Option<Difference> {
     let mut subject = BrokenModel { slip };
     match slip {
-        Slip::Lines => compare_pages(&subject, 34, 0..20_000).1,
-        _ => compare(&mut subject, 34, 0..20_000).1,
+        Slip::Lines => compare_pages(&subject, 36, 0..20_000).1,
+        _ => compare(&mut subject, 36, 0..20_000).1,
     }
 }
 
@@ -73,15 +73,16 @@ fn form_of(slip: Slip) -> Form {
 #[test]
 fn what_was_not_met_is_named() {
     let (tally, _) = compare(&mut ModelSubject, 31, 0..0);
-    assert_eq!(tally.missing().len(), 4 + 18 + 4 + 15 + 10);
+    assert_eq!(tally.missing().len(), 4 + 17 + 4 + 14 + 9 + 7);
     assert_eq!(
         tally.missing()[..5].join(", "),
         "ending 0, ending 1, ending 2, ending 3, refusal 1"
     );
     assert_eq!(
-        tally.missing()[20..24].join(", "),
+        tally.missing()[19..23].join(", "),
         "refusal 18, refusal 19, a text's ending 0, a text's ending 1"
     );
+    assert_eq!(tally.missing()[48], "parts of a repeated variable equal");
     let (tally, _) = compare(&mut ModelSubject, 31, 0..2000);
     assert!(tally.missing().is_empty(), "{tally}");
 }

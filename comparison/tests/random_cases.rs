@@ -118,7 +118,7 @@ fn work_lies_above_what_a_unit_waits_with() {
             }
         }
     }
-    assert!(helped > 1000, "unit 0 took {helped} parts");
+    assert!(helped > 500, "unit 0 took {helped} parts");
     assert!(deepest > 3, "at most {deepest} parts on a list");
 }
 

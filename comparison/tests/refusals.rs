@@ -68,9 +68,28 @@ fn rules() {
     assert_eq!(read_rule(&[op(3)], &[op(0)]), Err(4));
     assert_eq!(read_rule(&[op(1), op(255)], &[op(0)]), Err(4));
     assert_eq!(read_rule(&[X], &[op(0)]), Err(5));
-    assert_eq!(read_rule(&[op(2), X, X], &[op(0)]), Err(6));
     assert_eq!(read_rule(&[op(1), X], &[Y]), Err(7));
     assert_eq!(read_rule(&[op(0)], &[op(1), X]), Err(7));
+}
+
+/// Number 6 is given no longer: a variable may stand again on the left, and the
+/// faults behind it are told as they come.
+#[test]
+fn variables_that_stand_again() {
+    assert!(read_rule(&[op(2), X, X], &[X]).is_ok());
+    let pair = [op(2), X];
+    let row = [&pair.repeat(31)[..], &[X]].concat();
+    assert!(read_rule(&row, &[X]).is_ok());
+    assert_eq!(read_rule(&[op(2), X, X], &[Y]), Err(7));
+    assert_eq!(read_rule(&[op(2), X, op(2), X, op(3)], &[X]), Err(4));
+    assert_eq!(read_rule(&pair.repeat(32), &[X]), Err(8));
+    let mut cut = Draft {
+        operators: vec![operator(0), operator(2)],
+        rules: vec![rule(&[op(1), X, X], &[op(1), X, X])],
+    }
+    .encode();
+    cut.pop();
+    assert_eq!(read_book(&cut), Err(1));
 }
 
 #[test]

@@ -3,7 +3,7 @@
 mod common;
 
 use common::*;
-use comparison::draft::Draft;
+use comparison::draft::{Draft, OperatorDraft, RuleDraft, Symbol};
 use comparison::model::*;
 
 fn items(numbers: &[u8], arity: u8) -> Vec<Item> {
@@ -242,6 +242,90 @@ fn first_rule_in_book_order_wins() {
         rules: vec![rule(&[op(2), X], &[op(0)]), rule(&[op(2), op(1)], &[op(1)])],
     };
     assert_eq!(ask(&draft, &[2, 1], 1, 9, &[0; 9]).unwrap().term, [0]);
+}
+
+/// Operators 0 a, 1 b, 2 f/1, 3 pair/2, 4 triple/3, and these rules.
+fn matching_book(rules: Vec<RuleDraft>) -> Draft {
+    let mut operators: Vec<OperatorDraft> = [0, 0, 1, 2].map(operator).into();
+    operators.push(with_strategy(3, &[8, 1, 2, 9, 3, 0]));
+    Draft { operators, rules }
+}
+
+/// The rewrites of a line by one rule that gives `a`.
+fn rewrites(left: &[Symbol], line: &[u8]) -> u64 {
+    let draft = matching_book(vec![rule(left, &[op(0)])]);
+    let found = ask(&draft, line, 1, 9, &[0; 99]).unwrap();
+    assert_eq!(found.ending, ending::FINISHED);
+    found.rewrites
+}
+
+#[test]
+fn repeated_variable_matches_equal_parts() {
+    let pair = |line: &[u8]| rewrites(&[op(3), X, X], line);
+    assert_eq!(pair(&[3, 0, 0]), 1);
+    assert_eq!(pair(&[3, 2, 2, 1, 2, 2, 1]), 1);
+    // They differ in the last symbol, in the first, in between, in length.
+    assert_eq!(pair(&[3, 2, 2, 1, 2, 2, 0]), 0);
+    assert_eq!(pair(&[3, 2, 1, 0]), 0);
+    assert_eq!(pair(&[3, 4, 0, 1, 0, 4, 0, 0, 0]), 0);
+    assert_eq!(pair(&[3, 2, 0, 2, 2, 0]), 0);
+    assert_eq!(pair(&[3, 2, 0, 0]), 0);
+    // Equal lengths and the same symbols in another shape.
+    assert_eq!(pair(&[3, 4, 2, 1, 0, 0, 4, 1, 2, 0, 0]), 0);
+}
+
+#[test]
+fn every_occurrence_is_compared() {
+    let triple = |line: &[u8]| rewrites(&[op(4), X, X, X], line);
+    assert_eq!(triple(&[4, 1, 1, 1]), 1);
+    for line in [[4, 0, 1, 1], [4, 1, 0, 1], [4, 1, 1, 0]] {
+        assert_eq!(triple(&line), 0, "{line:?}");
+    }
+    // Each variable by itself, also where they cross.
+    let crossed = |line: &[u8]| rewrites(&[op(3), op(3), X, Y, op(3), Y, X], line);
+    assert_eq!(crossed(&[3, 3, 0, 1, 3, 1, 0]), 1);
+    assert_eq!(crossed(&[3, 3, 0, 1, 3, 0, 1]), 0);
+    // A part inside the other is none that equals it.
+    let inside = |line: &[u8]| rewrites(&[op(3), X, op(2), X], line);
+    assert_eq!(inside(&[3, 2, 0, 2, 2, 0]), 1);
+    assert_eq!(inside(&[3, 2, 0, 2, 0]), 0);
+}
+
+#[test]
+fn rule_is_passed_over_where_parts_differ() {
+    let rules = vec![
+        rule(&[op(3), X, X], &[op(0)]),
+        rule(&[op(3), X, Y], &[op(1)]),
+    ];
+    let posted = |line: &[u8]| ask(&matching_book(rules.clone()), line, 1, 9, &[0; 99]);
+    assert_eq!(posted(&[3, 1, 1]).unwrap().term, [0]);
+    assert_eq!(posted(&[3, 1, 0]).unwrap().term, [1]);
+    // The parts are compared as they stand when the rule is tried.
+    let found = posted(&[3, 3, 1, 1, 3, 0, 0]).unwrap();
+    assert_eq!((found.term, found.rewrites), (vec![0], 3));
+}
+
+#[test]
+fn repeated_variable_inside_and_outside_a_group() {
+    // Arguments 1 and 2 of the triple are a group, 3 is not.
+    let book = matching_book(vec![
+        rule(&[op(3), X, X], &[X]),
+        rule(&[op(4), X, Y, X], &[op(3), X, Y]),
+    ]);
+    let line = [4, 3, 1, 1, 2, 1, 3, 1, 1];
+    for units in 1..=4 {
+        let schedule: Vec<u8> = (0..units).cycle().take(200).collect();
+        let found = ask(&book, &line, units, 9, &schedule).unwrap();
+        assert_eq!((found.ending, found.rewrites), (ending::FINISHED, 3));
+        assert_eq!(found.term, [3, 1, 2, 1]);
+    }
+}
+
+#[test]
+fn copies_of_a_repeated_variable_are_of_its_part() {
+    let draft = matching_book(vec![rule(&[op(3), X, X], &[op(4), X, X, X])]);
+    let found = ask(&draft, &[3, 2, 1, 2, 1], 1, 9, &[0; 99]).unwrap();
+    assert_eq!(found.term, [4, 2, 1, 2, 1, 2, 1]);
 }
 
 #[test]

@@ -47,10 +47,20 @@ fn texts_of_change_3() {
     check(Form::Text, "changes-3/payee", 120);
 }
 
+#[test]
+fn lines_of_change_4() {
+    check(Form::Line, "changes-4/line", 200);
+}
+
+#[test]
+fn texts_of_change_4() {
+    check(Form::Text, "changes-4/payee", 120);
+}
+
 /// The other program's inputs don't pass: a run of them shows something.
 #[test]
 fn inputs_of_the_other_program() {
-    let folder = Path::new("../vectors/changes-3");
+    let folder = Path::new("../vectors/changes-4");
     let failed = |form, name| run(form, &folder.join(name)).unwrap().failed.len();
     assert!(failed(Form::Text, "line") > 50);
     assert!(failed(Form::Line, "payee") > 50);

@@ -51,8 +51,9 @@ enum kurvneist_ending {
 
 /*
  * The refusals. Places are checked in this order: 13, 15, 16; the book, 1 to 9; the line, 12, 11, 10, or the text, 19, 18;
- * the schedule, 14. Only the programs tell 17. A later version may add
- * numbers.
+ * the schedule, 14. Only the programs tell 17. 6 is given no longer, since a variable that stands again in a left side
+ * matches equal parts; it keeps its name for what an earlier version told, and is used for nothing else. A later version
+ * may add numbers.
  */
 enum kurvneist_refusal {
     KURVNEIST_ACCEPTED = 0,
@@ -67,7 +68,7 @@ enum kurvneist_refusal {
     KURVNEIST_UNKNOWN_OPERATOR_IN_RULE = 4,
     /* a rule's left side is a variable */
     KURVNEIST_LEFT_SIDE_IS_VARIABLE = 5,
-    /* a rule's left side names a variable twice */
+    /* a rule's left side names a variable twice, which is refused no longer */
     KURVNEIST_LEFT_SIDE_REPEATS_VARIABLE = 6,
     /* a rule's right side names a variable that its left side does not */
     KURVNEIST_RIGHT_SIDE_ADDS_VARIABLE = 7,
@@ -148,7 +149,7 @@ uint8_t kurvneist_payee(const uint8_t *book, size_t book_length,
  * written book is never longer than the book given, so an output of book_length bytes, or of KURVNEIST_LONGEST_BOOK, is
  * never refused by 16.
  *
- * The result is 0, or the number of a refusal: 1 to 9, or 16. `length` has one element: the bytes written, or 0 after a
+ * The result is 0, or the number of a refusal: 1 to 5, 7 to 9, or 16. `length` has one element: the bytes written, or 0 after a
  * refusal, which leaves `output` as it was.
  */
 uint8_t kurvneist_write_book(const uint8_t *book, size_t book_length,

@@ -3,12 +3,13 @@
 use std::error::Error;
 use std::fmt::{self, Display, Formatter};
 
-/// Each refusal's number, its name and its condition, said once.
+/// Each refusal's number, its name and its condition, said once; what stands before a number are the name's attributes.
 macro_rules! refusals {
-    ($($number:literal $name:ident $condition:literal)*) => {
+    ($($(#[$attribute:meta])* $number:literal $name:ident $condition:literal)*) => {
         /// Why a request, or a book to be written, was refused. Every lent buffer kept its bytes.
         ///
-        /// `docs/FORMAT.md` says in which order they are told. Later versions may add some.
+        /// `docs/FORMAT.md` says in which order they are told. Later versions may add some. One that is given no longer is
+        /// deprecated, and keeps its number and its words for who reads what an earlier version told.
         ///
         /// ```
         /// # use kurvneist::{Engine, Refusal, Request};
@@ -22,11 +23,12 @@ macro_rules! refusals {
         #[non_exhaustive]
         #[repr(u8)]
         pub enum Refusal {
-            $(#[doc = concat!(stringify!($number), ": ", $condition, ".")] $name = $number,)*
+            $(#[doc = concat!(stringify!($number), ": ", $condition, ".")] $(#[$attribute])* $name = $number,)*
         }
 
+        #[allow(deprecated)]
         impl Refusal {
-            /// All refusals, by number.
+            /// All refusals, by number, with those that are given no longer.
             pub const ALL: &'static [Refusal] = &[$(Refusal::$name),*];
 
             /// The refusal with this number.
@@ -54,7 +56,8 @@ refusals! {
         an argument above the arity, or a last item that is not 0"
     4 UnknownOperatorInRule "a rule names an operator that the book does not have"
     5 LeftSideIsVariable "a rule's left side is a variable"
-    6 LeftSideRepeatsVariable "a rule's left side names a variable twice"
+    #[deprecated(note = "given no longer: a variable that stands again matches equal parts")]
+    6 LeftSideRepeatsVariable "a rule's left side names a variable twice, which is refused no longer"
     7 RightSideAddsVariable "a rule's right side names a variable that its left side does not"
     8 SideTooLong "a rule's side is still incomplete after 64 symbols"
     9 BookLeftOver "a padding bit of the book is 1, or a further byte follows"
@@ -77,7 +80,7 @@ impl Refusal {
         self as u8
     }
 
-    /// `Ok` for 0. The library is proved to answer 0 or one of its refusals, which are 1 to 16, 18 and 19.
+    /// `Ok` for 0. The library is proved to answer 0 or one of its refusals, which are 1 to 5, 7 to 16, 18 and 19.
     pub(crate) fn check(number: u8) -> Result<(), Refusal> {
         match number {
             0 => Ok(()),

@@ -4,7 +4,8 @@ mod common;
 
 use common::*;
 use kurvneist::{
-    raw, reduce, write_book, Ending, Engine, Refusal, Request, OUTPUT_LENGTH, WORK_LENGTH,
+    raw, reduce, write_book, written_book, Ending, Engine, Refusal, Request, OUTPUT_LENGTH,
+    WORK_LENGTH,
 };
 
 /// A book for each refusal of the book's places.
@@ -29,8 +30,8 @@ fn faulty_books() -> Vec<(u8, Vec<u8>)> {
         (4, rule(&[op(3)], &[op(0)])),
         (4, rule(&[op(1), op(255)], &[op(0)])),
         (5, rule(&[X], &[op(0)])),
-        (6, rule(&[op(2), X, X], &[op(0)])),
         (7, rule(&[op(1), X], &[Y])),
+        (7, rule(&[op(2), X, X], &[Y])),
         (8, rule(&[op(1); 64], &[])),
         (8, rule(&[op(1), X], &[op(1); 64])),
         (9, vec![1, 0, 8]),
@@ -69,15 +70,38 @@ fn check_writer_refused(due: u8, book: &[u8], output_length: usize) {
 }
 
 #[test]
-fn books_1_to_9() {
+fn books_1_to_9_but_6() {
     let books = faulty_books();
-    for number in 1..=9 {
+    for number in [1, 2, 3, 4, 5, 7, 8, 9] {
         assert!(books.iter().any(|(due, _)| *due == number));
     }
     for (due, book) in &books {
         check_refused_in_sound_frame(*due, &page(book, &[0; 29]));
         check_writer_refused(*due, book, 100);
     }
+}
+
+/// A variable may stand again on the left. What was told of it keeps its number and name.
+#[test]
+fn six_is_given_no_longer() {
+    let operators: [Operator; 3] = [(0, None), (1, None), (2, None)];
+    let both = book(&operators, &[(&[op(2), X, X], &[X])]);
+    assert_eq!(written_book(&both), Ok(both.clone()));
+    let schedule = [0; 99];
+    let posted = |line: &[u8]| {
+        let mut engine = Engine::new();
+        let posting = engine.post(&page(&both, &schedule).line(line)).unwrap();
+        assert_eq!(posting.answer.ending, Ending::Finished);
+        (posting.answer.rewrites, posting.term.to_vec())
+    };
+    assert_eq!(posted(&[2, 1, 0, 1, 0]), (1, vec![1, 0]));
+    assert_eq!(posted(&[2, 1, 0, 0]), (0, vec![2, 1, 0, 0]));
+    let six = Refusal::new(6).unwrap();
+    assert_eq!(format!("{six:?}"), "LeftSideRepeatsVariable");
+    assert_eq!(
+        six.to_string(),
+        "refused 6: a rule's left side names a variable twice, which is refused no longer"
+    );
 }
 
 #[test]

@@ -3,6 +3,8 @@
 
 mod common;
 
+use std::collections::HashSet;
+
 use common::json::{read_line, Value};
 use common::{file, kurvneist};
 use comparison::model::{self, Form, Pattern, Term};
@@ -51,10 +53,11 @@ fn filled(side: &Pattern, rewrite: &Rewrite, symbols: &mut Vec<u8>) {
     }
 }
 
-fn variables(side: &Pattern) -> usize {
+/// The variables of a side, each once.
+fn variables(side: &Pattern) -> HashSet<u8> {
     match side {
-        Pattern::Variable(_) => 1,
-        Pattern::Operator(_, parts) => parts.iter().map(variables).sum(),
+        Pattern::Variable(number) => [*number].into(),
+        Pattern::Operator(_, parts) => parts.iter().flat_map(variables).collect(),
     }
 }
 
@@ -90,7 +93,7 @@ fn each_rewrite_is_the_rules() {
             filled(&rule.left, rewrite, &mut left);
             filled(&rule.right, rewrite, &mut right);
             assert_eq!((left, &right), (rewrite.part.clone(), &rewrite.becomes));
-            assert_eq!(rewrite.substitution.len(), variables(&rule.left));
+            assert_eq!(rewrite.substitution.len(), variables(&rule.left).len());
             let becomes = model::read_line(book, &right).unwrap();
             term = replaced(&before, &rewrite.position, &becomes).preorder();
             assert_eq!(*rewrite.after, *term);
@@ -343,6 +346,22 @@ fn explanations_in_json() {
     assert_eq!(short.get("stopped").get("rule").number(), 1);
 }
 
+/// A variable that stands twice on the left is told once.
+#[test]
+fn matched_entries_are_explained() {
+    let line = r#"match(bank(payee("Koenig"), "47"), ledger(payee("König"), "47"))"#;
+    let words = ["explain", "examples/payees.book", line];
+    let ran = kurvneist(&words);
+    assert_eq!(ran.status, 0);
+    let last = "rule match(bank(Payee, Number), ledger(Payee, Number)) = settled(Payee, Number)";
+    let (_, shown) = ran.output.split_once(&last["rule ".len()..]).unwrap();
+    let due = "\n  at    the root (entry 68, unit 0)\n  with  Payee = payee(König)\n  with  Number = \"47\"\n  from  ";
+    assert!(shown.starts_with(due), "{shown}");
+    assert!(shown.ends_with("term settled(payee(König), \"47\")\n"));
+    let ran = kurvneist(&[&words[..], &["--json"]].concat());
+    assert_eq!(ran.output.matches("\"variable\":\"Payee\"").count(), 1);
+}
+
 #[test]
 fn payees_are_explained() {
     let payee = ["explain", "examples/payees.book", "König AG", "--payee"];
@@ -350,7 +369,7 @@ fn payees_are_explained() {
     assert_eq!(ran.status, 0);
     assert!(ran
         .output
-        .starts_with("line \"konig ag\"\n\n1. rule 17 (line 63): \" ag\" = end\n"));
+        .starts_with("line \"konig ag\"\n\n1. rule 17 (line 68): \" ag\" = end\n"));
     assert!(ran.output.ends_with("term König\n"));
     let ran = kurvneist(&["explain", "examples/ticks.book", "König", "--payee"]);
     assert_eq!(ran.status, 1);

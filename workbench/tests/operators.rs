@@ -73,7 +73,7 @@ fn jobs_change_nothing_but_the_time() {
     let one = run("1");
     assert_eq!(one.0, 1);
     assert!(
-        one.2.starts_with("1720 lines: 1040 posted, 160 not, 520"),
+        one.2.starts_with("1960 lines: 1200 posted, 160 not, 600"),
         "{}",
         one.2
     );

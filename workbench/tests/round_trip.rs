@@ -132,9 +132,9 @@ fn a_lines_text_gives_that_very_line() {
 fn spoiled_texts_are_read_or_told() {
     let good: Vec<char> = include_str!("../examples/payees.book").chars().collect();
     let pieces: Vec<char> = "(){},=/:\"#\n\t \u{301}é0189ao\u{0}€".chars().collect();
-    let (mut books, mut mistaken, mut messages) = (0, 0, 0);
+    let (mut books, mut mistaken, mut several) = (0, 0, 0);
     for number in 0..300 {
-        let mut random = Random::for_case(13, number);
+        let mut random = Random::for_case(11, number);
         let mut spoiled = good.clone();
         let place = random.below(spoiled.len());
         match random.below(3) {
@@ -151,7 +151,7 @@ fn spoiled_texts_are_read_or_told() {
             }
             Err(mistakes) => {
                 mistaken += 1;
-                messages += mistakes.len();
+                several += usize::from(mistakes.len() > 1);
                 assert!(!mistakes.is_empty());
                 let shown =
                     |mistake: &Mistake| mistake.show("payees.book", &source).lines().count();
@@ -163,7 +163,39 @@ fn spoiled_texts_are_read_or_told() {
         }
     }
     assert!(books > 50 && mistaken > 100, "{books} {mistaken}");
-    assert!(messages * 10 < mistaken * 11, "{messages} of {mistaken}");
+    assert!(several * 10 < mistaken, "{several} of {mistaken}");
+}
+
+/// A variable that stands again has one number, written at any of its places.
+#[test]
+fn variables_that_stand_again() {
+    let begin = "op a/0 op f/3 var X Y rule f(a, ";
+    let read = |rest: &str| {
+        let named = check::read(&format!("{begin}{rest}")).expect(rest);
+        let book = read_book(&named.book).unwrap();
+        printer::preorder(&book.rules[0].left)[2..].to_vec()
+    };
+    let both = |number| vec![Symbol::Variable(number); 2];
+    assert_eq!(read("X, X) = X"), both(0));
+    for left in ["X:3, X) = X", "X, X:3) = X", "X:3, X:3) = X"] {
+        assert_eq!(read(left), both(3), "{left}");
+    }
+    assert_eq!(read("Y, Y) = a"), both(0));
+    let two = [Symbol::Variable(1), Symbol::Variable(0)];
+    assert_eq!(read("Y, X:0) = X"), two);
+    let printed = |rest: &str| {
+        let named = check::read(&format!("{begin}{rest}")).unwrap();
+        let book = read_book(&named.book).unwrap();
+        let text = printer::book(&book, &named.names);
+        assert_eq!(check::read(&text).unwrap().book, named.book);
+        text.lines().last().unwrap().to_owned()
+    };
+    assert_eq!(printed("X, X) = X"), "rule f(a, X0, X0) = X0");
+    assert_eq!(printed("X:3, X) = X"), "rule f(a, X3:3, X3) = X3");
+    assert_eq!(
+        printed("f(Y, X, Y), f(X, Y, X)) = f(X, Y, X)"),
+        "rule f(a, f(X0, X1, X0), f(X1, X0, X1)) = f(X1, X0, X1)"
+    );
 }
 
 /// The commands do what the library does, through files.

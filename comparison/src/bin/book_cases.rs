@@ -75,7 +75,10 @@ fn written(case: &Case) -> String {
 
 /// Every refusal of a reader or a writer of books is due somewhere.
 fn check_refusals(cases: &[Case]) {
-    for number in (1..=9).chain([model::refusal::OUTPUT]) {
+    for number in model::refusal::OF_BOOKS
+        .into_iter()
+        .chain([model::refusal::OUTPUT])
+    {
         let is_due = |case: &Case| model::written(&case.book, case.room) == Err(number);
         assert!(cases.iter().any(is_due), "no case is refused by {number}");
     }
@@ -135,9 +138,14 @@ fn picked_books() -> Vec<Vec<u8>> {
         one_strategy(3, &[0, 1]),
         one_rule(vec![Symbol::Operator(3)], vec![Symbol::Operator(0)]),
         one_rule(vec![Symbol::Variable(0)], vec![Symbol::Operator(0)]),
+        // A variable twice on the left, and a fault behind that.
         one_rule(
             both(Symbol::Variable(4), Symbol::Variable(4)),
             vec![Symbol::Operator(0)],
+        ),
+        one_rule(
+            both(Symbol::Variable(4), Symbol::Variable(4)),
+            vec![Symbol::Variable(5)],
         ),
         one_rule(
             both(Symbol::Variable(4), Symbol::Variable(15)),

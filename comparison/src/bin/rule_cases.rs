@@ -173,6 +173,73 @@ fn picked_cases() -> Vec<Case> {
             TERM_LIMIT - 4,
         ),
     ]
+    .into_iter()
+    .chain(repeated_cases())
+    .collect()
+}
+
+/// Left sides in which a variable stands again, on parts that are equal or
+/// nearly so.
+fn repeated_cases() -> Vec<Case> {
+    let book = matching_book();
+    let case = |line: &[u8], offset| Case {
+        book: book.clone(),
+        line: line.to_vec(),
+        offset,
+    };
+    // A pair of two chains of so many symbols that end in these.
+    let chains = |one: (usize, u8), other: (usize, u8)| {
+        let chain = |(length, last): (usize, u8)| [vec![2; length - 1], vec![last]].concat();
+        [vec![3], chain(one), chain(other)].concat()
+    };
+    vec![
+        case(&[3, 0, 0], 0),
+        case(&[3, 0, 1], 0),
+        case(&[2, 3, 2, 1, 2, 1], 1),
+        case(&[3, 3, 2, 1, 0, 3, 2, 1, 0], 0),
+        // They differ in the last symbol, in the first, in between, in length.
+        case(&[3, 3, 2, 1, 0, 3, 2, 1, 1], 0),
+        case(&[3, 2, 1, 5, 1], 0),
+        case(&[3, 3, 2, 1, 0, 3, 2, 0, 0], 0),
+        case(&[3, 2, 0, 2, 2, 0], 0),
+        case(&[3, 2, 0, 0], 0),
+        // The same symbols in another shape.
+        case(&[3, 3, 2, 1, 0, 3, 1, 2, 0], 0),
+        // Three times; the second rule takes what the first leaves.
+        case(&[4, 2, 0, 2, 0, 2, 0], 0),
+        case(&[4, 2, 0, 2, 0, 2, 1], 0),
+        case(&[4, 2, 1, 2, 0, 2, 0], 0),
+        case(&[4, 2, 0, 2, 1, 2, 0], 0),
+        // Crossed, and a part inside the other.
+        case(&[5, 3, 0, 1], 0),
+        case(&[5, 3, 1, 1], 0),
+        case(&[3, 3, 0, 1, 3, 1, 0], 0),
+        // The longest parts there are.
+        case(&chains((511, 0), (512, 0)), 0),
+        case(&chains((511, 0), (511, 0)), 0),
+        case(&chains((511, 0), (511, 1)), 0),
+    ]
+}
+
+/// Operators 0 a, 1 b, 2 f/1, 3 pair/2, 4 triple/3, 5 g/1.
+fn matching_book() -> Vec<u8> {
+    let symbol = Symbol::Operator;
+    let (x, y) = (Symbol::Variable(3), Symbol::Variable(15));
+    let rule = |left: &[Symbol], right: &[Symbol]| RuleDraft {
+        left: left.to_vec(),
+        right: right.to_vec(),
+    };
+    Draft {
+        operators: [0, 0, 1, 2, 3, 1].map(operator).to_vec(),
+        rules: vec![
+            rule(&[symbol(4), x, x, x], &[symbol(3), x, x]),
+            rule(&[symbol(4), x, y, x], &[symbol(3), y, x]),
+            rule(&[symbol(3), x, x], &[symbol(2), x]),
+            rule(&[symbol(3), symbol(3), x, y, symbol(3), y, x], &[y]),
+            rule(&[symbol(5), symbol(3), x, x], &[x]),
+        ],
+    }
+    .encode()
 }
 
 fn operator(arity: u8) -> OperatorDraft {

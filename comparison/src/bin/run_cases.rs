@@ -127,7 +127,7 @@ fn hexadecimal(bytes: &[u8]) -> String {
 fn check(cases: &[Case]) {
     let names: HashSet<&str> = cases.iter().map(|case| &case.name[..]).collect();
     assert_eq!(names.len(), cases.len(), "a name stands twice");
-    for number in 1..=16 {
+    for number in model::refusal::OF_BOOKS.into_iter().chain(10..=16) {
         let is_due = |case: &Case| answer(case).err() == Some(number);
         assert!(cases.iter().any(is_due), "no case is refused by {number}");
     }
@@ -148,6 +148,9 @@ fn check(cases: &[Case]) {
         Slip::Main,
         Slip::Busy,
         Slip::Below,
+        Slip::Lengths,
+        Slip::Last,
+        Slip::Anew,
     ] {
         let shows = |case: &Case| shows(case, slip);
         assert!(picked_cases().iter().any(shows), "no case shows {slip:?}");
@@ -196,6 +199,7 @@ fn picked_cases() -> Vec<Case> {
             main_unit("1024 symbols, mostly unit 0's, above its JOIN, cut", 2000),
         ],
         helping_cases(),
+        matching_cases(),
         slip_cases(),
     ]
     .concat()
@@ -390,7 +394,6 @@ fn book_refusals() -> Vec<Case> {
         strategy("3: last item not 0", &[0, 1]),
         case("4: unknown operator", one_rule(&[op(1), op(3)], &[op(0)])),
         case("5: left side a variable", one_rule(&[X], &[op(0)])),
-        case("6: variable twice", one_rule(&[op(2), X, X], &[X])),
         case("7: right variable absent", one_rule(&[op(1), X], &[Y])),
         case("8: told before 1", cut_after_64()),
         case("9: padding bit of 1", padded),
@@ -662,6 +665,67 @@ fn helping_cases() -> Vec<Case> {
         nodes("unit 0 before unit 2, both idle", 2)
             .units(3)
             .schedule(lent(2, &[0, 1, 2].repeat(14))),
+    ]
+}
+
+/// Operators 0 end, 1 other, 2 tick, 3 pair with its arguments in a group, 4 triple with two in a group and one behind it, 5 both.
+fn matching_book() -> Vec<u8> {
+    book(
+        &[
+            plain(0),
+            plain(0),
+            plain(1),
+            given(2, &[8, 1, 2, 9, 0]),
+            given(3, &[8, 1, 2, 9, 3, 0]),
+            plain(2),
+        ],
+        &[
+            rule(&[op(4), X, X, X], &[X]),
+            rule(&[op(4), X, Y, X], &[op(3), X, Y]),
+            rule(&[op(3), X, X], &[op(2), X]),
+            rule(&[op(5), op(2), X, op(3), X, Y], &[Y]),
+        ],
+    )
+}
+
+fn matching_cases() -> Vec<Case> {
+    let matching = |name, line: &[u8]| case(name, matching_book()).line(line).zeros(200);
+    let shared = |name, line: &[u8], units| matching(name, line).units(units).turns(300);
+    let deep = |one: u8, other: u8| {
+        let chain = |last| [vec![2; 200], vec![last]].concat();
+        [vec![3], chain(one), chain(other)].concat()
+    };
+    // The inner triples become equal only as they are reduced.
+    let late = [4, 4, 0, 0, 0, 3, 0, 0, 4, 0, 0, 0];
+    vec![
+        matching("a variable twice", &[3, 0, 0]),
+        matching("a variable twice, other parts", &[3, 0, 1]),
+        matching(
+            "parts that differ in the last symbol",
+            &[3, 5, 2, 0, 0, 5, 2, 0, 1],
+        ),
+        matching(
+            "parts that differ in the first symbol",
+            &[3, 5, 0, 1, 3, 0, 1],
+        ),
+        matching("parts that differ in between", &[3, 5, 0, 1, 5, 1, 1]),
+        matching("parts that differ in length", &[3, 2, 0, 2, 2, 0]),
+        matching("a variable three times", &[4, 1, 1, 1]),
+        matching(
+            "a variable three times, the third part another",
+            &[4, 1, 1, 0],
+        ),
+        matching("a variable inside and outside a group", &[4, 1, 0, 1]),
+        matching("parts at two depths", &[5, 2, 1, 3, 1, 0]),
+        matching("parts at two depths, others", &[5, 2, 0, 3, 1, 0]),
+        matching("parts of 201 symbols", &deep(0, 0)).zeros(2000),
+        matching("parts of 201 symbols, the last another", &deep(0, 1)).zeros(2000),
+        shared("parts that become equal, U = 1", &late, 1),
+        shared("parts that become equal, U = 2", &late, 2),
+        shared("parts that become equal, U = 5", &late, 5),
+        shared("parts that become equal, cut", &late, 3).turns(20),
+        matching("a match on a spent budget", &[3, 0, 0]).budget(0),
+        matching("no match on a spent budget", &[3, 0, 1]).budget(0),
     ]
 }
 

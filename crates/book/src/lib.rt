@@ -1,5 +1,5 @@
-// A book in one pass over its bytes: the refusal, or the tables that a run needs (document 01, 'The book, bit by bit'; refusals 1 to 9). A second
-// pass over the rules, from the last one to the first, links those of one root.
+// A book in one pass over its bytes: the refusal, or the tables that a run needs (document 01, 'The book, bit by bit'; refusals 1 to 9 but 6). A
+// second pass over the rules, from the last one to the first, links those of one root.
 use bits::Bits;
 use side::Rule;
 use side::Standing;

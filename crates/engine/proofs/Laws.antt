@@ -1,12 +1,17 @@
--- What a caller has of a run: nothing depends on what the work area held. Assumes nothing.
+-- What a caller has of a run: nothing depends on what the work area held, and no run is refused by 6 (document 02, Change 4). Assumes nothing.
 use mathlib.Core.List.{List}
+use mathlib.Core.Logic.{_≢_}
 use mathlib.Core.Path.{_≡_, refl, sym, ap, _∙_}
 use Prim.Native.Nat.{ℕ}
+use native.Mathlib.Omega.{arith}
 use lib.ListN.{length, replicate}
 use Rattle.paper.specs.Result.{Result, refused, accepted}
+use Rattle.paper.specs.Line.{readLine}
+use Rattle.paper.specs.Text.{readText}
 use Rattle.paper.specs.Run.{Answer}
 use Rattle.paper.specs.Page.{LineReader, answerBy}
-use Rattle.engine.specs.Spec.{published, values, values-of, answeredBy, ReducedBy}
+use Rattle.paper.proofs.Refusals.{answer-not-six, payee-not-six as text-not-six}
+use Rattle.engine.specs.Spec.{published, request, values, values-of, answeredBy, ReducedBy, Reduced, PayeeReduced}
 use Rattle.engine.specs.declared.Answer as D
 
 -- only the work area's length is asked with
@@ -43,3 +48,20 @@ module _ {read : LineReader} {book line : List ℕ} {units budget : ℕ} {schedu
   -- and, if accepted, the same work area
   pub forgets-work : (A : Answer) → answeredBy read book line units budget schedule work output ≡ accepted A → work′ ≡ work₂′
   forgets-work A e = one .cleared A e ∙ ap (λ (n : ℕ). replicate n 0) long ∙ sym (two .cleared A (sym same ∙ e))
+
+-- NEVER 6
+
+module _ {book line : List ℕ} {units budget : ℕ} {schedule work output work′ output′ : List ℕ} {r : D.Answer} where
+  never : (read : LineReader) → answeredBy read book line units budget schedule work output ≢ refused 6 →
+      ReducedBy read book line units budget schedule work output work′ output′ r → r ≢ D.Answer.Refused 6
+  never read n h e = go (answeredBy read book line units budget schedule work output) refl (sym (h .answer) ∙ ap values e)
+    where
+      go : (x : Result Answer) → answeredBy read book line units budget schedule work output ≡ x → values-of x ≡ refused 6 → ⊥
+      go (refused k) f g = n (f ∙ cc)
+      go (accepted A) f g = let z : _≡_ {A = ℕ} 0 1 = cc in omega arith
+
+  pub reduce-not-six : Reduced book line units budget schedule work output work′ output′ r → r ≢ D.Answer.Refused 6
+  reduce-not-six = never readLine (answer-not-six published (request book line units budget schedule work output))
+
+  pub payee-not-six : PayeeReduced book line units budget schedule work output work′ output′ r → r ≢ D.Answer.Refused 6
+  payee-not-six = never readText (text-not-six published (request book line units budget schedule work output))

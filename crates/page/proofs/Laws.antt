@@ -1,17 +1,19 @@
 -- Laws of the page: it begins with its fixed line, an input that is longer than any request is told by its front, and so what was read to a buffer of
--- 163,848 bytes tells the page of the standard input. Assumes nothing.
+-- 163,848 bytes tells the page of the standard input; and no page tells 6 (document 02, Change 4). Assumes nothing.
 use mathlib.Core.Bool.{true}
-use mathlib.Core.List.{List, _++_}
+use mathlib.Core.List.{List, [], _∷_, _++_}
+use mathlib.Core.Logic.{_≢_}
 use mathlib.Core.Path.{_≡_, refl, sym, ap, subst, _∙_}
 use Prim.Native.Nat.{ℕ, _+_, _≤_, _<_}
 use native.Mathlib.Omega.{arith}
 use native.Mathlib.Decide.{decLt}
 use lib.ListN.{length, getD, take, drop, length-append, length-take, List·getD-eq-default}
-use lib.Seq.{take-all, take-length, getD-take}
+use lib.Seq.{take-all, take-at, take-length, getD-take}
 use Rattle.paper.specs.Result.{refused}
 use Rattle.paper.specs.Line.{readLine}
 use Rattle.paper.specs.Text.{readText}
-use Rattle.paper.specs.Page.{LineReader, number, read-request, pageBy, pageOf, payeePageOf}
+use Rattle.paper.specs.Page.{LineReader, number, read-request, line, refused-word, pageBy, pageOf, payeePageOf}
+use Rattle.paper.proofs.Refusals.{page-not-six, payee-page-not-six}
 use Rattle.page.specs.Spec.{Paged, Bytes, StandardInput, PagedFrom, begins, fixed-line}
 use Rattle.page.specs.Contracts.{Part-ends}
 use Rattle.page.specs.declared.PartEnd as E
@@ -95,3 +97,16 @@ as-read buffer n h =
       ended = λ k. refl;
       filled = λ k. (ap (take (length buffer)) (take-all n buffer k) ∙ take-length buffer, bytes-take n buffer h);
     }
+
+-- NEVER 6
+
+module _ {buffer page page′ : List ℕ} {n r : ℕ} (input : List ℕ) (s : StandardInput buffer n input) where
+  -- the page that is printed is the input's
+  printed : {read : LineReader} → PagedFrom read buffer n page page′ r → take r page′ ≡ pageBy read input
+  printed {read} p = let q = p .is input s in ap (take r) (q .is) ∙ take-at (pageBy read input) (drop r page) r (sym (q .size))
+
+  pub printed-not-six : PagedFrom readLine buffer n page page′ r → take r page′ ≢ fixed-line ++ line refused-word (6 ∷ [])
+  printed-not-six p e = page-not-six input (sym (page-of input) ∙ sym (printed p) ∙ e)
+
+  pub payee-printed-not-six : PagedFrom readText buffer n page page′ r → take r page′ ≢ fixed-line ++ line refused-word (6 ∷ [])
+  payee-printed-not-six p e = payee-page-not-six input (sym (payee-page-of input) ∙ sym (printed p) ∙ e)

@@ -1,25 +1,25 @@
 -- Document 01's rules on inputs that show each of them, all computed, and from bytes where the input is bytes: every refusal's number, which of
--- two faults is told ('What is checked where'), the exact bounds, and runs. No theorem says that a number, a bound or the order of two checks is
--- document 01's; what is computed here does. Assumes nothing.
+-- two faults is told ('What is checked where'), the exact bounds, variables that stand twice (document 02, Change 4), and runs. No theorem says that
+-- a number, a bound or the order of two checks is document 01's; what is computed here does. Assumes nothing.
 use mathlib.Core.Bool.{true}
 use mathlib.Core.List.{List, [], _∷_, _++_, map}
-use mathlib.Core.Option.{some}
+use mathlib.Core.Option.{none, some}
 use mathlib.Core.Path.{_≡_, refl}
-use Prim.Native.Nat.{ℕ, zero, suc}
+use Prim.Native.Nat.{ℕ, zero, suc, _*_, _/_}
 use Prim.Native.String.{String}
 use lib.ListN.{take, drop, replicate}
 use Rattle.paper.specs.Result.{Result, refused, accepted, then}
-use Rattle.paper.specs.Tree.{Tree}
+use Rattle.paper.specs.Tree.{Tree, node, nil, cons}
 use Rattle.paper.specs.Strategy.{Item}
 use Rattle.paper.specs.Book.{Operator, Symbol, Rule, Book}
 use Rattle.paper.specs.Reader.{readBook}
 use Rattle.paper.specs.Writer.{writeBook}
 use Rattle.paper.specs.Line.{readLine}
-use Rattle.paper.specs.Match.{rewrite}
+use Rattle.paper.specs.Match.{Symbols, rewrite-over, rewrite}
 use Rattle.paper.specs.Machine.{Order, unit-state, Event, Ending}
 use Rattle.paper.specs.Run.{Answer, run, Moment, moments, events}
 use Rattle.paper.specs.Page.{answerBy, answerOf, pageOf, writtenOf}
-use Rattle.paper.proofs.Starred.{ascii, P-bytes, input-on, input, turns, one-of, two-of, x, y, P-operators, P, end, tick, both, Q, dup, limits}
+use Rattle.paper.proofs.Starred.{ascii, P-bytes, input-on, input, turns, none-of, one-of, two-of, x, y, P-operators, P, end, tick, both, Q, dup, limits}
 
 -- Pages and answers
 
@@ -135,6 +135,15 @@ unfoldable pub three-page : List ℕ → List ℕ
 unfolding input-on pageOf
 three-page schedule = pageOf (input-on three-bytes (1 ∷ 1 ∷ 0 ∷ 0 ∷ 0 ∷ 0 ∷ 1 ∷ 0 ∷ 0 ∷ 0 ∷ []) 5 9 schedule)
 
+-- 0 `end`, 1 `pair` of arity 2, no list given: pair(X, X) gives X
+abbrev pub repeat-bytes : List ℕ
+repeat-bytes = 0x02 ∷ 0x04 ∷ 0x01 ∷ 0x00 ∷ 0xc2 ∷ 0x10 ∷ []
+
+-- the page for a line on it
+unfoldable pub repeat-page : List ℕ → List ℕ
+unfolding input-on pageOf
+repeat-page line = pageOf (input-on repeat-bytes line 1 9 (replicate 99 0))
+
 -- Terms and books
 
 -- n symbols of one argument over a term or a side
@@ -153,6 +162,23 @@ general = record { left = two-of (Symbol.operator 2) x y; right = x }
 
 abbrev pub special : Rule
 special = record { left = two-of (Symbol.operator 2) (one-of (Symbol.operator 1) x) y; right = y }
+
+-- both(X, X) gives X; three(X, X, X) gives X, `three` being operator 4; both(X, tick(X)) gives X
+abbrev pub twice : List Rule
+twice = record { left = two-of (Symbol.operator 2) x x; right = x } ∷ []
+
+abbrev pub three-of : {A : Type 0} → A → Tree A → Tree A → Tree A → Tree A
+three-of a t u w = node a (cons t (cons u (cons w nil)))
+
+abbrev pub thrice : List Rule
+thrice = record { left = three-of (Symbol.operator 4) x x x; right = x } ∷ []
+
+abbrev pub deeper : List Rule
+deeper = record { left = two-of (Symbol.operator 2) x (one-of (Symbol.operator 1) x); right = x } ∷ []
+
+-- symbols that bear a mark, 0 or 1, next to their operator: operator × 2 + mark
+abbrev pub halves : Symbols ℕ
+halves = record { operator = λ a. a / 2; new = λ o. o * 2 }
 
 -- Each refusal's number
 
@@ -177,8 +203,6 @@ pub record Refusals : Type 0 where
   pub right-operator : book-page (ticks (0x01 ∷ 0x00 ∷ 0x00 ∷ 0x80 ∷ [])) ≡ refusal "4"
   -- 5: X gives end
   pub left-variable : book-page (ticks (0x01 ∷ 0x80 ∷ 0x00 ∷ [])) ≡ refusal "5"
-  -- 6: both(X, X) gives X, `both` being operator 1 here
-  pub variable-twice : book-page (0x02 ∷ 0x04 ∷ 0x01 ∷ 0x00 ∷ 0xc2 ∷ 0x10 ∷ []) ≡ refusal "6"
   -- 7: tick(X) gives Y
   pub right-variable : book-page (ticks (0x01 ∷ 0x00 ∷ 0xc2 ∷ 0x20 ∷ [])) ≡ refusal "7"
   -- 8: a left side of 72 ticks
@@ -231,7 +255,6 @@ refusals = record {
   left-operator = refl;
   right-operator = refl;
   left-variable = refl;
-  variable-twice = refl;
   right-variable = refl;
   side-incomplete = refl;
   padding = refl;
@@ -280,8 +303,8 @@ pub record Precedence : Type 0 where
   -- 4 in a rule and 5 in the next; 5 and then 4
   pub operator-variable : book-page (ticks (0x02 ∷ 0x01 ∷ 0x00 ∷ 0x20 ∷ 0x00 ∷ [])) ≡ refusal "4"
   pub variable-operator : book-page (ticks (0x02 ∷ 0x80 ∷ 0x00 ∷ 0x04 ∷ 0x00 ∷ [])) ≡ refusal "5"
-  -- 6 on the left before 7 on the right: both(X, X) gives Y
-  pub left-right : book-page (0x02 ∷ 0x04 ∷ 0x01 ∷ 0x00 ∷ 0xc2 ∷ 0x11 ∷ []) ≡ refusal "6"
+  -- a variable twice on the left is no fault before 7 on the right: pair(X, X) gives Y
+  pub left-right : book-page (0x02 ∷ 0x04 ∷ 0x01 ∷ 0x00 ∷ 0xc2 ∷ 0x11 ∷ []) ≡ refusal "7"
   -- 7 before 9: tick(X) gives Y, and a padding bit of 1
   pub rule-padding : book-page (ticks (0x01 ∷ 0x00 ∷ 0xc2 ∷ 0x30 ∷ [])) ≡ refusal "7"
   -- 3 before 1: item 10, and no bit after it
@@ -372,6 +395,53 @@ bounds = record {
   side-65 = refl;
   symbols-1024 = refl;
   symbols-1025 = refl;
+}
+
+-- A variable that stands twice
+
+pub record Repeated : Type 0 where
+  -- equal parts; parts that differ in the last symbol, in the first, in length, in the number of arguments
+  pub equal : rewrite twice (both (tick (tick end)) (tick (tick end))) ≡ some (tick (tick end))
+  pub last-differs : rewrite twice (both (tick (none-of 0)) (tick (none-of 5))) ≡ none
+  pub first-differs : rewrite twice (both (one-of 1 end) (one-of 3 end)) ≡ none
+  pub second-longer : rewrite twice (both (tick end) (tick (tick end))) ≡ none
+  pub first-longer : rewrite twice (both (tick (tick end)) (tick end)) ≡ none
+  pub fewer-arguments : rewrite twice (both (two-of 1 end end) (one-of 1 end)) ≡ none
+  -- three occurrences: all are equal, the second differs, the third
+  pub all-equal : rewrite thrice (three-of 4 (tick end) (tick end) (tick end)) ≡ some (tick end)
+  pub second-differs : rewrite thrice (three-of 4 (tick end) end (tick end)) ≡ none
+  pub third-differs : rewrite thrice (three-of 4 (tick end) (tick end) end) ≡ none
+  -- one of two occurrences further down
+  pub below : rewrite deeper (both end (tick end)) ≡ some end
+  pub not-below : rewrite deeper (both end (tick (tick end))) ≡ none
+  -- a rule that does not match leaves the term to the next
+  pub next-rule : rewrite (twice ++ (general ∷ [])) (both end (tick end)) ≡ some end
+  -- of two parts with the same operators and different marks the first is copied
+  pub first-kept : rewrite-over halves twice (two-of 4 (none-of 1) (none-of 0)) ≡ some (none-of 1)
+  pub first-kept-bare : rewrite-over halves twice (two-of 4 (none-of 0) (none-of 1)) ≡ some (none-of 0)
+  -- from bytes: the book is accepted and written back; pair(pair(end, end), end) is end after two rewrites
+  pub accepted-book : writtenOf repeat-bytes ≡ accepted repeat-bytes
+  pub two-rewrites : repeat-page (1 ∷ 1 ∷ 0 ∷ 0 ∷ 0 ∷ []) ≡ ascii "REDUCE 1\nend 0\nrewrites 2\nentries 15\ngranted 0\nkept 0\nterm 0\n"
+
+pub repeated : Repeated
+unfolding ascii rewrite rewrite-over writtenOf repeat-page
+repeated = record {
+  equal = refl;
+  last-differs = refl;
+  first-differs = refl;
+  second-longer = refl;
+  first-longer = refl;
+  fewer-arguments = refl;
+  all-equal = refl;
+  second-differs = refl;
+  third-differs = refl;
+  below = refl;
+  not-below = refl;
+  next-rule = refl;
+  first-kept = refl;
+  first-kept-bare = refl;
+  accepted-book = refl;
+  two-rewrites = refl;
 }
 
 -- Runs
@@ -466,7 +536,8 @@ pub record Examples : Type 0 where
   pub numbers : Refusals
   pub order : Precedence
   pub bounds : Bounds
+  pub repeated : Repeated
   pub runs : Runs
 
 pub examples : Examples
-examples = record { numbers = refusals; order = precedence; bounds = bounds; runs = runs }
+examples = record { numbers = refusals; order = precedence; bounds = bounds; repeated = repeated; runs = runs }

@@ -1,8 +1,8 @@
 -- The book's reader by lengths and by numbers: what it reads takes at least the bits that its written form has, so a written book is never longer
--- than the bytes that were read; and it refuses by 1 to 9. Assumes nothing.
+-- than the bytes that were read; and it refuses by 1 to 9, but not by 6. Assumes nothing.
 use mathlib.Core.Bool.{Bool, true, false}
 use mathlib.Core.List.{List, [], _∷_, _++_}
-use mathlib.Core.Logic.{inl, inr}
+use mathlib.Core.Logic.{inl, inr, _≢_}
 use mathlib.Core.Path.{_≡_, refl, ap}
 use Prim.Native.Nat.{ℕ, zero, suc, pred, _+_, _*_, _/_, _≤_, _<_}
 use native.Mathlib.Omega.{arith}
@@ -14,22 +14,26 @@ use Rattle.paper.specs.Tree.{node, preorder, trees}
 use Rattle.paper.specs.Strategy.{Item, default, has, settle}
 use Rattle.paper.specs.Book.{Operator, Symbol, Side, Book, symbolArity}
 use Rattle.paper.specs.Reader.{allowed, grouped-after, read-numbers, items, group-items, read-strategy, read-operator, read-symbol, read-symbols}
-use Rattle.paper.specs.Reader.{read-side, left-root, left-symbol, right-symbol, variables, read-rule, read-count, all-zero, read-end, read-bits, readBook}
+use Rattle.paper.specs.Reader.{read-side, left-root, left-symbol, right-symbol, variable-of, variables, read-rule, read-count, all-zero, read-end, read-bits, readBook}
 use Rattle.paper.specs.Writer.{numbers, same, concat, write-strategy, write-operator, write-symbol, write-side, write-rule, writeBook}
 use Rattle.paper.proofs.Tests.{either, eqb-cases, eqb-true}
 use Rattle.paper.proofs.Bytes.{length-bitsOf, length-bytesOf}
 use Rattle.paper.proofs.Settling.{length-group, settled-length}
 use Rattle.paper.proofs.Trees.{preorders-trees}
 
--- a refusal by 1 to 9, or a value and bits that are left: with the bits that the value counts they are at most n
+-- the numbers that are given for a book: 1 to 5 and 7 to 9
+abbrev pub OfBook : ℕ → Type 0
+OfBook k = (0 < k) × (k < 10) × (k ≢ 6)
+
+-- such a refusal, or a value and bits that are left: with the bits that the value counts they are at most n
 data Gives {A : Type 0} (bits : A → ℕ) (n : ℕ) : Result (Read A) → Type 0 where
-  refusal : (k : ℕ) → 0 < k → k < 10 → Gives bits n (refused k)
+  refusal : (k : ℕ) → OfBook k → Gives bits n (refused k)
   answer : (a : A) (xs : List ℕ) → bits a + length xs ≤ n → Gives bits n (accepted (record { value = a; left = xs }))
 
 then-gives : {A B : Type 0} {bits : A → ℕ} {more : B → ℕ} {n m : ℕ} {x : Result (Read A)} (k : Read A → Result (Read B)) → Gives bits n x →
     ((a : A) (xs : List ℕ) → bits a + length xs ≤ n → Gives more m (k (record { value = a; left = xs }))) → Gives more m (then x k)
 unfolding then
-then-gives f (refusal k l h) g = refusal k l h
+then-gives f (refusal k h) g = refusal k h
 then-gives f (answer a xs h) g = g a xs h
 
 -- p takes at least the bits that its value counts
@@ -46,7 +50,7 @@ field-takes n xs = elim (eqb-cases (length (take n xs)) n) [
   | inl p ↦
       let e = p .1 in
       rw (p .0) (answer (value (take n xs)) (drop n xs) (omega (arith, ap length (take-append-drop n xs), length-append (take n xs) (drop n xs))))
-  | inr p ↦ rw (p .0) (refusal 1 (omega arith) (omega arith))
+  | inr p ↦ rw (p .0) (refusal 1 (omega arith, omega arith, λ e. omega arith))
 ]
 
 repeat-takes : {A : Type 0} (write : A → List ℕ) (p : Reader A) → TakesWritten write p → (n : ℕ) → TakesWritten (concat write) (repeat n p)
@@ -64,7 +68,7 @@ unfolding read-numbers
 numbers-take arity g zero xs = answer [] xs (omega arith)
 numbers-take arity g (suc n) xs = then-gives _ (field-takes 4 xs) λ v ys h. elim (either (allowed arity g (eqb n 0) v)) [
   | inl e ↦ rw e (then-gives _ (numbers-take arity (grouped-after g v) n ys) λ vs zs k. answer (v ∷ vs) zs (omega arith))
-  | inr e ↦ rw e (refusal 3 (omega arith) (omega arith))
+  | inr e ↦ rw e (refusal 3 (omega arith, omega arith, λ e. omega arith))
 ]
 
 item-length : (b : Bool) (i : ℕ) (is : List Item) (n : ℕ) → length (numbers is) ≤ n → length (numbers (if b Item.whole (Item.argument i) ∷ is)) ≤ suc n
@@ -140,7 +144,7 @@ module _ (ops : List Operator) where
   symbol-takes xs = then-gives _ (field-takes 1 xs) λ kind ys h. elim (either (eqb kind 0)) [
     | inl e ↦ rw e (then-gives _ (field-takes 8 ys) λ o zs k. elim (either (ltb o (length ops))) [
       | inl f ↦ rw f (answer (Symbol.operator o) zs (omega arith))
-      | inr f ↦ rw f (refusal 4 (omega arith) (omega arith))
+      | inr f ↦ rw f (refusal 4 (omega arith, omega arith, λ e. omega arith))
     ])
     | inr e ↦ rw e (then-gives _ (field-takes 4 ys) λ v zs k. answer (Symbol.variable v) zs (omega arith))
   ]
@@ -149,7 +153,7 @@ module _ (ops : List Operator) where
     symbols-take : (n due : ℕ) (vs : List ℕ) → TakesWritten (concat write-symbol) (read-symbols ops meet n due vs)
     unfolding read-symbols concat
     symbols-take zero zero vs xs = answer [] xs (omega arith)
-    symbols-take zero (suc due) vs xs = refusal 8 (omega arith) (omega arith)
+    symbols-take zero (suc due) vs xs = refusal 8 (omega arith, omega arith, λ e. omega arith)
     symbols-take (suc n) zero vs xs = answer [] xs (omega arith)
     symbols-take (suc n) (suc due) vs xs =
         then-gives _ (symbol-takes xs) λ s ys h.
@@ -171,19 +175,17 @@ module _ (ops : List Operator) where
 root-checks : Checks left-root
 unfolding left-root
 root-checks (Symbol.operator o) xs = answer [] xs (omega arith)
-root-checks (Symbol.variable v) xs = refusal 5 (omega arith) (omega arith)
+root-checks (Symbol.variable v) xs = refusal 5 (omega arith, omega arith, λ e. omega arith)
 
 left-checks : (vs : List ℕ) → Checks (left-symbol vs)
 unfolding left-symbol
-left-checks vs (Symbol.operator o) xs = answer vs xs (omega arith)
-left-checks vs (Symbol.variable v) xs =
-    elim (either (has v vs)) [ inl e ↦ rw e (refusal 6 (omega arith) (omega arith)) | inr e ↦ rw e (answer (v ∷ vs) xs (omega arith)) ]
+left-checks vs s xs = answer (variable-of s ++ vs) xs (omega arith)
 
 right-checks : (vs : List ℕ) → Checks (right-symbol vs)
 unfolding right-symbol
 right-checks vs (Symbol.operator o) xs = answer vs xs (omega arith)
 right-checks vs (Symbol.variable v) xs =
-    elim (either (has v vs)) [ inl e ↦ rw e (answer vs xs (omega arith)) | inr e ↦ rw e (refusal 7 (omega arith) (omega arith)) ]
+    elim (either (has v vs)) [ inl e ↦ rw e (answer vs xs (omega arith)) | inr e ↦ rw e (refusal 7 (omega arith, omega arith, λ e. omega arith)) ]
 
 rule-takes : (ops : List Operator) → TakesWritten write-rule (read-rule ops)
 unfolding read-rule write-rule
@@ -198,7 +200,7 @@ rule-takes ops xs =
 count-takes : Takes (λ n. 8) read-count
 unfolding read-count
 count-takes xs = then-gives _ (field-takes 8 xs) λ n ys h.
-    elim (either (eqb n 0)) [ inl e ↦ rw e (refusal 2 (omega arith) (omega arith)) | inr e ↦ rw e (answer n ys h) ]
+    elim (either (eqb n 0)) [ inl e ↦ rw e (refusal 2 (omega arith, omega arith, λ e. omega arith)) | inr e ↦ rw e (answer n ys h) ]
 
 -- the bits that a book is written with, before the zero bits up to a whole byte
 abbrev book-bits : Book → ℕ
@@ -212,8 +214,8 @@ written-length B =
 end-takes : (B : Book) (n : ℕ) (xs : List ℕ) → book-bits B + length xs ≤ n → Gives book-bits n (read-end B xs)
 unfolding read-end
 end-takes B n xs h = elim (either (ltb (length xs) 8)) [
-  | inl e ↦ rw e (elim (either (all-zero xs)) [ inl f ↦ rw f (answer B xs h) | inr f ↦ rw f (refusal 9 (omega arith) (omega arith)) ])
-  | inr e ↦ rw e (refusal 9 (omega arith) (omega arith))
+  | inl e ↦ rw e (elim (either (all-zero xs)) [ inl f ↦ rw f (answer B xs h) | inr f ↦ rw f (refusal 9 (omega arith, omega arith, λ e. omega arith)) ])
+  | inr e ↦ rw e (refusal 9 (omega arith, omega arith, λ e. omega arith))
 ]
 
 bits-take : Takes book-bits read-bits
@@ -227,7 +229,7 @@ bits-take xs =
 
 -- what is told of a book's reading
 abbrev Told : List ℕ → Result Book → Type 0
-Told bytes (refused k) = (0 < k) × (k < 10)
+Told bytes (refused k) = OfBook k
 Told bytes (accepted B) = length (writeBook B) ≤ length bytes
 
 module _ (bytes : List ℕ) where
@@ -236,13 +238,13 @@ module _ (bytes : List ℕ) where
   told = go (bits-take (bitsOf bytes))
     where
       go : {x : Result (Read Book)} → Gives book-bits (length (bitsOf bytes)) x → Told bytes (then x (λ r. accepted (r .value)))
-      go (refusal k l h) = (l, h)
+      go (refusal k h) = h
       go (answer B xs h) = omega (arith, length-bitsOf bytes, written-length B)
 
   -- a written book is never longer than the bytes that were read
   pub written-no-longer : (B : Book) → readBook bytes ≡ accepted B → length (writeBook B) ≤ length bytes
   written-no-longer B e = rw e at told
 
-  -- a book is refused by 1 to 9
-  pub book-refused-by : (k : ℕ) → readBook bytes ≡ refused k → (0 < k) × (k < 10)
+  -- a book is refused by 1 to 9, but not by 6
+  pub book-refused-by : (k : ℕ) → readBook bytes ≡ refused k → (0 < k) × (k < 10) × (k ≢ 6)
   book-refused-by k e = rw e at told

@@ -1,7 +1,7 @@
 -- Laws of operators: what their reader accepts, and that what is written is read back. Assumes nothing.
 use mathlib.Core.Bool.{Bool, true, false, true≢false, false≢true, not}
 use mathlib.Core.List.{List, [], _∷_, _++_, map, append-assoc, append-nil}
-use mathlib.Core.Logic.{_⊎_, inl, inr}
+use mathlib.Core.Logic.{_⊎_, inl, inr, _≢_}
 use mathlib.Core.Path.{_≡_, refl, sym, ap, ap₂, _∙_, subst}
 use Prim.Native.Nat.{ℕ, zero, suc, _≤_, _<_}
 use native.Mathlib.Omega.{arith}
@@ -16,7 +16,7 @@ use Rattle.paper.specs.Reader.{allowed, grouped-after, read-numbers, ite
 use Rattle.paper.specs.Writer.{numbers, same, concat, write-strategy, write-operator}
 use Rattle.paper.specs.Sound.{All, Distinct, Within}
 use Rattle.paper.specs.WellFormed.{ItemsWithin, EndsAfter, EndsWhole, GoodOperator}
-use Rattle.paper.proofs.Tests.{either, eqb-false, eqb-equal, ltb-true, ltb-false, ltb-less}
+use Rattle.paper.proofs.Tests.{either, eqb-true, eqb-false, eqb-equal, ltb-true, ltb-false, ltb-less}
 use Rattle.paper.proofs.Readers.{bind-accepted, bind-return, return-accepted, refused-accepted}
 use Rattle.paper.proofs.Bits.{field-toBits, field-bounded}
 use Rattle.paper.proofs.Settling.{within-more, layout-within}
@@ -348,7 +348,7 @@ read-operator-good xs r h e =
 
 -- Writing
 
-same-equal : (xs ys : List ℕ) → same xs ys ≡ true → xs ≡ ys
+pub same-equal : (xs ys : List ℕ) → same xs ys ≡ true → xs ≡ ys
 unfolding same
 same-equal [] [] e = refl
 same-equal [] (y ∷ ys) e = absurd (false≢true e)
@@ -358,6 +358,17 @@ same-equal (x ∷ xs) (y ∷ ys) e =
       | inl p ↦ ap₂ (λ (z : ℕ) (zs : List ℕ). z ∷ zs) (eqb-equal x y p) (same-equal xs ys (rw (p, same) at e))
       | inr p ↦ absurd (false≢true (rw (p, same) at e))
     ]
+
+same-self : (xs : List ℕ) → same xs xs ≡ true
+unfolding same
+same-self [] = refl
+same-self (x ∷ xs) = rw (eqb-true x x refl, same) (same-self xs)
+
+pub same-true : (xs ys : List ℕ) → xs ≡ ys → same xs ys ≡ true
+same-true xs ys e = ap (same xs) (sym e) ∙ same-self xs
+
+pub same-false : (xs ys : List ℕ) → xs ≢ ys → same xs ys ≡ false
+same-false xs ys d = elim (either (same xs ys)) [ inl e ↦ absurd (d (same-equal xs ys e)) | inr e ↦ e ]
 
 -- what is read of zs: whether a list is given, and the strategy `is`; xs is left
 abbrev ReadBack : ℕ → List Item → List ℕ → List ℕ → Type 0

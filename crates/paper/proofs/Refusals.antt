@@ -1,14 +1,15 @@
 -- By which numbers a request is refused (document 01, 'What is checked where'; document 02, Change 1): with a line by 1 to 16, with a text by 1 to 9,
--- 13 to 16, 18 and 19; by 15 only if the work area is below the published length, by 16 only if the output is under 1,024 bytes. Assumes nothing.
+-- 13 to 16, 18 and 19; by 15 only if the work area is below the published length, by 16 only if the output is under 1,024 bytes; by 6 never, whatever
+-- the bytes (document 02, Change 4: "Number 6 is given no longer, and this is shown for every book"). Assumes nothing.
 use mathlib.Core.Bool.{true, false}
-use mathlib.Core.List.{List, [], _∷_}
-use mathlib.Core.Logic.{_⊎_, inl, inr}
+use mathlib.Core.List.{List, [], _∷_, _++_}
+use mathlib.Core.Logic.{_⊎_, inl, inr, _≢_}
 use mathlib.Core.Option.{Option, none, some}
-use mathlib.Core.Path.{_≡_, refl}
-use Prim.Native.Nat.{ℕ, zero, suc, _+_, _≤_, _<_}
+use mathlib.Core.Path.{_≡_, refl, _∙_, ap, subst}
+use Prim.Native.Nat.{ℕ, zero, suc, _+_, _/_, _%_, _≤_, _<_}
 use native.Mathlib.Omega.{arith}
 use lib.Dec.{eqb, ltb}
-use lib.ListN.{length}
+use lib.ListN.{length, getD, take, drop, length-append}
 use Rattle.paper.specs.Result.{Result, refused, accepted, if, then}
 use Rattle.paper.specs.Book.{Term, Book, arity}
 use Rattle.paper.specs.Reader.{readBook}
@@ -16,8 +17,10 @@ use Rattle.paper.specs.Line.{symbol-limit, line-fault, unless-fault, rea
 use Rattle.paper.specs.Text.{readText}
 use Rattle.paper.specs.Run.{Answer}
 use Rattle.paper.specs.Page.{Request, all-below, frame-fault, unless, run-checked, LineReader, answerBy, answerOf, payeeOf}
+use Rattle.paper.specs.Page.{read-bytes, read-number, read-schedule, read-request, digits, spaced, line, reduce-word, refused-word}
+use Rattle.paper.specs.Page.{answer-lines, pageBy, pageOf, payeePageOf, writtenOf}
 use Rattle.paper.proofs.Tests.{either, ltb-cases}
-use Rattle.paper.proofs.Lengths.{book-refused-by}
+use Rattle.paper.proofs.Lengths.{OfBook, book-refused-by}
 use Rattle.paper.proofs.Text.{text-refused-by}
 
 -- what is said of each refusal
@@ -33,6 +36,11 @@ told : {A : Type 0} (P : ℕ → Type 0) (x : Result A) → ((k : ℕ) → x ≡
 told P (refused k) h = h k refl
 told P (accepted a) h = tt
 
+then-told : {A B : Type 0} (P : ℕ → Type 0) (x : Result A) (f : A → Result B) → Told P x → ((a : A) → Told P (f a)) → Told P (then x f)
+unfolding then
+then-told P (refused k) f h g = h
+then-told P (accepted a) f h g = g a
+
 -- ANY READER
 
 module _ (published : ℕ) (q : Request) where
@@ -41,16 +49,11 @@ module _ (published : ℕ) (q : Request) where
     units : Refusal Own 13
     work : q .work < published → Refusal Own 15
     output : q .output < symbol-limit → Refusal Own 16
-    book : {k : ℕ} → 0 < k → k < 10 → Refusal Own k
+    book : {k : ℕ} → OfBook k → Refusal Own k
     own : {k : ℕ} → Own k → Refusal Own k
     schedule : Refusal Own 14
 
   module _ (Own : ℕ → Type 0) where
-    then-told : {A B : Type 0} (x : Result A) (f : A → Result B) → Told (Refusal Own) x → ((a : A) → Told (Refusal Own) (f a)) → Told (Refusal Own) (then x f)
-    unfolding then
-    then-told (refused k) f h g = h
-    then-told (accepted a) f h g = g a
-
     unless-told : {A : Type 0} (f : Option ℕ) (x : Result A) → Faulty (Refusal Own) f → Told (Refusal Own) x → Told (Refusal Own) (unless f x)
     unfolding unless
     unless-told none x h g = g
@@ -70,7 +73,7 @@ module _ (published : ℕ) (q : Request) where
     ]
 
     book-told : Told (Refusal Own) (readBook (q .book))
-    book-told = told (Refusal Own) (readBook (q .book)) (λ k e. let (l, h) = book-refused-by (q .book) k e in book l h)
+    book-told = told (Refusal Own) (readBook (q .book)) (λ k e. book (book-refused-by (q .book) k e))
 
     run-told : (B : Book) (t : Term) → Told (Refusal Own) (run-checked q B t)
     unfolding run-checked
@@ -86,7 +89,7 @@ module _ (published : ℕ) (q : Request) where
         let line-told : (B : Book) → Told (Refusal Own) (read B (q .line)) = λ B. told (Refusal Own) (read B (q .line)) (λ k e. own (h B (q .line) k e)) in
         let all-told : Told (Refusal Own) (answerBy read published q) =
         unless-told (frame-fault published q) _ frame-told
-        (then-told (readBook (q .book)) _ book-told (λ B. then-told (read B (q .line)) _ (line-told B) (λ t. run-told B t))) in
+        (then-told (Refusal Own) (readBook (q .book)) _ book-told (λ B. then-told (Refusal Own) (read B (q .line)) _ (line-told B) (λ t. run-told B t))) in
         rw e at all-told
 
 -- A LINE
@@ -125,23 +128,27 @@ module _ (published : ℕ) (q : Request) where
   pub record RefusedBy (k : ℕ) : Type 0 where
     pub some-number : 0 < k
     pub below : k < 17
+    pub not-six : k ≢ 6
     pub short-work : k ≡ 15 → q .work < published
     pub short-output : k ≡ 16 → q .output < symbol-limit
 
   -- neither 15 nor 16
-  other : (k : ℕ) → 0 < k → k < 15 → RefusedBy k
-  other k l h = record { some-number = l; below = omega arith; short-work = λ e. absurd (omega arith); short-output = λ e. absurd (omega arith) }
+  other : (k : ℕ) → 0 < k → k < 15 → k ≢ 6 → RefusedBy k
+  other k l h n =
+      record { some-number = l; below = omega arith; not-six = n; short-work = λ e. absurd (omega arith); short-output = λ e. absurd (omega arith) }
 
   pub request-refused-by : (k : ℕ) → answerOf published q ≡ refused k → RefusedBy k
   request-refused-by k e = go (refused-by published q OfLine readLine line-refused-by k e)
     where
       go : {k : ℕ} → Refusal published q OfLine k → RefusedBy k
-      go units = other 13 (omega arith) (omega arith)
-      go (work w) = record { some-number = omega arith; below = omega arith; short-work = λ e. w; short-output = λ e. absurd (omega arith) }
-      go (output o) = record { some-number = omega arith; below = omega arith; short-work = λ e. absurd (omega arith); short-output = λ e. o }
-      go {k} (book l h) = other k l (omega arith)
-      go {k} (own h) = other k (omega arith) (omega arith)
-      go schedule = other 14 (omega arith) (omega arith)
+      go units = other 13 (omega arith) (omega arith) (λ e. omega arith)
+      go (work w) =
+          record { some-number = omega arith; below = omega arith; not-six = λ e. omega arith; short-work = λ e. w; short-output = λ e. absurd (omega arith) }
+      go (output o) =
+          record { some-number = omega arith; below = omega arith; not-six = λ e. omega arith; short-work = λ e. absurd (omega arith); short-output = λ e. o }
+      go {k} (book h) = other k (h .0) (let l = h .1 in omega arith) (h .2)
+      go {k} (own h) = other k (omega arith) (omega arith) (λ e. omega arith)
+      go schedule = other 14 (omega arith) (omega arith) (λ e. omega arith)
 
 -- A TEXT
 
@@ -153,15 +160,119 @@ module _ (published : ℕ) (q : Request) where
   pub payee-refused-by : (k : ℕ) → payeeOf published q ≡ refused k → Refusal published q OfText k
   payee-refused-by = refused-by published q OfText readText text-refused-by
 
-  -- so by 1 to 9, 13 to 16, 18 or 19
-  pub payee-numbers : (k : ℕ) → payeeOf published q ≡ refused k → ((0 < k) × (k < 10)) ⊎ (((12 < k) × (k < 17)) ⊎ ((17 < k) × (k < 20)))
+  -- so by 1 to 9 but 6, 13 to 16, 18 or 19
+  pub payee-numbers : (k : ℕ) → payeeOf published q ≡ refused k → ((0 < k) × (k < 10) × (k ≢ 6)) ⊎ (((12 < k) × (k < 17)) ⊎ ((17 < k) × (k < 20)))
   payee-numbers k e = go (payee-refused-by k e)
     where
-      go : {k : ℕ} → Refusal published q OfText k → ((0 < k) × (k < 10)) ⊎ (((12 < k) × (k < 17)) ⊎ ((17 < k) × (k < 20)))
+      go : {k : ℕ} → Refusal published q OfText k → ((0 < k) × (k < 10) × (k ≢ 6)) ⊎ (((12 < k) × (k < 17)) ⊎ ((17 < k) × (k < 20)))
       go units = inr (inl (omega arith, omega arith))
       go (work w) = inr (inl (omega arith, omega arith))
       go (output o) = inr (inl (omega arith, omega arith))
-      go (book l h) = inl (l, h)
+      go (book h) = inl h
       go (own (inl e)) = inr (inr (omega arith, omega arith))
       go (own (inr e)) = inr (inr (omega arith, omega arith))
       go schedule = inr (inl (omega arith, omega arith))
+
+-- NEVER 6
+
+abbrev NotSix : ℕ → Type 0
+NotSix k = k ≢ 6
+
+never : {A : Type 0} {x : Result A} → Told NotSix x → x ≢ refused 6
+never {A} h e = subst (Told {A = A} NotSix) e h refl
+
+pub read-not-six : (bytes : List ℕ) → readBook bytes ≢ refused 6
+read-not-six bytes e = book-refused-by bytes 6 e .2 refl
+
+pub written-not-six : (bytes : List ℕ) → writtenOf bytes ≢ refused 6
+unfolding writtenOf
+written-not-six bytes = never (then-told NotSix (readBook bytes) _ (told NotSix (readBook bytes) (λ k e. book-refused-by bytes k e .2)) (λ B. tt))
+
+module _ (published : ℕ) (q : Request) where
+  pub answer-not-six : answerOf published q ≢ refused 6
+  answer-not-six e = request-refused-by published q 6 e .not-six refl
+
+  pub payee-not-six : payeeOf published q ≢ refused 6
+  payee-not-six e = elim (payee-numbers published q 6 e) [
+    | inl h ↦ h .2 refl
+    | inr h ↦ elim h [ inl i ↦ (let j = i .0 in omega arith) | inr i ↦ (let j = i .0 in omega arith) ]
+  ]
+
+-- A PROGRAM'S PAGE
+
+-- the input's own: 17
+abbrev OfInput : ℕ → Type 0
+OfInput k = k ≡ 17
+
+bytes-told : (n : ℕ) (xs : List ℕ) → Told OfInput (read-bytes n xs)
+unfolding read-bytes
+bytes-told n xs = elim (either (eqb (length (take n xs)) n)) [ inl e ↦ rw e tt | inr e ↦ rw e refl ]
+
+number-told : (n : ℕ) (xs : List ℕ) → Told OfInput (read-number n xs)
+unfolding read-number
+number-told n xs = then-told OfInput (read-bytes n xs) _ (bytes-told n xs) (λ r. tt)
+
+schedule-told : (xs : List ℕ) → Told OfInput (read-schedule xs)
+unfolding read-schedule
+schedule-told xs = elim (either (ltb 32768 (length xs))) [ inl e ↦ rw e refl | inr e ↦ rw e tt ]
+
+request-told : (xs : List ℕ) → Told OfInput (read-request xs)
+unfolding read-request
+request-told xs =
+    then-told OfInput (read-number 2 xs) _ (number-told 2 xs) λ n.
+    then-told OfInput (read-bytes (n .value) (n .left)) _ (bytes-told (n .value) (n .left)) λ book.
+    then-told OfInput (read-number 2 (book .left)) _ (number-told 2 (book .left)) λ m.
+    then-told OfInput (read-bytes (m .value) (m .left)) _ (bytes-told (m .value) (m .left)) λ line.
+    then-told OfInput (read-number 1 (line .left)) _ (number-told 1 (line .left)) λ units.
+    then-told OfInput (read-number 4 (units .left)) _ (number-told 4 (units .left)) λ budget.
+    then-told OfInput (read-schedule (budget .left)) _ (schedule-told (budget .left)) λ schedule. tt
+
+pub request-refused-by-17 : (input : List ℕ) (k : ℕ) → read-request input ≡ refused k → k ≡ 17
+request-refused-by-17 input k e = rw e at (request-told input)
+
+-- digits put at least one in front of those that follow
+digits-more : (n v : ℕ) (ds : List ℕ) → length ds < length (digits (suc n) v ds)
+unfolding digits
+digits-more zero v ds = elim (either (ltb v 10)) [ inl e ↦ rw (e, digits) (omega arith) | inr e ↦ rw (e, digits) (omega arith) ]
+digits-more (suc n) v ds = elim (either (ltb v 10)) [
+  | inl e ↦ rw (e, digits) (omega arith)
+  | inr e ↦ rw (e, digits) (let h = digits-more n (v / 10) ((48 + v % 10) ∷ ds) in omega arith)
+]
+
+-- 6 alone is printed as one digit 6
+only-six : (n : ℕ) → spaced (n ∷ []) ++ (10 ∷ []) ≡ 32 ∷ 54 ∷ 10 ∷ [] → n ≡ 6
+unfolding spaced digits
+only-six n e = elim (ltb-cases n 10) [
+  | inl p ↦ (let h : 48 + n ≡ 54 = ap (λ (ds : List ℕ). getD ds 1 0) (rw (p .0) at e) in omega arith)
+  | inr p ↦ (
+      let ds = digits 19 (n / 10) ((48 + n % 10) ∷ []) in
+      let i = ap length (rw (p .0) at e) in
+      absurd (omega (arith, i, digits-more 18 (n / 10) ((48 + n % 10) ∷ []), length-append (ds ++ []) (10 ∷ []), length-append ds []))
+      )
+]
+
+module _ (read : LineReader) (not-six : (q : Request) → answerBy read 0 q ≢ refused 6) (input : List ℕ) where
+  -- before it is printed
+  pub input-not-six : then (read-request input) (λ r. answerBy read 0 (r .value)) ≢ refused 6
+  input-not-six =
+      never
+      (then-told NotSix (read-request input) _
+      (told NotSix (read-request input) (λ k e. let h = request-refused-by-17 input k e in λ i. omega arith))
+      (λ r. told NotSix (answerBy read 0 (r .value)) (λ k e i. not-six (r .value) (e ∙ ap refused i))))
+
+  pub printed-not-six : pageBy read input ≢ line reduce-word (1 ∷ []) ++ line refused-word (6 ∷ [])
+  unfolding pageBy
+  printed-not-six e = go (then (read-request input) (λ r. answerBy read 0 (r .value))) refl (ap (drop 9) e)
+    where
+      go : (x : Result Answer) → then (read-request input) (λ r. answerBy read 0 (r .value)) ≡ x →
+          answer-lines x ≡ line refused-word (6 ∷ []) → ⊥
+      go (refused n) f g = input-not-six (f ∙ ap refused (only-six n (ap (drop 7) g)))
+      go (accepted a) f g = let h : _≡_ {A = ℕ} 101 114 = ap (λ (bs : List ℕ). getD bs 0 0) g in omega arith
+
+pub page-not-six : (input : List ℕ) → pageOf input ≢ line reduce-word (1 ∷ []) ++ line refused-word (6 ∷ [])
+unfolding pageOf
+page-not-six = printed-not-six readLine (answer-not-six 0)
+
+pub payee-page-not-six : (input : List ℕ) → payeePageOf input ≢ line reduce-word (1 ∷ []) ++ line refused-word (6 ∷ [])
+unfolding payeePageOf
+payee-page-not-six = printed-not-six readText (payee-not-six 0)

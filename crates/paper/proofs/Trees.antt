@@ -132,3 +132,10 @@ module _ {A : Type 0} (arity : A → ℕ) where
       Complete arity (arity a) (preorders ts) × (node a (trees arity (preorders ts)) ≡ node a ts)
   correct-spelt a ts h =
       (subst (λ (n : ℕ). Complete arity n (preorders ts)) (h .0) (correct-complete ts (h .1)), ap (node a) (trees-preorders ts (h .1)))
+
+  -- no correct tree's symbols begin with those of another: symbols that begin with both begin with one tree
+  pub same-first : (t u : Tree A) → Correct arity t → Correct arity u → (xs ys : List A) → preorder t ++ xs ≡ preorder u ++ ys → t ≡ u
+  same-first t u c d xs ys e =
+      let p : cons t (trees arity xs) ≡ cons u (trees arity ys) =
+      sym (trees-preorder t c xs) ∙ ap (trees arity) e ∙ trees-preorder u d ys in
+      cc

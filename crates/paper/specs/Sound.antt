@@ -1,5 +1,5 @@
 -- What reading a book ensures, and what keeps every order's position in the term: strategies that name an argument once and within the arity,
--- sides of the right arities, right variables that stand on the left. (Refusals 3 to 7 of document 01 and 'Strategies, settled'.)
+-- sides of the right arities, right variables that stand on the left. (Refusals 3, 4, 5 and 7 of document 01 and 'Strategies, settled'.)
 -- Assumes nothing.
 use mathlib.Core.List.{List, [], _∷_}
 use mathlib.Core.Logic.{_⊎_, _≢_}
@@ -18,11 +18,6 @@ In x (y ∷ ys) = (x ≡ y) ⊎ In x ys
 abbrev pub All : {A : Type 0} → (A → Type 0) → List A → Type 0
 All P [] = Unit {0}
 All P (x ∷ xs) = P x × All P xs
-
--- no number stands twice
-abbrev pub Once : List ℕ → Type 0
-Once [] = Unit {0}
-Once (x ∷ xs) = All (λ y. x ≢ y) xs × Once xs
 
 -- the argument i is not named
 abbrev pub Unnamed : ℕ → List Step → Type 0
@@ -63,7 +58,6 @@ pub record SoundRule (B : Book) (r : Rule) : Type 0 where
   pub left-known : All (Known B) (preorder (r .left))
   pub right-known : All (Known B) (preorder (r .right))
   pub root : IsOperator (label (r .left))
-  pub once : Once (variables (preorder (r .left)))
   pub bound : (v : ℕ) → In v (variables (preorder (r .right))) → In v (variables (preorder (r .left)))
 
 pub record Sound (B : Book) : Type 0 where

@@ -1,5 +1,5 @@
--- What a book that is read has, field by field of the layout (document 01, 'The book, bit by bit' and 'Strategies, settled'; refusals 2 to 8). `Sound`
--- is what a run needs of it; this is all of it, so that such a book is written and read back as itself. Assumes nothing.
+-- What a book that is read has, field by field of the layout (document 01, 'The book, bit by bit' and 'Strategies, settled'; refusals 2 to 5, 7
+-- and 8). `Sound` is what a run needs of it; this is all of it, so that such a book is written and read back as itself. Assumes nothing.
 use mathlib.Core.Bool.{Bool, true, false}
 use mathlib.Core.List.{List, [], _∷_}
 use mathlib.Core.Path.{_≡_}
@@ -10,7 +10,7 @@ use Rattle.paper.specs.Strategy.{Item, settle}
 use Rattle.paper.specs.Book.{Operator, Symbol, Side, Rule, Book, symbolArity}
 use Rattle.paper.specs.Reader.{variables}
 use Rattle.paper.specs.Writer.{numbers}
-use Rattle.paper.specs.Sound.{In, All, Once, IsOperator}
+use Rattle.paper.specs.Sound.{In, All, IsOperator}
 
 -- every argument that is named, in a group or not, is one of n
 abbrev pub ItemsWithin : ℕ → List Item → Type 0
@@ -50,12 +50,11 @@ pub record GoodSide (ops : List Operator) (t : Side) : Type 0 where
   pub short : length (preorder t) ≤ 64
   pub fits : All (Fits ops) (preorder t)
 
--- two sides: the left one no variable and no variable twice in it, the right one with no other variables
+-- two sides: the left one no variable, the right one with no other variables than the left one's
 pub record GoodRule (ops : List Operator) (r : Rule) : Type 0 where
   pub left : GoodSide ops (r .left)
   pub right : GoodSide ops (r .right)
   pub root : IsOperator (label (r .left))
-  pub once : Once (variables (preorder (r .left)))
   pub bound : (v : ℕ) → In v (variables (preorder (r .right))) → In v (variables (preorder (r .left)))
 
 -- 1 to 255 operators, and at most 255 rules over them

@@ -36,7 +36,7 @@ module _ {bytes operators xs : List ℕ} {left a x due len : ℕ} {b : Binding} 
   tried-rest {b₀} {r} z k m = record { is = go; within = m }
     where
       go : (side : Side) → SideAt bytes left operators side → label side ≡ Symbol.operator (getD xs a 0) →
-          match (arity-in operators) (preorder side) a (drop a xs) blank ≡ found r b
+          match (arity-in operators) xs (preorder side) a (drop a xs) blank ≡ found r b
       go (node s ts) l q =
           let o : ℕ = getD xs a 0 in
           let w : Stands bytes left operators 1 64 (Symbol.operator o ∷ preorders ts) = rw (← q) l in
@@ -51,10 +51,10 @@ module _ {bytes operators xs : List ℕ} {left a x due len : ℕ} {b : Binding} 
 
 -- a side with another root differs
 root-other : (arity : ℕ → ℕ) (side : Side) (a : ℕ) (xs : List ℕ) (b : Binding) → IsOperator (label side) → (label side ≡ Symbol.operator (getD xs a 0) → ⊥) →
-    a < length xs → match arity (preorder side) a (drop a xs) b ≡ flat.Match.differs
+    a < length xs → match arity xs (preorder side) a (drop a xs) b ≡ flat.Match.differs
 unfolding label preorder
 root-other arity (node (Symbol.operator p) ts) a xs b r other l =
-    match-other arity p (preorders ts) a (drop a xs) b (head-at a xs p (getD xs a 0) l refl ∙ ne-eqb p (getD xs a 0) (λ q. other (ap Symbol.operator q)))
+    match-other arity xs p (preorders ts) a (drop a xs) b (head-at a xs p (getD xs a 0) l refl ∙ ne-eqb p (getD xs a 0) (λ q. other (ap Symbol.operator q)))
 root-other arity (node (Symbol.variable v) ts) a xs b r other l = absurd r
 
 -- how far the chain may still go from the rule of number k
@@ -71,12 +71,12 @@ ahead-less P j m (suc k) l h f = omega (arith, f .0, f .1)
 -- IN BOOK ORDER
 
 module _ (operators xs : List ℕ) (a : ℕ) where
-  rewrite-later : (r : Rule) (rs : List Rule) → match (arity-in operators) (preorder (r .left)) a (drop a xs) blank ≡ flat.Match.differs →
+  rewrite-later : (r : Rule) (rs : List Rule) → match (arity-in operators) xs (preorder (r .left)) a (drop a xs) blank ≡ flat.Match.differs →
       rewrite (arity-in operators) (r ∷ rs) a xs ≡ rewrite (arity-in operators) rs a xs
   unfolding rewrite
   rewrite-later r rs e = rw (e, rewrite)
 
-  rewrite-here : (r : Rule) (rs : List Rule) (b : Binding) (e : ℕ) → match (arity-in operators) (preorder (r .left)) a (drop a xs) blank ≡ flat.Match.agrees b e →
+  rewrite-here : (r : Rule) (rs : List Rule) (b : Binding) (e : ℕ) → match (arity-in operators) xs (preorder (r .left)) a (drop a xs) blank ≡ flat.Match.agrees b e →
       rewrite (arity-in operators) (r ∷ rs) a xs ≡ flat.Hit.hit (fill (preorder (r .right)) b xs) e
   unfolding rewrite
   rewrite-here r rs b e h = rw (h, rewrite)

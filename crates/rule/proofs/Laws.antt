@@ -1,6 +1,5 @@
 -- What is found, in the paper's terms: an agreement is a match, and the rule that is found is the first in book order. Assumes nothing.
 use mathlib.Core.List.{List, [], _++_, append-nil}
-use mathlib.Core.Logic.{_⊎_}
 use mathlib.Core.Option.{Option, none, some}
 use mathlib.Core.Path.{_≡_, refl, sym, _∙_}
 use Prim.Native.Nat.{ℕ, _+_, _≤_, _<_}
@@ -9,9 +8,8 @@ use lib.ListN.{length, drop}
 use Rattle.paper.specs.Tree.{size, preorder, Correct}
 use Rattle.paper.specs.Book.{Term, Side, Book, arity}
 use Rattle.paper.specs.Match
-use Rattle.paper.specs.Match.{Filling, Matches}
-use Rattle.paper.specs.Reader.{variables}
-use Rattle.paper.specs.Sound.{In, All, SoundRule}
+use Rattle.paper.specs.Match.{Bindings, Matches, filling}
+use Rattle.paper.specs.Sound.{All, SoundRule}
 use Rattle.paper.proofs.Lists.{all-map}
 use Rattle.paper.proofs.Matching as matching
 use Rattle.paper.proofs.Rules.{good-sound}
@@ -26,9 +24,9 @@ use Rattle.rule.specs.Contracts.{tries, Passed}
 use Rattle.rule.specs.declared.Match as M
 use Rattle.rule.proofs.Arities.{all-drop, match-same}
 
-nothing : (f : ℕ → ℕ) (a : ℕ) (xs : List ℕ) (b : Binding) → match f [] a xs b ≡ flat.Match.agrees b a
+nothing : (f : ℕ → ℕ) (line : List ℕ) (a : ℕ) (xs : List ℕ) (b : Binding) → match f line [] a xs b ≡ flat.Match.agrees b a
 unfolding match
-nothing f a xs b = refl
+nothing f line a xs b = refl
 
 -- On the terms of a book
 
@@ -44,34 +42,34 @@ module _ {bytes operators rules : List ℕ} {B : Book} (T : Tables bytes operato
   left i = ruleAt (B .rules) i .left
 
   -- a match of rule i's left side is that on the tree
-  abbrev Tries : ℕ → Option Filling → Type 0
-  Tries i o = Agree xs (λ v. In v (variables (preorder (left i))) ⊎ ⊥) (λ b. flat.Match.agrees b (a + size t)) (tries operators (B .rules) i a xs) o
+  abbrev Tries : ℕ → Option (Bindings ℕ) → Type 0
+  Tries i o = Agree (B .operators) xs (λ b. flat.Match.agrees b (a + size t)) (tries operators (B .rules) i a xs) o
 
   tried : (i : ℕ) → i < length (B .rules) → Tries i (Match.match (left i) t Match.blank)
   tried i l =
-      let h = match-side (B .operators) (left i) (rule-good T i l .left .correct) t correct (λ v. ⊥) Match.blank blank [] a rest xs there (λ v z. absurd z) in
-      let e : match (arity B) (preorder (left i) ++ []) a (preorder t ++ rest) blank ≡ tries operators (B .rules) i a xs =
-      rw (append-nil (preorder (left i)), ← there) (sym (match-same (arity-in operators) (arity B) (preorder (left i)) a (drop a xs) blank (all-drop _ a xs same-arities))) in
+      let h = match-side (B .operators) (left i) (rule-good T i l .left .correct) t correct Match.blank blank [] a rest xs there (λ v. refl) in
+      let e : match (arity B) xs (preorder (left i) ++ []) a (preorder t ++ rest) blank ≡ tries operators (B .rules) i a xs =
+      rw (append-nil (preorder (left i)), ← there) (sym (match-same (arity-in operators) (arity B) xs (preorder (left i)) a (drop a xs) blank (all-drop _ a xs same-arities))) in
       ended e h
     where
-      ended : {m′ : flat.Match} {o : Option Filling} → m′ ≡ tries operators (B .rules) i a xs →
-          Agree xs (λ v. In v (variables (preorder (left i))) ⊎ ⊥) (λ b. match (arity B) [] (a + size t) rest b) m′ o → Tries i o
+      ended : {m′ : flat.Match} {o : Option (Bindings ℕ)} → m′ ≡ tries operators (B .rules) i a xs →
+          Agree (B .operators) xs (λ b. match (arity B) xs [] (a + size t) rest b) m′ o → Tries i o
       ended e (a-no q) = a-no (sym e ∙ q)
-      ended e (a-yes f b q g) = a-yes f b (sym e ∙ q ∙ nothing (arity B) (a + size t) rest b) g
+      ended e (a-yes f b q g) = a-yes f b (sym e ∙ q ∙ nothing (arity B) xs (a + size t) rest b) g
 
   -- rule i matches exactly if some filling of its left side gives the term
   pub agrees-matches : (i e : ℕ) (b : Binding) → i < length (B .rules) → tries operators (B .rules) i a xs ≡ flat.Match.agrees b e → Matches (left i) t × (e ≡ a + size t)
   agrees-matches i e b l h = go refl (tried i l)
     where
-      go : {o : Option Filling} → Match.match (left i) t Match.blank ≡ o → Tries i o → Matches (left i) t × (e ≡ a + size t)
+      go : {o : Option (Bindings ℕ)} → Match.match (left i) t Match.blank ≡ o → Tries i o → Matches (left i) t × (e ≡ a + size t)
       go p (a-no q) = let z : _≡_ {A = ℕ} 0 1 = cc in absurd (omega arith)
-      go p (a-yes f b′ q g) = ((f, matching.found (left i) t f (rule-good T i l .once) p), cc)
+      go p (a-yes f b′ q g) = ((filling f, matching.found (left i) t f p), cc)
 
   pub differs-matches : (i : ℕ) → i < length (B .rules) → tries operators (B .rules) i a xs ≡ flat.Match.differs → Matches (left i) t → ⊥
   differs-matches i l h = go refl (tried i l)
     where
-      go : {o : Option Filling} → Match.match (left i) t Match.blank ≡ o → Tries i o → Matches (left i) t → ⊥
-      go p (a-no q) = matching.not-found (left i) t Match.blank p
+      go : {o : Option (Bindings ℕ)} → Match.match (left i) t Match.blank ≡ o → Tries i o → Matches (left i) t → ⊥
+      go p (a-no q) = matching.not-found (left i) t p
       go p (a-yes f b q g) = let z : _≡_ {A = ℕ} 0 1 = cc in absurd (omega arith)
 
   -- of the rules that are passed, none matches

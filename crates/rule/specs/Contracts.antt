@@ -9,7 +9,7 @@ use Rattle.paper.specs.Tree.{label, preorder}
 use Rattle.paper.specs.Book.{Symbol, Side, Rule, Book, arity}
 use Rattle.paper.specs.Sound.{All, IsOperator}
 use Rattle.flat.specs.Symbols as flat
-use Rattle.flat.specs.Symbols.{Binding, blank, match, fill, rewrite}
+use Rattle.flat.specs.Symbols.{Binding, blank, meet, match, fill, rewrite}
 use Rattle.side.specs.Contracts.{StandingAt}
 use Rattle.side.specs.declared.Standing as Sd
 use Rattle.tables.specs.Layout.{arity-in, left-in}
@@ -21,6 +21,7 @@ use Rattle.rule.specs.declared.Hit as H
 use Rattle.rule.specs.declared.Size as Z
 use Rattle.rule.specs.declared.Taken as T
 use Rattle.rule.specs.declared.Step as S
+use Rattle.rule.specs.declared.Meeting as Me
 
 -- WHAT IS THERE BEFORE
 
@@ -75,23 +76,37 @@ abbrev pub Agrees-within : ℕ → Binding → F.Found → Type 0
 Agrees-within len b (F.Found.Agrees e) = Binds-within b len × (e ≤ len)
 Agrees-within len b F.Found.Differs = Unit
 
+abbrev pub meeting : Me.Meeting → Binding → flat.Meeting
+meeting (Me.Meeting.Part n) b = flat.Meeting.part n b
+meeting Me.Meeting.Other b = flat.Meeting.other
+
+-- where r is a part at offset a, it ends within the first len symbols, and so does all that is bound
+abbrev pub Part-within : ℕ → ℕ → List ℕ → Me.Meeting → Type 0
+Part-within a len bound (Me.Meeting.Part n) = (a + n ≤ len) × Bound-within bound len
+Part-within a len bound Me.Meeting.Other = Unit
+
+-- the variable v against the symbols of xs from offset a on, with the binding b so far
+pub record Variable-met (operators xs : List ℕ) (v a len : ℕ) (b : Binding) (bound : List ℕ) (r : Me.Meeting) : Type 0 where
+  pub is : meet (arity-in operators) xs (b v .size) v a (drop a xs) b ≡ meeting r (binding bound)
+  pub within : Part-within a len bound r
+
 -- one symbol against those of xs from offset a on, with the binding b so far
 pub record Symbol-agrees (bytes : List ℕ) (at : ℕ) (operators xs : List ℕ) (a len : ℕ) (b : Binding) (bound : List ℕ) (t : T.Taken) : Type 0 where
   pub arity : t .arity < 256
   pub end : a + t .size ≤ len
   pub bound-within : Bound-within bound len
   pub goes : Goes bytes at operators
-      (λ ss ss′. match (arity-in operators) ss a (drop a xs) b ≡ match (arity-in operators) ss′ (a + t .size) (drop (a + t .size) xs) (binding bound))
+      (λ ss ss′. match (arity-in operators) xs ss a (drop a xs) b ≡ match (arity-in operators) xs ss′ (a + t .size) (drop (a + t .size) xs) (binding bound))
       (t .arity) (t .next)
 
 abbrev pub Symbol-matched : List ℕ → ℕ → List ℕ → List ℕ → ℕ → ℕ → Binding → List ℕ → S.Step → Type 0
 Symbol-matched bytes at operators xs a len b bound (S.Step.Took t) = Symbol-agrees bytes at operators xs a len b bound t
 Symbol-matched bytes at operators xs a len b bound S.Step.Stops =
-    All-at bytes at operators (λ ss. match (arity-in operators) ss a (drop a xs) b ≡ flat.Match.differs)
+    All-at bytes at operators (λ ss. match (arity-in operators) xs ss a (drop a xs) b ≡ flat.Match.differs)
 
 -- r and the binding b′ answer for the symbols at a position, against those of xs from offset a on, with the binding b so far
 pub record Rest-matched (bytes : List ℕ) (at : ℕ) (operators : List ℕ) (due room : ℕ) (xs : List ℕ) (a : ℕ) (b b′ : Binding) (r : F.Found) : Type 0 where
-  pub is : (ss : List Symbol) → Stands bytes at operators due room ss → match (arity-in operators) ss a (drop a xs) b ≡ found r b′
+  pub is : (ss : List Symbol) → Stands bytes at operators due room ss → match (arity-in operators) xs ss a (drop a xs) b ≡ found r b′
 
 -- FILLING
 
@@ -143,12 +158,12 @@ pub record Under-root (operators xs : List ℕ) (a x due : ℕ) : Type 0 where
 -- r and the binding b answer for a left side at a position, if its root is the term's
 pub record Left-tried (bytes : List ℕ) (at : ℕ) (operators xs : List ℕ) (a len : ℕ) (b : Binding) (r : F.Found) : Type 0 where
   pub is : (side : Side) → SideAt bytes at operators side → label side ≡ Symbol.operator (getD xs a 0) →
-      match (arity-in operators) (preorder side) a (drop a xs) blank ≡ found r b
+      match (arity-in operators) xs (preorder side) a (drop a xs) blank ≡ found r b
   pub within : Agrees-within len b r
 
 -- a match of rule i's left side
 abbrev pub tries : List ℕ → List Rule → ℕ → ℕ → List ℕ → flat.Match
-tries operators rs i a xs = match (arity-in operators) (preorder (ruleAt rs i .left)) a (drop a xs) blank
+tries operators rs i a xs = match (arity-in operators) xs (preorder (ruleAt rs i .left)) a (drop a xs) blank
 
 -- the rules below i differ
 abbrev pub Passed : List ℕ → List Rule → ℕ → ℕ → List ℕ → Type 0

@@ -1,5 +1,5 @@
 // A packed rule against the present term: its left side matched, its right side filled, and the first rule in book order that matches
-// (document 01, 'Reduction one after the other').
+// (document 01, 'Reduction one after the other'; document 02, Change 4).
 use side::Standing;
 ghost use mathlib.Core.Path.{_≡_};
 ghost use Prim.Native.Nat.{_+_, _-_, _*_, _<_, _≤_, _^_};
@@ -43,6 +43,12 @@ struct Taken {
 enum Step {
     Took(Taken),
     Stops,
+}
+
+// A variable of a left side, met: the size of its part; or its part is another than the one it is bound to.
+enum Meeting {
+    Part(usize),
+    Other,
 }
 
 // A binding is kept as an array: variable v's start at 2 * v, its size behind it.
@@ -93,6 +99,32 @@ fn stands(symbols: &[u8; 1024], len: usize, at: usize, o: u8) -> bool
     if at < len { o == symbols[at] } else { false }
 }
 
+// The variable v against the term at an offset: met first it is bound to the term, met again as many symbols there must be those it is bound to. A bound
+// variable has at least one.
+fn meet(
+    v: u8,
+    operators: &[u8; 4352],
+    symbols: &[u8; 1024],
+    len: usize,
+    offset: usize,
+    bound: &mut [u16; 32],
+) -> Meeting
+    requires { ⌜ (v < 16) × R.Offset-in (now symbols) len offset × R.Bound-within (now bound) len ⌝ }
+    ensures { λ r. ⌜ R.Variable-met (now (operators .entry)) (take len (now (symbols .entry))) v offset len (binding (now (bound .entry))) (now (bound .exit)) r ⌝ }
+{
+    let size = size_of(bound, v);
+    if size == 0 {
+        let end = term::skip(symbols, len, operators, offset, 1);
+        bind(bound, v, offset, end);
+        return Meeting::Part(end - offset);
+    }
+    if term::same(symbols, len, start_of(bound, v), offset, size) {
+        Meeting::Part(size)
+    } else {
+        Meeting::Other
+    }
+}
+
 // The symbol at position at of a left side, against the term at an offset.
 fn match_one(
     book: &[u8],
@@ -118,15 +150,14 @@ fn match_one(
                 Step::Stops
             }
         }
-        Standing::Variable(v, next) => {
-            let end = term::skip(symbols, len, operators, offset, 1);
-            bind(bound, v, offset, end);
-            Step::Took(Taken {
+        Standing::Variable(v, next) => match meet(v, operators, symbols, len, offset, bound) {
+            Meeting::Part(n) => Step::Took(Taken {
                 arity: 0,
                 next: next,
-                size: end - offset,
-            })
-        }
+                size: n,
+            }),
+            Meeting::Other => Step::Stops,
+        },
     }
 }
 

@@ -86,8 +86,7 @@ root-still (Symbol.variable v) xs = refusal
 
 left-still : (vs : List ℕ) → ReadsNothing (left-symbol vs)
 unfolding left-symbol
-left-still vs (Symbol.operator o) xs = answer refl
-left-still vs (Symbol.variable v) xs = elim (either (has v vs)) [ inl e ↦ rw e refusal | inr e ↦ rw e (answer refl) ]
+left-still vs s xs = answer refl
 
 right-still : (vs : List ℕ) → ReadsNothing (right-symbol vs)
 unfolding right-symbol

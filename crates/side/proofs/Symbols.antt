@@ -103,19 +103,17 @@ module _ (bytes : List ℕ) (at n w : ℕ) (N : Nine bytes at w) where
 -- Checking one
 
 module _ (mask v next : ℕ) where
-  pub met-twice : eqb (bit v mask) 1 ≡ true → MetAt mask v true next (Ta.Taking.Refused 6)
-  unfolding left-symbol refuse
-  met-twice e vs h xs = rw (h v ∙ e)
-
-  pub met-known : eqb (bit v mask) 1 ≡ true → MetAt mask v false next (Ta.Taking.Took (record { arity = 0; met = mask; next = next }))
-  unfolding right-symbol variable-of
-  met-known e =
+  pub met-known : (left : Bool) → eqb (bit v mask) 1 ≡ true → MetAt mask v left next (Ta.Taking.Took (record { arity = 0; met = mask; next = next }))
+  unfolding left-symbol right-symbol variable-of
+  met-known true e =
+      (refl, refl, λ vs h. record { on = v ∷ vs; is = λ xs. refl; same = λ u. refl; masks = λ u. sym (has-known v vs (h v ∙ e) u) ∙ h u })
+  met-known false e =
       (refl, refl, λ vs h. record { on = vs; is = λ xs. rw (h v ∙ e); same = has-known v vs (h v ∙ e); masks = h })
 
   pub met-new : (m : ℕ) → eqb (bit v mask) 1 ≡ false → m ≡ mask + 2 ^ v → MetAt mask v true next (Ta.Taking.Took (record { arity = 0; met = m; next = next }))
   unfolding left-symbol variable-of
   met-new m e f =
-      (refl, refl, λ vs h. record { on = v ∷ vs; is = λ xs. rw (h v ∙ e); same = λ u. refl; masks = rw f (masks-with mask v vs (bit-clear v mask e) h) })
+      (refl, refl, λ vs h. record { on = v ∷ vs; is = λ xs. refl; same = λ u. refl; masks = rw f (masks-with mask v vs (bit-clear v mask e) h) })
 
   pub met-unknown : eqb (bit v mask) 1 ≡ false → MetAt mask v false next (Ta.Taking.Refused 7)
   unfolding right-symbol refuse

@@ -1,4 +1,4 @@
-// The symbols, sides and rules of a book, read from its packed bits (document 01, 'The book, bit by bit'; refusals 1 and 4 to 8).
+// The symbols, sides and rules of a book, read from its packed bits (document 01, 'The book, bit by bit'; refusals 1, 4, 5, 7 and 8).
 use std::num;
 ghost use mathlib.Core.Path.{_≡_};
 ghost use Prim.Native.Nat.{_+_, _<_, _≤_, _^_};
@@ -105,15 +105,12 @@ fn with(mask: u16, v: u8) -> u16
     mask + (1 << v)
 }
 
-// The variable v, met where those of mask were met: new in a left side, known in a right one.
+// The variable v, met where those of mask were met: any may stand in a left side, only a known one in a right side.
 fn meet(mask: u16, v: u8, left: bool, next: usize) -> Taking
     requires { ⌜ v < 16 ⌝ }
     ensures { λ r. ⌜ MetAt mask v left next r ⌝ }
 {
     if has(mask, v) {
-        if left {
-            return Taking::Refused(6);
-        }
         return Taking::Took(Taken {
             arity: 0,
             met: mask,

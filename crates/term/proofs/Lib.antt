@@ -1,2 +1,3 @@
 pub mod Skipping
+pub mod Comparing
 pub mod Replacing

@@ -1,10 +1,12 @@
 -- What the functions on an array of symbols ensure, by the definitions on lists of symbols. Assumes nothing.
+use mathlib.Core.Bool.{Bool}
 use mathlib.Core.List.{List}
 use mathlib.Core.Logic.{_⊎_}
 use mathlib.Core.Path.{_≡_}
 use Prim.Native.Nat.{ℕ, _+_, _-_, _≤_}
 use lib.ListN.{length, take, drop}
 use lib.Seq.{paste}
+use Rattle.paper.specs.Writer.{same}
 use Rattle.flat.specs.Symbols.{skip, splice}
 use Rattle.tables.specs.Layout.{arity-in}
 
@@ -13,6 +15,10 @@ pub record Skipped (operators symbols : List ℕ) (at terms len r : ℕ) : Type 
   pub is : r ≡ at + skip (arity-in operators) terms (drop at symbols)
   pub least : at ≤ r
   pub most : r ≤ len
+
+-- r says whether the n symbols from offset a on are those from offset b on
+pub record Compared (symbols : List ℕ) (a b n : ℕ) (r : Bool) : Type 0 where
+  pub is : r ≡ same (take n (drop a symbols)) (take n (drop b symbols))
 
 -- symbols′ is symbols with the n of part from offset `from` on at offset at
 pub record Pasted (symbols : List ℕ) (at : ℕ) (part : List ℕ) (from n : ℕ) (symbols′ : List ℕ) : Type 0 where

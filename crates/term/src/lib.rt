@@ -1,10 +1,10 @@
-// The present term as an array of symbols in preorder, of which the first len are in use: where its parts stand, and one of them replaced.
+// The present term as an array of symbols in preorder, of which the first len are in use: where its parts stand, two compared, one replaced.
 ghost use mathlib.Core.Path.{_≡_};
 ghost use Prim.Native.Nat.{_+_, _-_, _^_, _<_, _≤_};
 ghost use lib.ListN.{length, take};
 ghost use Rattle.flat.specs.Symbols as flat;
 ghost use Rattle.tables.specs.Layout.{arity-in};
-ghost use Rattle.term.specs.Contracts.{Skipped, Pasted, Moving, Replaced};
+ghost use Rattle.term.specs.Contracts.{Skipped, Compared, Pasted, Moving, Replaced};
 
 // The offset behind the first `terms` terms from offset at on: they end at `end` at the least, and each argument that is met is one symbol more.
 pub fn skip(
@@ -38,6 +38,29 @@ pub fn argument(
     ensures { λ r. ⌜ (r ≡ flat.argument (arity-in (now (operators .entry))) (take len (now (symbols .entry))) at i) × (at < r) × (r ≤ len) ⌝ }
 {
     skip(symbols, len, operators, at + 1, i)
+}
+
+// Are the n symbols from offset a on those from offset b on? They are not where fewer than n stand from b on.
+pub fn same(symbols: &[u8; 1024], len: usize, a: usize, b: usize, n: usize) -> bool
+    requires { ⌜ (length (now symbols) ≡ 1024) × (len ≤ 1024) × (a + n ≤ len) × (b ≤ len) ⌝ }
+    ensures { λ r. ⌜ Compared (take len (now (symbols .entry))) a b n r ⌝ }
+{
+    if len - b < n {
+        return false;
+    }
+    let mut equal = true;
+    let mut p = a;
+    let mut q = b;
+    let mut left = n;
+    while 0 < left {
+        if symbols[p] != symbols[q] {
+            equal = false;
+        }
+        p += 1;
+        q += 1;
+        left -= 1;
+    }
+    equal
 }
 
 // The n symbols of part from offset `from` on, into symbols at offset at.

@@ -5,12 +5,12 @@ use mathlib.Core.Path.{_≡_, sym, ap, _∙_}
 use Prim.Native.Nat.{ℕ, suc, _+_, _-_, _≤_, _<_}
 use native.Mathlib.Omega.{arith}
 use lib.Dec.{eqb}
-use lib.ListN.{length, take}
+use lib.ListN.{length, take, drop}
 use lib.Seq.{length-take-le}
 use borrow.Author.Tests.{eq-eqb, ne-eqb, lt-ltb}
 use Rattle.paper.specs.Tree.{preorder}
 use Rattle.paper.specs.Book.{Symbol, Side, Book, arity}
-use Rattle.flat.specs.Symbols.{Match, Hit, Binding, skip, match, fill}
+use Rattle.flat.specs.Symbols.{Match, Hit, Meeting, Binding, meet, match, fill}
 use Rattle.tables.specs.Layout.{right-in}
 use Rattle.tables.specs.Tables.{ruleAt, Tables}
 use Rattle.rule.specs.Packed.{SideAt, Binds-within}
@@ -28,13 +28,20 @@ went-on : (t : Bool) (m : Match) (b : Binding) (e : ℕ) → (elim t as (λ z. M
 went-on true m b e h = h
 went-on false m b e h = let z : _≡_ {A = ℕ} 0 1 = cc in absurd (omega arith)
 
-match-ends : (arity : ℕ → ℕ) (ss : List Symbol) (a : ℕ) (xs : List ℕ) (b b′ : Binding) (e : ℕ) → match arity ss a xs b ≡ Match.agrees b′ e → a ≤ e
+met-on : (m : Meeting) (k : ℕ → Binding → Match) (b : Binding) (e : ℕ) →
+    (elim m as (λ z. Match) [ Meeting.other ↦ Match.differs | Meeting.part n c ↦ k n c ]) ≡ Match.agrees b e → (n : ℕ) × (c : Binding) × (k n c ≡ Match.agrees b e)
+met-on Meeting.other k b e h = let z : _≡_ {A = ℕ} 0 1 = cc in absurd (omega arith)
+met-on (Meeting.part n c) k b e h = (n, c, h)
+
+match-ends : (arity : ℕ → ℕ) (line : List ℕ) (ss : List Symbol) (a : ℕ) (xs : List ℕ) (b b′ : Binding) (e : ℕ) → match arity line ss a xs b ≡ Match.agrees b′ e → a ≤ e
 unfolding match
-match-ends arity [] a xs b b′ e h = let z : a ≡ e = cc in omega arith
-match-ends arity (Symbol.operator o ∷ ss) a [] b b′ e h = let z : _≡_ {A = ℕ} 0 1 = cc in absurd (omega arith)
-match-ends arity (Symbol.operator o ∷ ss) a (x ∷ xs) b b′ e h =
-    let l = match-ends arity ss (suc a) xs b b′ e (went-on (eqb o x) _ b′ e h) in omega arith
-match-ends arity (Symbol.variable v ∷ ss) a xs b b′ e h = let l = match-ends arity ss (a + skip arity 1 xs) _ _ b′ e h in omega arith
+match-ends arity line [] a xs b b′ e h = let z : a ≡ e = cc in omega arith
+match-ends arity line (Symbol.operator o ∷ ss) a [] b b′ e h = let z : _≡_ {A = ℕ} 0 1 = cc in absurd (omega arith)
+match-ends arity line (Symbol.operator o ∷ ss) a (x ∷ xs) b b′ e h =
+    let l = match-ends arity line ss (suc a) xs b b′ e (went-on (eqb o x) _ b′ e h) in omega arith
+match-ends arity line (Symbol.variable v ∷ ss) a xs b b′ e h =
+    let (n, c, g) = met-on (meet arity line (b v .size) v a xs b) (λ n c. match arity line ss (a + n) (drop n xs) c) b′ e h in
+    let l = match-ends arity line ss (a + n) (drop n xs) c b′ e g in omega arith
 
 module _ {bytes operators rules xs : List ℕ} {B : Book} {a len : ℕ} {b : Binding} {m : M.Match} (T : Tables bytes operators rules B)
     (h : Rule-found B operators a xs len b m) where
@@ -45,7 +52,7 @@ module _ {bytes operators rules xs : List ℕ} {B : Book} {a len : ℕ} {b : Bin
   spends p l e = record { ys = _; e = m .end; hit = h .is; so = eq-eqb (p .rewrites) (l .budget) e }
 
   least : a ≤ m .end
-  least = match-ends _ _ a _ _ b (m .end) (h .agrees)
+  least = match-ends _ xs _ a _ _ b (m .end) (h .agrees)
 
   abbrev right : Side
   right = ruleAt (B .rules) (m .rule) .right

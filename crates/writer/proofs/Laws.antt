@@ -1,8 +1,8 @@
 -- The writer's answers, and what a caller has of them: a book that was written reads as the one that was given and is no longer, a refusal leaves
--- the output as it was, and 16 does not come where the output is as long as the book given. Assumes nothing.
+-- the output as it was, 16 does not come where the output is as long as the book given, and 6 never comes (document 02, Change 4). Assumes nothing.
 use mathlib.Core.Bool.{Bool, true, false}
 use mathlib.Core.List.{List, _++_}
-use mathlib.Core.Logic.{_⊎_, inl, inr}
+use mathlib.Core.Logic.{_⊎_, inl, inr, _≢_}
 use mathlib.Core.Path.{_≡_, refl, sym, ap, _∙_}
 use Prim.Native.Nat.{ℕ, _≤_, _<_}
 use native.Mathlib.Omega.{arith}
@@ -18,6 +18,7 @@ use Rattle.paper.specs.Page.{writtenOf}
 use Rattle.paper.proofs.Tests.{ltb-true, ltb-false}
 use Rattle.paper.proofs.Books.{read-book-good, round-trip}
 use Rattle.paper.proofs.Lengths.{written-no-longer, book-refused-by}
+use Rattle.paper.proofs.Refusals.{read-not-six}
 use Rattle.paper.proofs.Prefix.{longest-book, read-prefix}
 use Rattle.tables.proofs.Laws.{arity-at}
 use Rattle.book.specs.Contracts.{BookAt}
@@ -129,23 +130,45 @@ module _ {book output output′ : List ℕ} where
               let z : _≡_ {A = ℕ} 0 1 = cc in
               absurd (omega arith)
 
-  -- an output that is long enough is never refused by 16: a refusal is the book's own, by 1 to 9
+  -- an output that is long enough is never refused by 16: a refusal is the book's own, by 1 to 9 but 6
   pub own-refusal : {k : ℕ} → LongEnough book output → Answers book output output′ (D.Written.Refused k) →
-      (readBook book ≡ refused k) × (0 < k) × (k < 10)
+      (readBook book ≡ refused k) × (0 < k) × (k < 10) × (k ≢ 6)
   own-refusal {k} h a = go (readBook book) refl
     where
       fits : (B : Book) → readBook book ≡ accepted B → LongEnough book output → length (writeBook B) ≤ length output
       fits B e (inl l) = omega (arith, written-no-longer book B e)
       fits B e (inr l) = omega (arith, written-no-longer book B e, longest-book book B e)
 
-      go : (x : Result Book) → readBook book ≡ x → (readBook book ≡ refused k) × (0 < k) × (k < 10)
+      go : (x : Result Book) → readBook book ≡ x → (readBook book ≡ refused k) × (0 < k) × (k < 10) × (k ≢ 6)
       go (refused j) e =
           let i = ap (λ (o : Outcome). o .answer) (sym (answers-refused book output j e .is) ∙ a .is) in
           let f : readBook book ≡ refused k = e ∙ cc in
-          let (l, m) = book-refused-by book k f in
-          (f, l, m)
+          let (l, m, n) = book-refused-by book k f in
+          (f, l, m, n)
       go (accepted B) e =
           let w = answers-written book output B e _ refl _ _ refl (fits B e h) refl in
           let i = ap (λ (o : Outcome). o .answer) (sym (w .is) ∙ a .is) in
           let z : _≡_ {A = ℕ} 0 1 = cc in
           absurd (omega arith)
+
+  -- whatever the output
+  pub write-not-six : {r : D.Written} → Answers book output output′ r → r ≢ D.Written.Refused 6
+  unfolding writing then
+  write-not-six {r} a e = go (readBook book) refl
+    where
+      go : (x : Result Book) → readBook book ≡ x → ⊥
+      go (refused j) f =
+          let i = ap (λ (o : Outcome). o .answer) (sym (writing-of book output (refused j) f) ∙ a .is) in
+          let k : j ≡ 6 = cc in
+          read-not-six book (f ∙ ap refused k)
+      go (accepted B) f = sized (ltb (length output) (length (writeBook B))) refl
+        where
+          sized : (b : Bool) → ltb (length output) (length (writeBook B)) ≡ b → ⊥
+          sized true g =
+              let i = ap (λ (o : Outcome). o .answer) (rw g at (sym (writing-of book output (accepted B) f) ∙ a .is)) in
+              let z : _≡_ {A = ℕ} 16 6 = cc in
+              omega arith
+          sized false g =
+              let i = ap (λ (o : Outcome). o .answer) (rw g at (sym (writing-of book output (accepted B) f) ∙ a .is)) in
+              let z : _≡_ {A = ℕ} 0 1 = cc in
+              omega arith

@@ -1,4 +1,4 @@
-// The book's writer (document 01, 'The program and its page'; refusals 1 to 9 and 16): operators with their settled lists, rules as they stand.
+// The book's writer (document 01, 'The program and its page'; refusals 1 to 9 but 6, and 16): operators with their settled lists, rules as they stand.
 use bits::Bits;
 use book::Book;
 use side::Rule;

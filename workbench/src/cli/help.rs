@@ -53,9 +53,9 @@ The text form of a book
             come from the left, then 0. At most 31 items; { and } count.
   var       declares names that stand for variables in every rule.
   rule      rules are tried in the order of the text, at most 255. A side has
-            1 to 64 symbols. A rule has at most 16 variables, each once on its
-            left side; they are numbered as they come there, and X:5 on the
-            left gives X the number 5.
+            1 to 64 symbols. A rule has at most 16 variables. One that stands
+            again on the left matches equal parts only. They are numbered as
+            they come there, and X:5 on the left gives X the number 5.
   name      letters and digits of any script, and _ ' - . & + in any order, as
             in Müller, 24, rent-2.OG; but not op, var or rule. A name is
             declared once, before or after its uses.

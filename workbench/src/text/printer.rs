@@ -1,5 +1,7 @@
 //! Books and terms as text.
 
+use std::cell::RefCell;
+use std::collections::HashSet;
 use std::fmt::Write;
 use std::ops::Range;
 
@@ -92,15 +94,22 @@ fn variables_used(book: &Book) -> Vec<u8> {
     used
 }
 
+/// The variables in order of appearance, each once.
 pub fn variables(side: &[Symbol]) -> Vec<u8> {
-    let number = |symbol: &Symbol| match symbol {
-        Symbol::Variable(variable) => Some(*variable),
-        Symbol::Operator(_) => None,
-    };
-    side.iter().filter_map(number).collect()
+    let mut variables = Vec::new();
+    for symbol in side {
+        match symbol {
+            Symbol::Variable(variable) if !variables.contains(variable) => {
+                variables.push(*variable);
+            }
+            _ => {}
+        }
+    }
+    variables
 }
 
-/// Variables that aren't numbered in order of appearance say their numbers.
+/// Variables that aren't numbered in order of appearance say their numbers,
+/// where they first stand.
 fn rule_line(rule: &Rule, names: &Names, prefix: &str) -> String {
     let left = preorder(&rule.left);
     let right = preorder(&rule.right);
@@ -108,7 +117,11 @@ fn rule_line(rule: &Rule, names: &Names, prefix: &str) -> String {
         .into_iter()
         .eq(0..variables(&left).len() as u8);
     let variable = |number: u8| format!("{prefix}{number}");
-    let numbered = |number: u8| format!("{prefix}{number}:{number}");
+    let said = RefCell::new(HashSet::new());
+    let numbered = |number: u8| match said.borrow_mut().insert(number) {
+        true => format!("{prefix}{number}:{number}"),
+        false => variable(number),
+    };
     let left = match in_order {
         true => Printer::new(names, &left, &variable).text(),
         false => Printer::new(names, &left, &numbered).text(),

@@ -1,5 +1,5 @@
 //! The sides of rules: each word against its declaration, and the conditions
-//! by which the reader refuses 5 to 8, in reading order.
+//! by which the reader refuses 5, 7 and 8, in reading order.
 
 use std::collections::HashMap;
 
@@ -96,18 +96,28 @@ fn clear_names(meanings: &Meanings) -> impl Iterator<Item = &str> {
 /// get the lowest numbers that are left, in order of appearance.
 #[derive(Default)]
 struct Variables {
-    written: Vec<u8>,
     numbers: HashMap<String, u8>,
 }
 
 impl Variables {
+    /// A variable that stands again may have its number written again.
     fn reserve(&mut self, left: &Words) -> Result<(), Mistake> {
-        for (number, span) in left.iter().filter_map(|word| word.number) {
-            if self.written.contains(&number) {
-                let wrong = format!("another variable of this side has the number {number}");
-                return Err(Mistake::new(span, wrong, "a number of its own"));
-            }
-            self.written.push(number);
+        for word in left {
+            let Some((number, span)) = word.number else {
+                continue;
+            };
+            let name = &word.name.text;
+            match self.numbers.get(name) {
+                Some(known) if *known != number => {
+                    let wrong = format!("'{name}' has the number {known} in this side");
+                    return Err(Mistake::new(span, wrong, "one number for a variable"));
+                }
+                None if self.is_taken(number) => {
+                    let wrong = format!("another variable of this side has the number {number}");
+                    return Err(Mistake::new(span, wrong, "a number of its own"));
+                }
+                _ => self.numbers.insert(name.clone(), number),
+            };
         }
         Ok(())
     }
@@ -118,26 +128,20 @@ impl Variables {
             let wrong = "the left side is a variable";
             return Err(Mistake::new(span, wrong, "an operator at its root").refused(5));
         }
-        if self.numbers.contains_key(name) {
-            let wrong = format!("'{name}' stands twice in the left side");
-            return Err(Mistake::new(span, wrong, "each variable once").refused(6));
+        if let Some(number) = self.numbers.get(name) {
+            return Ok(*number);
         }
-        let number = match word.number {
-            Some((number, _)) => number,
-            None => self.free().ok_or_else(|| {
-                let wrong = "this is the 17th variable of the rule";
-                Mistake::new(span, wrong, "at most 16 variables in a rule")
-            })?,
-        };
+        let number = (0..16).find(|number| !self.is_taken(*number));
+        let number = number.ok_or_else(|| {
+            let wrong = "this is the 17th variable of the rule";
+            Mistake::new(span, wrong, "at most 16 variables in a rule")
+        })?;
         self.numbers.insert(name.clone(), number);
         Ok(number)
     }
 
-    fn free(&self) -> Option<u8> {
-        let taken = |number: &u8| {
-            self.written.contains(number) || self.numbers.values().any(|other| other == number)
-        };
-        (0..16).find(|number| !taken(number))
+    fn is_taken(&self, number: u8) -> bool {
+        self.numbers.values().any(|other| *other == number)
     }
 
     fn on_right(&self, word: &Word) -> Result<u8, Mistake> {

@@ -1,19 +1,34 @@
 //! Which terms a left side matches, beside others.
 
+use comparison::draft::Symbol;
 use comparison::model::{Book, Item, Pattern};
 
-/// Whether one pattern matches all terms that the other does. Exact: variables
-/// stand once, and any term can stand at any place.
+use crate::text::printer::{preorder, variables};
+
+/// Whether one pattern matches all terms that the other does. Exact, since any
+/// term can stand at any place.
 pub fn covers(general: &Pattern, special: &Pattern) -> bool {
+    is_filled(general, special, &mut [None; 16])
+}
+
+/// Whether the special pattern is the general one with its variables filled,
+/// one that stands again with equal parts.
+fn is_filled<'p>(
+    general: &Pattern,
+    special: &'p Pattern,
+    filling: &mut [Option<&'p Pattern>; 16],
+) -> bool {
     match (general, special) {
-        (Pattern::Variable(_), _) => true,
+        (Pattern::Variable(variable), _) => {
+            *filling[usize::from(*variable)].get_or_insert(special) == special
+        }
         (Pattern::Operator(..), Pattern::Variable(_)) => false,
         (Pattern::Operator(one, parts), Pattern::Operator(other, others)) => {
             one == other
                 && parts
                     .iter()
                     .zip(others)
-                    .all(|(one, other)| covers(one, other))
+                    .all(|(one, other)| is_filled(one, other, filling))
         }
     }
 }
@@ -25,72 +40,117 @@ const STEPS: usize = 100_000;
 /// Whether each term that the last pattern matches is matched by one of the
 /// others. It is not said so if that takes too long to find out.
 pub fn cover_together(book: &Book, others: &[&Pattern], last: &Pattern) -> bool {
-    let rows = others.iter().map(|pattern| vec![*pattern]).collect();
     let mut steps = STEPS;
-    has_uncovered(book, rows, vec![last], &mut steps) == Some(false)
+    has_uncovered(book, others, last, FRESH, &mut steps) == Some(false)
 }
 
-const ANY: Pattern = Pattern::Variable(0);
+/// The first number that no variable of a rule has.
+const FRESH: u8 = 16;
 
-/// Whether terms are matched by `row` and by none of `rows`: place by place,
-/// the first one taken apart by the operators that can stand there. `None` if
-/// the steps are used up.
+/// Whether terms are matched by the pattern and by none of the others: a
+/// variable of it, at whose place another has an operator, is filled with each
+/// operator that can stand there. `None` if the steps are used up.
+///
+/// Where none is left to fill, the others that go on ask for equal parts where
+/// the pattern has different ones. There are infinitely many terms to fill its
+/// variables with, so some keep all those parts apart.
 fn has_uncovered(
     book: &Book,
-    rows: Vec<Vec<&Pattern>>,
-    row: Vec<&Pattern>,
+    others: &[&Pattern],
+    pattern: &Pattern,
+    fresh: u8,
     steps: &mut usize,
 ) -> Option<bool> {
-    *steps = steps.checked_sub(1 + rows.len())?;
-    let Some((first, rest)) = row.split_first() else {
-        return Some(rows.is_empty());
+    *steps = steps.checked_sub(1 + others.len())?;
+    let overlaps = |other: &&Pattern| same_operators(other, pattern);
+    let others: Vec<&Pattern> = others.iter().copied().filter(overlaps).collect();
+    if others.iter().any(|other| covers(other, pattern)) {
+        return Some(false);
+    }
+    let mut open = others.iter().filter_map(|other| open_at(other, pattern));
+    let Some(variable) = open.next() else {
+        return Some(true);
     };
-    match first {
-        Pattern::Operator(operator, parts) => {
-            let rows = with_operator(&rows, *operator, parts.len());
-            let row = parts.iter().chain(rest.iter().copied()).collect();
-            has_uncovered(book, rows, row, steps)
+    let mut named = Vec::new();
+    for other in &others {
+        collect_operators(other, pattern, variable, &mut named);
+    }
+    let mut operators: Vec<u8> = (0..book.operators.len() as u8).collect();
+    let unnamed = operators.iter().find(|operator| !named.contains(operator));
+    if let (Some(unnamed), true) = (unnamed, others.iter().all(|other| is_linear(other))) {
+        // What matches with this one matches with any.
+        operators = vec![*unnamed];
+    }
+    for operator in operators {
+        let arity = book.operators[usize::from(operator)].arity;
+        let more = fresh.checked_add(arity)?;
+        let parts = (fresh..more).map(Pattern::Variable).collect();
+        let filled = filled(pattern, variable, &Pattern::Operator(operator, parts));
+        match has_uncovered(book, &others, &filled, more, steps) {
+            Some(false) => {}
+            found => return found,
         }
-        Pattern::Variable(_) => {
-            let stands = |operator: &u8| {
-                let is = |row: &Vec<&Pattern>| matches!(row[0], Pattern::Operator(known, _) if known == operator);
-                rows.iter().any(is)
-            };
-            let mut operators = 0..book.operators.len() as u8;
-            if !operators.clone().all(|operator| stands(&operator)) {
-                let any = |row: &&Vec<&Pattern>| matches!(row[0], Pattern::Variable(_));
-                let rows = rows.iter().filter(any).map(|row| row[1..].to_vec());
-                return has_uncovered(book, rows.collect(), rest.to_vec(), steps);
-            }
-            let each = operators.find_map(|operator| {
-                let arity = usize::from(book.operators[usize::from(operator)].arity);
-                let rows = with_operator(&rows, operator, arity);
-                let row = std::iter::repeat_n(&ANY, arity).chain(rest.iter().copied());
-                match has_uncovered(book, rows, row.collect(), steps) {
-                    Some(false) => None,
-                    found => Some(found),
-                }
-            });
-            each.unwrap_or(Some(false))
+    }
+    Some(false)
+}
+
+/// Whether no two operators that differ stand at one place.
+fn same_operators(one: &Pattern, other: &Pattern) -> bool {
+    match (one, other) {
+        (Pattern::Operator(one, parts), Pattern::Operator(other, others)) => {
+            one == other
+                && parts
+                    .iter()
+                    .zip(others)
+                    .all(|(one, other)| same_operators(one, other))
         }
+        _ => true,
     }
 }
 
-/// The rows that can begin with that operator, with its arguments in its place.
-fn with_operator<'p>(
-    rows: &[Vec<&'p Pattern>],
-    operator: u8,
-    arity: usize,
-) -> Vec<Vec<&'p Pattern>> {
-    let begun = |row: &Vec<&'p Pattern>| -> Option<Vec<&'p Pattern>> {
-        let rest = row[1..].iter().copied();
-        match row[0] {
-            Pattern::Operator(known, _) if *known != operator => None,
-            Pattern::Operator(_, parts) => Some(parts.iter().chain(rest).collect()),
-            Pattern::Variable(_) => Some(std::iter::repeat_n(&ANY, arity).chain(rest).collect()),
+/// The first variable of the pattern at whose place the other has an operator.
+fn open_at(other: &Pattern, pattern: &Pattern) -> Option<u8> {
+    match (other, pattern) {
+        (Pattern::Operator(..), Pattern::Variable(variable)) => Some(*variable),
+        (Pattern::Operator(_, others), Pattern::Operator(_, parts)) => others
+            .iter()
+            .zip(parts)
+            .find_map(|(other, part)| open_at(other, part)),
+        _ => None,
+    }
+}
+
+/// The operators that the other has at the places of a variable.
+fn collect_operators(other: &Pattern, pattern: &Pattern, variable: u8, named: &mut Vec<u8>) {
+    match (other, pattern) {
+        (Pattern::Operator(operator, _), Pattern::Variable(at)) if *at == variable => {
+            named.push(*operator);
         }
-    };
-    rows.iter().filter_map(begun).collect()
+        (Pattern::Operator(_, others), Pattern::Operator(_, parts)) => {
+            for (other, part) in others.iter().zip(parts) {
+                collect_operators(other, part, variable, named);
+            }
+        }
+        _ => {}
+    }
+}
+
+fn is_linear(pattern: &Pattern) -> bool {
+    let side = preorder(pattern);
+    let is_variable = |symbol: &&Symbol| matches!(symbol, Symbol::Variable(_));
+    side.iter().filter(is_variable).count() == variables(&side).len()
+}
+
+/// The pattern with a part at each place of a variable.
+fn filled(pattern: &Pattern, variable: u8, by: &Pattern) -> Pattern {
+    match pattern {
+        Pattern::Variable(at) if *at == variable => by.clone(),
+        Pattern::Variable(_) => pattern.clone(),
+        Pattern::Operator(operator, parts) => {
+            let parts = parts.iter().map(|part| filled(part, variable, by));
+            Pattern::Operator(*operator, parts.collect())
+        }
+    }
 }
 
 /// A part of a left side that is reduced before rules are tried on the whole,

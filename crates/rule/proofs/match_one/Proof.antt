@@ -3,15 +3,15 @@ use mathlib.Core.Path.{sym, _∙_}
 use native.Mathlib.Omega.{arith}
 use borrow.Author.Needs.{needs}
 use lib.Seq.{length-take-le}
-use Rattle.rule.proofs.Matches.{differs-at, step-same, step-variable}
+use Rattle.rule.proofs.Matches.{differs-at, step-same, step-variable, apart-at}
 use Rattle.rule.proofs.match_one.Statement.{statement}
 use Rattle.rule.proofs.match_one.Tie as tie
 
-bind-requires : tie.Need-bind-requires
-bind-requires c κs =
-    let v = c .before .before .before in
-    let small = rw (v .v .given .1) at (v .before .before .symbol-at .ensures .small) in
-    (search needs, small, omega arith, omega arith)
+meet-requires : tie.Need-meet-requires
+meet-requires c κs =
+    let v = c .before .before in
+    let r = v .before .before in
+    (rw (v .v .given .1) at (r .symbol-at .ensures .small), r .before .before .pre .1, r .before .before .pre .2)
 
 returns : tie.Need-returns
 returns c =
@@ -30,12 +30,16 @@ returns-2 c =
 
 returns-3 : tie.Need-returns-3
 returns-3 c =
-    let k = c .before .before in
-    let v = k .before .before in
-    let r = v .before .before in
-    step-variable (r .before .before .pre .2) _ _ _ _ (rw (v .v .given .1) at (r .symbol-at .ensures)) (k .skip .ensures .is) (k .skip .ensures .most)
-    (c .bind .ensures)
+    let m = c .before .before .before in
+    let v = m .before .before .before in
+    step-variable _ _ (rw (v .v .given .1) at (v .before .before .symbol-at .ensures)) (rw (c .before .n .given .1) at (m .meet .ensures))
+
+returns-4 : tie.Need-returns-4
+returns-4 c =
+    let m = c .before .before in
+    let v = m .before .before .before in
+    apart-at _ _ (rw (v .v .given .1) at (v .before .before .symbol-at .ensures)) (rw (c .enum-told .given .1) at (m .meet .ensures))
 
 pub match-one-spec : {M : Type 1} → statement M
 match-one-spec =
-    tie.close (tie.spec (λ c κs. search needs) (λ c. search needs) (λ c κs. search needs) (λ c κs. search needs) (λ c. search needs) (λ c κs. search needs) bind-requires (λ c. search needs) returns returns-2 returns-3)
+    tie.close (tie.spec (λ c κs. search needs) (λ c. search needs) (λ c κs. search needs) (λ c κs. search needs) (λ c. search needs) meet-requires (λ c. search needs) (λ c. search needs) returns returns-2 returns-3 returns-4)
