@@ -7,7 +7,7 @@
 enum { RULES = 32, TERM = 1000, TURNS = 301, INNER = 256 };
 enum { END, TICK, BOTH, PAIR, OPERATORS };
 
-uint8_t bench_book_read(const uint8_t *book, size_t len, uint8_t *operators, uint32_t *rules);
+uint8_t bench_book_read(const uint8_t *book, size_t len, uint16_t day, uint8_t *operators, uint32_t *rules);
 void bench_rule_start(uint8_t *work, size_t work_length, uint16_t *units);
 size_t bench_rule_rewrite(const uint8_t *book, size_t len, const uint8_t *operators, const uint32_t *rules, uint8_t *symbols, size_t size, size_t offset,
     uint8_t *scratch, uint8_t *work, size_t work_length, const uint16_t *units);
@@ -195,7 +195,7 @@ int main(void) {
     static double rattle[TURNS], c[TURNS];
     make_book();
     size_t len = packed_length(&book);
-    if (bench_book_read(book.bytes, len, l.operators, l.rules) || c_read_book(book.bytes, len, &t) || make_term(term) != TERM) return 1;
+    if (bench_book_read(book.bytes, len, 0, l.operators, l.rules) || c_read_book(book.bytes, len, 0, &t) || make_term(term) != TERM) return 1;
     bench_rule_start(l.work, sizeof l.work, l.units);
     for (int i = 0; i < TURNS; i++) {
         rattle[i] = timed(rattle_rewrite, &l, term, ours);

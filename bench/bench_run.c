@@ -54,7 +54,7 @@ static double spent(void) {
 // Runs.
 
 static void run(reducer *reduce, const job *j, result *r) {
-    r->refusal = reduce(j->w->packed.bytes, packed_length(&j->w->packed), j->w->line, j->w->length, j->units, UINT32_MAX, j->schedule, j->entries,
+    r->refusal = reduce(j->w->packed.bytes, packed_length(&j->w->packed), j->w->line, j->w->length, j->units, UINT32_MAX, 0, j->schedule, j->entries,
         r->work, sizeof r->work, r->output, sizeof r->output, r->answer);
 }
 

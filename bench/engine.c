@@ -372,11 +372,12 @@ static int names_units(const uint8_t *schedule, size_t length, unsigned units) {
 }
 
 // The checks from the book on, and the tables.
-static uint8_t prepare(engine *e, const uint8_t *book, size_t book_length, const uint8_t *line, size_t line_length, const uint8_t *schedule,
-    size_t schedule_length) {
-    int fault = c_read_counted(book, book_length, &e->read, &e->rules);
+static uint8_t prepare(engine *e, const uint8_t *book, size_t book_length, uint16_t day, const uint8_t *line, size_t line_length,
+    const uint8_t *schedule, size_t schedule_length) {
+    int fault = c_read_book(book, book_length, day, &e->read);
     if (fault) return (uint8_t)fault;
-    unsigned operators = book[0];
+    unsigned operators = e->read.operators;
+    e->rules = e->read.rules;
     for (unsigned o = 0; o < operators; o++) e->more[o] = (int8_t)(e->read.arities[o] - 1);
     if ((fault = check_line(e, operators, line, line_length))) return (uint8_t)fault;
     if (!names_units(schedule, schedule_length, e->units)) return 14;
@@ -392,7 +393,7 @@ static uint8_t prepare(engine *e, const uint8_t *book, size_t book_length, const
 }
 
 uint8_t REDUCE(const uint8_t *book, size_t book_length, const uint8_t *line, size_t line_length, uint8_t units, uint32_t budget,
-    const uint8_t *schedule, size_t schedule_length, uint8_t *work, size_t work_length, uint8_t *output, size_t output_length, uint64_t *answer) {
+    uint16_t day, const uint8_t *schedule, size_t schedule_length, uint8_t *work, size_t work_length, uint8_t *output, size_t output_length, uint64_t *answer) {
     engine e;
     memset(answer, 0, KURVNEIST_ANSWER_LENGTH * sizeof *answer);
     if (units < 1 || units > UNITS) return 13;
@@ -401,7 +402,7 @@ uint8_t REDUCE(const uint8_t *book, size_t book_length, const uint8_t *line, siz
     e.work = work;
     e.units = units;
     e.budget = budget;
-    uint8_t fault = prepare(&e, book, book_length, line, line_length, schedule, schedule_length);
+    uint8_t fault = prepare(&e, book, book_length, day, line, line_length, schedule, schedule_length);
     if (fault) return fault;
     start(&e);
     int ending = GOING;

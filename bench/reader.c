@@ -121,22 +121,80 @@ static inline void link_rule(uint8_t *chain, unsigned i, unsigned root) {
     chain[last ? 255 + last : root] = chain[512 + root] = (uint8_t)(i + 1);
 }
 
-static void rules(reader *r, unsigned n, unsigned m, tables *t) {
-    memset(t->chain, 0, sizeof t->chain);
-    for (unsigned i = 0; i < m && !r->fault; i++) {
+// What tells of each rule of a dated book whether it stands: its day, and its left side with the variables numbered as they come.
+typedef struct {
+    uint32_t hash[255];
+    uint16_t day[255];
+    uint16_t symbols[255][64];
+    uint8_t length[255];
+} dated_rules;
+
+static void number_left(const reader *r, uint32_t left, uint32_t end, dated_rules *d, unsigned i) {
+    reader s = *r;
+    uint8_t numbers[16] = {0};
+    unsigned met = 0, length = 0;
+    uint32_t hash = 2166136261u;
+    s.at = left;
+    while (s.at < end) {
+        unsigned kind, x = symbol(&s, &kind);
+        if (kind) {
+            if (!numbers[x]) numbers[x] = (uint8_t)++met;
+            x = 256u + numbers[x];
+        }
+        d->symbols[i][length++] = (uint16_t)x;
+        hash = (hash ^ x) * 16777619u;
+    }
+    d->length[i] = (uint8_t)length;
+    d->hash[i] = hash;
+}
+
+static int agree(const dated_rules *d, unsigned i, unsigned j) {
+    return d->length[i] == d->length[j] && !memcmp(d->symbols[i], d->symbols[j], d->length[i] * sizeof **d->symbols);
+}
+
+// Rules of later days are absent; of those whose left sides agree, the latest day stands, and within a day the last.
+static int stands(const dated_rules *d, unsigned m, unsigned i, unsigned day) {
+    if (d->day[i] > day) return 0;
+    for (unsigned j = 0; j < m; j++)
+        if (d->hash[j] == d->hash[i] && d->day[j] <= day && (d->day[j] > d->day[i] || (d->day[j] == d->day[i] && j > i)) && agree(d, i, j)) return 0;
+    return 1;
+}
+
+// Keeps the rules that stand, in book order, and answers how many they are.
+static unsigned keep_standing(const reader *r, unsigned m, unsigned day, dated_rules *d, uint8_t *roots, tables *t) {
+    unsigned kept = 0;
+    for (unsigned i = 0; i < m; i++) number_left(r, t->lefts[i], t->rights[i], d, i);
+    for (unsigned i = 0; i < m; i++) {
+        if (!stands(d, m, i, day)) continue;
+        t->lefts[kept] = t->lefts[i];
+        t->rights[kept] = t->rights[i];
+        roots[kept++] = roots[i];
+    }
+    return kept;
+}
+
+static void rules(reader *r, unsigned n, unsigned m, int dated, dated_rules *d, uint8_t *roots, tables *t) {
+    for (unsigned i = 0; i < m; i++) {
         unsigned vars = 0;
+        if (dated) {
+            d->day[i] = (uint16_t)(field(r, 8) << 8);
+            d->day[i] |= (uint16_t)field(r, 8);
+            if (r->fault) return;
+        }
         t->lefts[i] = (uint32_t)r->at;
-        unsigned root = side(r, n, t, &vars, 1);
+        roots[i] = (uint8_t)side(r, n, t, &vars, 1);
         if (r->fault) return;
         t->rights[i] = (uint32_t)r->at;
         side(r, n, t, &vars, 0);
         if (r->fault) return;
-        link_rule(t->chain, i, root);
     }
 }
 
-int c_read_counted(const uint8_t *book, size_t len, tables *t, unsigned *rule_count) {
-    reader r = {book, 8 * len, 0, 0};
+int c_read_book(const uint8_t *book, size_t len, uint16_t day, tables *t) {
+    int dated = len && !book[0];
+    reader r = {book, 8 * len, dated ? 8 : 0, 0};
+    dated_rules d;
+    uint8_t roots[255];
     unsigned n = field(&r, 8);
     if (r.fault) return 1;
     if (!n) return 2;
@@ -144,15 +202,14 @@ int c_read_counted(const uint8_t *book, size_t len, tables *t, unsigned *rule_co
     if (r.fault) return r.fault;
     unsigned m = field(&r, 8);
     if (r.fault) return 1;
-    rules(&r, n, m, t);
+    rules(&r, n, m, dated, &d, roots, t);
     if (r.fault) return r.fault;
-    *rule_count = m;
     size_t left = r.bits - r.at;
     if (left >= 8 || (left && field(&r, (unsigned)left))) return 9;
+    if (dated) m = keep_standing(&r, m, day, &d, roots, t);
+    t->operators = n;
+    t->rules = m;
+    memset(t->chain, 0, sizeof t->chain);
+    for (unsigned i = 0; i < m; i++) link_rule(t->chain, i, roots[i]);
     return 0;
-}
-
-int c_read_book(const uint8_t *book, size_t len, tables *t) {
-    unsigned m;
-    return c_read_counted(book, len, t, &m);
 }

@@ -4,6 +4,8 @@
 #include <stddef.h>
 
 typedef struct {
+    unsigned operators;
+    unsigned rules; // of a dated book those that stand on the day
     uint8_t arities[256];
     uint8_t laid[4096];
     uint32_t lefts[256];
@@ -11,9 +13,6 @@ typedef struct {
     uint8_t chain[768]; // by root: the first rule, one added, 0 for none; from 256 on the next by rule; from 512 on the last, used while rules are read
 } tables;
 
-// 0, or the number of the refusal.
-int c_read_book(const uint8_t *book, size_t len, tables *t);
-
-// The same, and how many rules there are.
-int c_read_counted(const uint8_t *book, size_t len, tables *t, unsigned *rule_count);
+// 0, or the number of the refusal. Of a dated book the tables have the rules that stand on the day; an undated one ignores it.
+int c_read_book(const uint8_t *book, size_t len, uint16_t day, tables *t);
 #endif

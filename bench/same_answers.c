@@ -19,6 +19,7 @@ typedef struct {
     size_t book_length, line_length, schedule_length;
     uint8_t units;
     uint32_t budget;
+    uint16_t day;
 } input;
 
 static size_t read_file(const char *path, uint8_t *bytes) {
@@ -46,13 +47,19 @@ static int take_apart(const uint8_t *bytes, size_t n, input *in) {
     in->units = at[0];
     in->budget = (uint32_t)at[1] << 24 | (uint32_t)at[2] << 16 | (uint32_t)at[3] << 8 | at[4];
     in->schedule = at + 5;
+    in->day = 0;
+    if (in->book_length && !in->book[0]) {
+        if (end - in->schedule < 2) return 0;
+        in->day = (uint16_t)(at[5] << 8 | at[6]);
+        in->schedule += 2;
+    }
     in->schedule_length = (size_t)(end - in->schedule);
     return in->schedule_length <= 32768;
 }
 
 static void run(reducer *reduce, const input *in, result *r) {
     memset(r, 0xa5, sizeof *r);
-    r->refusal = reduce(in->book, in->book_length, in->line, in->line_length, in->units, in->budget, in->schedule, in->schedule_length,
+    r->refusal = reduce(in->book, in->book_length, in->line, in->line_length, in->units, in->budget, in->day, in->schedule, in->schedule_length,
         r->work, sizeof r->work, r->output, sizeof r->output, r->answer);
 }
 

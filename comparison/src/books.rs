@@ -14,10 +14,7 @@ pub fn draft(random: &mut Random) -> Draft {
 }
 
 fn any_draft(random: &mut Random) -> Draft {
-    let mut draft = Draft {
-        operators: operators(random),
-        rules: Vec::new(),
-    };
+    let mut draft = Draft::new(operators(random), Vec::new());
     let count = match random.below(60) {
         0 => 255,
         1 => random.between(40, 254),
@@ -197,7 +194,7 @@ pub fn rule(
 ) -> Option<RuleDraft> {
     let left = left_side(random, draft, root, habits.left_limit)?;
     let right = right_side(random, draft, root, &left, habits)?;
-    Some(RuleDraft { left, right })
+    Some(RuleDraft::new(left, right))
 }
 
 fn left_side(random: &mut Random, draft: &Draft, root: u8, limit: usize) -> Option<Vec<Symbol>> {
@@ -321,10 +318,7 @@ fn arithmetic(random: &mut Random) -> Draft {
             strategy: arithmetic_strategy(random, arity),
         })
         .collect();
-    let mut draft = Draft {
-        operators,
-        rules: arithmetic_rules(),
-    };
+    let mut draft = Draft::new(operators, arithmetic_rules());
     if random.one_in(4) {
         random.shuffle(&mut draft.rules);
     }
@@ -340,10 +334,7 @@ fn arithmetic_strategy(random: &mut Random, arity: u8) -> Option<Vec<u8>> {
 }
 
 fn arithmetic_rules() -> Vec<RuleDraft> {
-    let rule = |left: &[Symbol], right: &[Symbol]| RuleDraft {
-        left: left.into(),
-        right: right.into(),
-    };
+    let rule = |left: &[Symbol], right: &[Symbol]| RuleDraft::new(left.into(), right.into());
     vec![
         rule(&[SUM, ZERO, Y], &[Y]),
         rule(&[SUM, NEXT, X, Y], &[NEXT, SUM, X, Y]),
@@ -380,14 +371,11 @@ fn matching(random: &mut Random) -> Draft {
     let mut rules = matching_rules();
     random.shuffle(&mut rules);
     rules.truncate(random.between(1, 4));
-    Draft { operators, rules }
+    Draft::new(operators, rules)
 }
 
 fn matching_rules() -> Vec<RuleDraft> {
-    let rule = |left: &[Symbol], right: &[Symbol]| RuleDraft {
-        left: left.into(),
-        right: right.into(),
-    };
+    let rule = |left: &[Symbol], right: &[Symbol]| RuleDraft::new(left.into(), right.into());
     vec![
         rule(&[PAIR, X, X], &[ENTRY, X]),
         rule(&[PAIR, ENTRY, X, PAIR, X, Y], &[PAIR, X, Y]),

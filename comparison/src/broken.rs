@@ -7,7 +7,8 @@ use std::collections::HashMap;
 use std::io;
 
 use crate::model::{
-    self, Answer, Book, Filling, Form, Item, Machine, Operator, Order, Pattern, Term, Unit, GAP,
+    self, Answer, Book, Filling, Form, Item, Machine, Operator, Order, Pattern, Rule, Term, Unit,
+    GAP,
 };
 use crate::program::Pages;
 use crate::subject::{hand_over, ModelSubject, Question, Subject, Told, Written, MODEL_PUBLISHED};
@@ -70,9 +71,29 @@ pub enum Slip {
     Last,
     /// A repeated variable is bound anew.
     Anew,
+    /// Within a day the first rule in the book stands.
+    Earlier,
+    /// A rule of the run's own day is taken as later.
+    Own,
+    /// Left sides agree whatever variables they repeat.
+    Naming,
+    /// Left sides agree only under the same names.
+    Names,
+    /// Rules of later days replace others before they are absent.
+    Ahead,
+    /// Rules that stand are tried by day, the latest first.
+    ByDay,
+    /// Rules of an undated book replace each other too.
+    Undated,
+    /// Books are written without their days.
+    Days,
+    /// The day's low byte is taken to come first.
+    Low,
+    /// An input has a day whatever its book.
+    Always,
 }
 
-pub const SLIPS: [(&str, Slip); 28] = [
+pub const SLIPS: [(&str, Slip); 38] = [
     ("join", Slip::Join),
     ("list", Slip::List),
     ("zeros", Slip::Zeros),
@@ -101,7 +122,24 @@ pub const SLIPS: [(&str, Slip); 28] = [
     ("lengths", Slip::Lengths),
     ("last", Slip::Last),
     ("anew", Slip::Anew),
+    ("earlier", Slip::Earlier),
+    ("own", Slip::Own),
+    ("naming", Slip::Naming),
+    ("names", Slip::Names),
+    ("ahead", Slip::Ahead),
+    ("by-day", Slip::ByDay),
+    ("undated", Slip::Undated),
+    ("days", Slip::Days),
+    ("low", Slip::Low),
+    ("always", Slip::Always),
 ];
+
+impl Slip {
+    /// Does it show in pages only?
+    pub fn is_of_pages(self) -> bool {
+        matches!(self, Slip::Lines | Slip::Low | Slip::Always)
+    }
+}
 
 pub struct BrokenModel {
     pub slip: Slip,
@@ -127,6 +165,7 @@ impl Subject for BrokenModel {
     fn written(&mut self, book: &[u8], output: &mut [u8]) -> Written {
         match (self.slip, model::read_book(book)) {
             (Slip::Given, Ok(book)) => write_given(book, output),
+            (Slip::Days, Ok(book)) => write_undated(book, output),
             _ => ModelSubject.written(book, output),
         }
     }
@@ -135,10 +174,12 @@ impl Subject for BrokenModel {
 /// The other slips don't show here: their pages are sound.
 impl Pages for BrokenModel {
     fn page(&self, form: Form, input: &[u8]) -> io::Result<Vec<u8>> {
-        let page = model::page_of(form, input);
+        let page = |input: &[u8]| model::page_of(form, input);
         Ok(match self.slip {
-            Slip::Lines => with_kept_above_granted(&page),
-            _ => page,
+            Slip::Lines => with_kept_above_granted(&page(input)),
+            Slip::Low => page(&with_day_swapped(input)),
+            Slip::Always => page(&without_ignored_day(input)),
+            _ => page(input),
         })
     }
 }
@@ -157,7 +198,7 @@ impl BrokenModel {
 
     fn broken_answer(&self, question: &Question, work: usize, output: usize) -> Result<Answer, u8> {
         model::check_frame(question.units, work, output, MODEL_PUBLISHED)?;
-        let book = self.broken_book(question.book)?;
+        let book = self.broken_book(question.book, question.day)?;
         if self.slip == Slip::Order {
             model::check_schedule(question.schedule, question.units)?;
         }
@@ -171,20 +212,67 @@ impl BrokenModel {
         Ok(machine.answer(ending))
     }
 
-    fn broken_book(&self, bytes: &[u8]) -> Result<Book, u8> {
+    fn broken_book(&self, bytes: &[u8], day: u16) -> Result<Book, u8> {
         let bytes = match bytes {
             [before @ .., 0] if self.slip == Slip::Padding && model::read_book(before).is_ok() => {
                 before
             }
             _ => bytes,
         };
-        let mut book = model::read_book(bytes)?;
+        let mut book = self.broken_day(model::read_book(bytes)?, day);
         match self.slip {
             Slip::Zeros => settle_zeros_first(&mut book),
             Slip::Longest => book.rules.sort_by_key(|rule| usize::MAX - rule.left.size()),
             _ => {}
         }
         Ok(book)
+    }
+
+    /// The book of a day. Slips in which rules stand are made by changing the
+    /// dated book, so that the model's own answer is the wrong one.
+    fn broken_day(&self, mut book: Book, day: u16) -> Book {
+        match (self.slip, &mut book.days) {
+            (Slip::Earlier, Some(days)) => {
+                days.reverse();
+                book.rules.reverse();
+                let mut book = book.on_day(day);
+                book.rules.reverse();
+                return book;
+            }
+            (Slip::Own, Some(_)) => return before_day(book, day),
+            (Slip::Naming | Slip::Names | Slip::Ahead, Some(days)) => {
+                let days = days.clone();
+                return self.standing_otherwise(&book, &days, day);
+            }
+            (Slip::ByDay, Some(days)) => sort_by_day(&mut book.rules, days),
+            (Slip::Undated, None) => book.days = Some(vec![0; book.rules.len()]),
+            _ => {}
+        }
+        book.on_day(day)
+    }
+
+    /// The rules that stand if the slip says which left sides agree, or which
+    /// rules replace others.
+    fn standing_otherwise(&self, book: &Book, days: &[u16], day: u16) -> Book {
+        let agree = |one: &Pattern, other: &Pattern| match self.slip {
+            Slip::Naming => one.unnamed() == other.unnamed(),
+            Slip::Names => one == other,
+            _ => one.agrees(other),
+        };
+        let present = |place: usize| days[place] <= day;
+        let replaced = |place: usize| {
+            (0..days.len()).any(|other| {
+                (present(other) || self.slip == Slip::Ahead)
+                    && (days[other], other) > (days[place], place)
+                    && agree(&book.rules[other].left, &book.rules[place].left)
+            })
+        };
+        let standing = (0..days.len()).filter(|&place| present(place) && !replaced(place));
+        Book {
+            rules: standing.map(|place| book.rules[place].clone()).collect(),
+            days: None,
+            operators: book.operators.clone(),
+        }
     }
 
     fn broken_text(&self, book: &Book, text: &[u8]) -> Result<Term, u8> {
@@ -251,6 +339,26 @@ impl BrokenModel {
         }
         model::ending::CUT
     }
+}
+
+/// On day 0 no rule is left.
+fn before_day(mut book: Book, day: u16) -> Book {
+    match day.checked_sub(1) {
+        Some(before) => book.on_day(before),
+        None => {
+            book.rules.clear();
+            book.days = None;
+            book
+        }
+    }
+}
+
+/// The latest day first, within a day as in the book.
+fn sort_by_day(rules: &mut Vec<Rule>, days: &mut Vec<u16>) {
+    let mut places: Vec<usize> = (0..days.len()).collect();
+    places.sort_by_key(|&place| u16::MAX - days[place]);
+    *rules = places.iter().map(|&place| rules[place].clone()).collect();
+    *days = places.iter().map(|&place| days[place]).collect();
 }
 
 /// The book with sound class operators wherever the classes don't name them.
@@ -525,6 +633,38 @@ fn with_kept_above_granted(page: &[u8]) -> Vec<u8> {
     lines.concat()
 }
 
+/// Where a day stands in an input, or would: behind the budget.
+fn day_place(input: &[u8]) -> Option<usize> {
+    let length = |place: usize| {
+        let bytes = input.get(place..place + 2)?;
+        Some(usize::from(u16::from_be_bytes([bytes[0], bytes[1]])))
+    };
+    let line = 2 + length(0)?;
+    let day = line + 2 + length(line)? + 5;
+    (day + 2 <= input.len()).then_some(day)
+}
+
+fn is_input_dated(input: &[u8]) -> bool {
+    !input.starts_with(&[0, 0]) && input.get(2) == Some(&0)
+}
+
+fn with_day_swapped(input: &[u8]) -> Vec<u8> {
+    let mut input = input.to_vec();
+    if let (true, Some(place)) = (is_input_dated(&input), day_place(&input)) {
+        input.swap(place, place + 1);
+    }
+    input
+}
+
+/// The first two entries of an undated book's schedule are taken for a day.
+fn without_ignored_day(input: &[u8]) -> Vec<u8> {
+    let mut input = input.to_vec();
+    if let (false, Some(place)) = (is_input_dated(&input), day_place(&input)) {
+        input.drain(place..place + 2);
+    }
+    input
+}
+
 /// A slip can leave orders whose part or JOIN is gone. The model would stop
 /// there, and nothing would be left to compare.
 fn drop_stray_orders(machine: &mut Machine, unit: usize) {
@@ -554,7 +694,16 @@ fn write_given(mut book: Book, output: &mut [u8]) -> Written {
             operator.strategy = given;
         }
     }
-    let bytes = model::write_book(&book);
+    hand_over_book(&book, output)
+}
+
+fn write_undated(mut book: Book, output: &mut [u8]) -> Written {
+    book.days = None;
+    hand_over_book(&book, output)
+}
+
+fn hand_over_book(book: &Book, output: &mut [u8]) -> Written {
+    let bytes = model::write_book(book);
     match output.get_mut(..bytes.len()) {
         None => Written {
             refusal: model::refusal::OUTPUT,

@@ -3,11 +3,12 @@
 use std::fmt::{self, Display, Formatter};
 use std::ops::Range;
 
+use crate::days::{self, Days};
 use crate::draft::Case;
 use crate::model::refusal::OF_BOOKS;
 use crate::model::{self, Answer, Form};
 use crate::random;
-use crate::repeats::{Repeats, KINDS};
+use crate::repeats::{self, Repeats};
 use crate::shrink::shrink;
 use crate::subject::{Question, Subject, Told, Written};
 
@@ -28,6 +29,7 @@ pub struct Tally {
     pub books_written: u64,
     pub writer_refusals: [u64; 20],
     pub repeats: Repeats,
+    pub days: Days,
 }
 
 impl Tally {
@@ -40,8 +42,10 @@ impl Tally {
         };
         let all = [&OF_BOOKS[..], &OTHERS].concat();
         let of_text = [&OF_BOOKS[..], &[13, 14, 15, 16, 18, 19]].concat();
-        let kinds = KINDS.iter().zip(self.repeats.counts);
-        let kinds = kinds.filter(|(_, count)| *count == 0);
+        let unmet_kinds = |name: &str, kinds: &[&str], counts: &[u64]| -> Vec<String> {
+            let kinds = kinds.iter().zip(counts).filter(|(_, count)| **count == 0);
+            kinds.map(|(kind, _)| format!("{name} {kind}")).collect()
+        };
         [
             unmet("ending", &[0, 1, 2, 3], &self.endings),
             unmet("refusal", &all, &self.refusals),
@@ -49,9 +53,12 @@ impl Tally {
             unmet("a text's refusal", &of_text, &self.text_refusals),
             unmet("writer's refusal", &OF_BOOKS, &self.writer_refusals),
             unmet("writer's refusal", &[16], &self.writer_refusals),
-            kinds
-                .map(|(kind, _)| format!("parts of a repeated variable {kind}"))
-                .collect(),
+            unmet_kinds(
+                "parts of a repeated variable",
+                &repeats::KINDS,
+                &self.repeats.counts,
+            ),
+            unmet_kinds("rules or runs", &days::KINDS, &self.days.counts),
         ]
         .concat()
     }
@@ -157,8 +164,9 @@ impl<'a> Comparison<'a> {
         let question = Question::of(case, book);
         let expected = question.answer(work_len, case.output_len, published);
         self.tally.count_run(case.form, &expected);
-        if expected.is_ok() {
+        if let Ok(answer) = &expected {
             self.tally.repeats.count(&question);
+            self.tally.days.count(&question, answer);
         }
         let work = self.work.lend(work_len, case.junk);
         let output = self.output.lend(case.output_len, !case.junk);
@@ -268,9 +276,10 @@ fn form_name(case: &Case) -> &'static str {
 
 fn sizes(case: &Case) -> String {
     format!(
-        "{} operators, {} rules, {} book bytes, {} of {}, {} units, schedule of {}",
+        "{} operators, {} {}rules, {} book bytes, {} of {}, {} units, schedule of {}",
         case.draft.operators.len(),
         case.draft.rules.len(),
+        if case.draft.dated { "dated " } else { "" },
         case.book().len(),
         form_name(case),
         case.line.len(),
@@ -284,6 +293,7 @@ fn write_case(text: &mut Formatter, case: &Case) -> fmt::Result {
     writeln!(text, "{}     {}", form_name(case), hexadecimal(&case.line))?;
     writeln!(text, "units    {}", case.units)?;
     writeln!(text, "budget   {}", case.budget)?;
+    writeln!(text, "day      {}", case.day)?;
     writeln!(text, "schedule {}", hexadecimal(&case.schedule))?;
     writeln!(text, "work     published length {:+}", case.work_offset)?;
     writeln!(text, "output   {}", case.output_len)?;
@@ -317,6 +327,6 @@ impl Display for Tally {
                 writeln!(text, "writer refused {number:2}  {count}")?;
             }
         }
-        write!(text, "{}", self.repeats)
+        write!(text, "{}{}", self.repeats, self.days)
     }
 }

@@ -16,11 +16,27 @@ pub struct OperatorDraft {
     pub strategy: Option<Vec<u8>>,
 }
 
-/// Two sides in preorder.
+/// Two sides in preorder, and a day, which an undated draft ignores.
 #[derive(Clone, Debug, PartialEq, Eq)]
 pub struct RuleDraft {
     pub left: Vec<Symbol>,
     pub right: Vec<Symbol>,
+    pub day: u16,
+}
+
+impl RuleDraft {
+    /// A rule of day 0.
+    pub fn new(left: Vec<Symbol>, right: Vec<Symbol>) -> RuleDraft {
+        RuleDraft {
+            left,
+            right,
+            day: 0,
+        }
+    }
+
+    pub fn on(self, day: u16) -> RuleDraft {
+        RuleDraft { day, ..self }
+    }
 }
 
 /// At most 255 operators and 255 rules.
@@ -28,17 +44,40 @@ pub struct RuleDraft {
 pub struct Draft {
     pub operators: Vec<OperatorDraft>,
     pub rules: Vec<RuleDraft>,
+    pub dated: bool,
 }
 
 impl Draft {
+    /// An undated draft.
+    pub fn new(operators: Vec<OperatorDraft>, rules: Vec<RuleDraft>) -> Draft {
+        Draft {
+            operators,
+            rules,
+            dated: false,
+        }
+    }
+
+    pub fn dated(self) -> Draft {
+        Draft {
+            dated: true,
+            ..self
+        }
+    }
+
     pub fn encode(&self) -> Vec<u8> {
         let mut packer = Packer::default();
+        if self.dated {
+            packer.put(0, 8);
+        }
         packer.put(self.operators.len() as u8, 8);
         for operator in &self.operators {
             encode_operator(&mut packer, operator);
         }
         packer.put(self.rules.len() as u8, 8);
         for rule in &self.rules {
+            if self.dated {
+                packer.put_day(rule.day);
+            }
             encode_side(&mut packer, &rule.left);
             encode_side(&mut packer, &rule.right);
         }
@@ -136,6 +175,8 @@ pub struct Case {
     pub line: Vec<u8>,
     pub units: u8,
     pub budget: u32,
+    /// Named also where the book is undated, and has to be ignored there.
+    pub day: u16,
     pub schedule: Vec<u8>,
     /// The work area's length less the published length, which depends on
     /// the implementation.
@@ -150,7 +191,7 @@ pub struct Case {
 }
 
 impl Case {
-    /// A line that is a term, without fault in its frame.
+    /// A line that is a term on day 0, without fault in its frame.
     pub fn new(draft: Draft, line: Vec<u8>, units: u8, budget: u32, schedule: Vec<u8>) -> Case {
         Case {
             draft,
@@ -159,6 +200,7 @@ impl Case {
             line,
             units,
             budget,
+            day: 0,
             schedule,
             work_offset: 0,
             output_len: OUTPUT_LEN,
@@ -183,13 +225,17 @@ impl Case {
     /// The program's input for this case, where the lengths fit their fields.
     pub fn input(&self) -> Option<Vec<u8>> {
         let mut input = Vec::new();
-        for announced in [&self.book(), &self.line] {
+        let book = self.book();
+        for announced in [&book, &self.line] {
             let length = u16::try_from(announced.len()).ok()?;
             input.extend(length.to_be_bytes());
             input.extend(announced);
         }
         input.push(self.units);
         input.extend(self.budget.to_be_bytes());
+        if book.first() == Some(&0) {
+            input.extend(self.day.to_be_bytes());
+        }
         input.extend(&self.schedule);
         input.truncate(input.len().saturating_sub(self.cut));
         Some(input)

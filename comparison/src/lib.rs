@@ -3,18 +3,21 @@
 //!
 //! - `model`: the definitions, written for reading.
 //! - `draft`: books and cases as fields that may break any rule.
-//! - `random`, `books`, `texts`, `grow`, `faults`: random cases.
+//! - `random`, `books`, `dates`, `texts`, `grow`, `faults`: random cases.
 //! - `subject`: what an implementation under comparison must offer.
 //! - `compare`, `shrink`: the comparison, and how a difference is made small.
 //! - `repeats`: what the cases try of variables that stand again on the left.
+//! - `days`: what they try of rules with days.
 //! - `broken`: the model with one slip, to show that slips are found.
 //! - `library`: the static library as a subject, under the feature `library`.
 //! - `program`: the pages of the programs `reduce` and `payee`.
-//! - `vectors`: pages from outside.
+//! - `vectors`: pages and written books from outside.
 
 pub mod books;
 pub mod broken;
 pub mod compare;
+pub mod dates;
+pub mod days;
 pub mod draft;
 pub mod faults;
 pub mod grow;

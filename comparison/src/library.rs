@@ -19,6 +19,7 @@ impl Subject for Library {
         let request = Request::new(question.book, question.line)
             .units(question.units)
             .budget(question.budget)
+            .day(question.day)
             .schedule(question.schedule);
         let call = match question.form {
             Form::Line => raw::reduce,

@@ -156,6 +156,47 @@ impl Pattern {
             }
         }
     }
+
+    /// The side with one name for all variables.
+    pub fn unnamed(&self) -> Pattern {
+        match self {
+            Pattern::Variable(_) => Pattern::Variable(0),
+            Pattern::Operator(operator, arguments) => {
+                Pattern::Operator(*operator, arguments.iter().map(Pattern::unnamed).collect())
+            }
+        }
+    }
+
+    /// Do two sides agree up to the naming of variables?
+    pub fn agrees(&self, other: &Pattern) -> bool {
+        self.is_renamed(other, &mut Vec::new())
+    }
+
+    /// `names` are pairs of a variable here and its name in the other side; no
+    /// variable of either side stands in two of them.
+    fn is_renamed(&self, other: &Pattern, names: &mut Vec<(u8, u8)>) -> bool {
+        match (self, other) {
+            (Pattern::Variable(one), Pattern::Variable(other)) => {
+                let pair = (*one, *other);
+                let mut of_either = names.iter().filter(|(a, b)| a == one || b == other);
+                match of_either.next() {
+                    Some(found) => *found == pair,
+                    None => {
+                        names.push(pair);
+                        true
+                    }
+                }
+            }
+            (Pattern::Operator(one, parts), Pattern::Operator(other, others)) => {
+                one == other
+                    && parts
+                        .iter()
+                        .zip(others)
+                        .all(|(part, other)| part.is_renamed(other, names))
+            }
+            _ => false,
+        }
+    }
 }
 
 fn filled_variable<'t>(filling: &Filling<'t>, variable: u8) -> &'t Term {
@@ -166,6 +207,8 @@ fn filled_variable<'t>(filling: &Filling<'t>, variable: u8) -> &'t Term {
 pub struct Rule {
     pub left: Pattern,
     pub right: Pattern,
+    /// Its place in the book, counted from 0.
+    pub place: usize,
 }
 
 #[derive(Clone, Debug, PartialEq, Eq)]
@@ -188,9 +231,42 @@ pub struct Operator {
 pub struct Book {
     pub operators: Vec<Operator>,
     pub rules: Vec<Rule>,
+    /// The day of each rule, if the book is dated.
+    pub days: Option<Vec<u16>>,
 }
 
 impl Book {
+    /// The book that a run on this day goes by: the rules that stand, in book
+    /// order. An undated book ignores the day.
+    pub fn on_day(&self, day: u16) -> Book {
+        let rules = match &self.days {
+            None => self.rules.clone(),
+            Some(days) => {
+                let places = 0..self.rules.len();
+                let standing = places.filter(|&place| self.stands(days, place, day));
+                standing.map(|place| self.rules[place].clone()).collect()
+            }
+        };
+        Book {
+            operators: self.operators.clone(),
+            rules,
+            days: None,
+        }
+    }
+
+    /// Rules of later days are absent. Of those whose left sides agree, only
+    /// the latest day stands, and within a day the last in the book.
+    fn stands(&self, days: &[u16], place: usize, day: u16) -> bool {
+        let is_present = |other: usize| days[other] <= day;
+        let is_later = |other: usize| (days[other], other) > (days[place], place);
+        let left = &self.rules[place].left;
+        let mut others = 0..self.rules.len();
+        is_present(place)
+            && !others.any(|other| {
+                is_present(other) && is_later(other) && self.rules[other].left.agrees(left)
+            })
+    }
+
     /// The first rule in book order whose left side matches.
     pub fn first_match<'b, 't>(&'b self, term: &'t Term) -> Option<(&'b Rule, Filling<'t>)> {
         self.rules.iter().find_map(|rule| {
@@ -273,6 +349,10 @@ impl Bits<'_> {
         Ok(value)
     }
 
+    fn take_day(&mut self) -> Result<u16, u8> {
+        Ok(u16::from_be_bytes([self.take(8)?, self.take(8)?]))
+    }
+
     fn next_bit(&mut self) -> u8 {
         let bit = self.bytes[self.position / 8] >> (7 - self.position % 8) & 1;
         self.position += 1;
@@ -280,12 +360,38 @@ impl Bits<'_> {
     }
 }
 
+/// A dated book starts with a byte 0.
+pub fn is_dated(book: &[u8]) -> bool {
+    book.first() == Some(&0)
+}
+
+/// A book in either form.
 pub fn read_book(bytes: &[u8]) -> Result<Book, u8> {
+    match bytes {
+        [0, rest @ ..] => read_layout(rest, true),
+        _ => read_layout(bytes, false),
+    }
+}
+
+/// The layout that both forms share, but for the days.
+fn read_layout(bytes: &[u8], dated: bool) -> Result<Book, u8> {
     let mut bits = Bits { bytes, position: 0 };
     let operators = read_operators(&mut bits)?;
-    let rules = read_rules(&mut bits, &operators)?;
+    let count = bits.take(8)?;
+    let mut rules = Vec::new();
+    let mut days = dated.then(Vec::new);
+    for _ in 0..count {
+        if let Some(days) = &mut days {
+            days.push(bits.take_day()?);
+        }
+        rules.push(read_rule(&mut bits, &operators, rules.len())?);
+    }
     read_end(&mut bits)?;
-    Ok(Book { operators, rules })
+    Ok(Book {
+        operators,
+        rules,
+        days,
+    })
 }
 
 fn read_operators(bits: &mut Bits) -> Result<Vec<Operator>, u8> {
@@ -348,12 +454,7 @@ fn read_item(
     Ok(())
 }
 
-fn read_rules(bits: &mut Bits, operators: &[Operator]) -> Result<Vec<Rule>, u8> {
-    let count = bits.take(8)?;
-    (0..count).map(|_| read_rule(bits, operators)).collect()
-}
-
-fn read_rule(bits: &mut Bits, operators: &[Operator]) -> Result<Rule, u8> {
+fn read_rule(bits: &mut Bits, operators: &[Operator], place: usize) -> Result<Rule, u8> {
     let mut on_left = Vec::new();
     let left = read_side(bits, operators, &mut |variable, symbols_before| {
         if symbols_before == 0 {
@@ -369,7 +470,7 @@ fn read_rule(bits: &mut Bits, operators: &[Operator]) -> Result<Rule, u8> {
             Err(refusal::VARIABLE_ABSENT)
         }
     })?;
-    Ok(Rule { left, right })
+    Ok(Rule { left, right, place })
 }
 
 /// Tells whether a variable may stand after so many symbols of its side.
@@ -436,6 +537,12 @@ impl Packer {
         }
     }
 
+    pub fn put_day(&mut self, day: u16) {
+        for byte in day.to_be_bytes() {
+            self.put(byte, 8);
+        }
+    }
+
     fn put_bit(&mut self, bit: u8) {
         if self.used == self.bytes.len() * 8 {
             self.bytes.push(0);
@@ -458,15 +565,22 @@ pub fn written(book: &[u8], output_len: usize) -> Result<Vec<u8>, u8> {
     Ok(bytes)
 }
 
-/// Counts of a book that was read fit their fields: settling only shortens.
+/// Keeps the book's form, days included, and rules that don't stand. Counts of
+/// a book that was read fit their fields: settling only shortens.
 pub fn write_book(book: &Book) -> Vec<u8> {
     let mut packer = Packer::default();
+    if book.days.is_some() {
+        packer.put(0, 8);
+    }
     packer.put(book.operators.len() as u8, 8);
     for operator in &book.operators {
         write_operator(&mut packer, operator);
     }
     packer.put(book.rules.len() as u8, 8);
-    for rule in &book.rules {
+    for (place, rule) in book.rules.iter().enumerate() {
+        if let Some(days) = &book.days {
+            packer.put_day(days[place]);
+        }
         write_pattern(&mut packer, &rule.left);
         write_pattern(&mut packer, &rule.right);
     }
@@ -958,6 +1072,7 @@ pub fn answer(
     line: &[u8],
     units: u8,
     budget: u32,
+    day: u16,
     schedule: &[u8],
     work_len: usize,
     output_len: usize,
@@ -969,6 +1084,7 @@ pub fn answer(
         line,
         units,
         budget,
+        day,
         schedule,
         work_len,
         output_len,
@@ -983,13 +1099,14 @@ pub fn answer_to(
     line: &[u8],
     units: u8,
     budget: u32,
+    day: u16,
     schedule: &[u8],
     work_len: usize,
     output_len: usize,
     published: usize,
 ) -> Result<Answer, u8> {
     check_frame(units, work_len, output_len, published)?;
-    let book = read_book(book)?;
+    let book = read_book(book)?.on_day(day);
     let line = form.read(&book, line)?;
     check_schedule(schedule, units)?;
     let mut machine = Machine::new(&book, line, units, budget);
@@ -1047,10 +1164,14 @@ fn page_answer(form: Form, input: &[u8]) -> Result<Answer, u8> {
     let line = take_announced(&mut rest)?;
     let units = take_number(&mut rest, 1)? as u8;
     let budget = take_number(&mut rest, 4)?;
+    let day = match is_dated(book) {
+        true => take_number(&mut rest, 2)? as u16,
+        false => 0,
+    };
     if rest.len() > SCHEDULE_LIMIT {
         return Err(refusal::INPUT);
     }
-    answer_to(form, book, line, units, budget, rest, 0, OUTPUT_LEN, 0)
+    answer_to(form, book, line, units, budget, day, rest, 0, OUTPUT_LEN, 0)
 }
 
 fn take_announced<'a>(rest: &mut &'a [u8]) -> Result<&'a [u8], u8> {

@@ -4,6 +4,7 @@
 //! to three faults, so that the order in which faults are told is met too.
 
 use crate::books::draft;
+use crate::dates;
 use crate::draft::{Case, Draft};
 use crate::faults::spoil;
 use crate::grow::line;
@@ -72,8 +73,7 @@ impl Random {
     }
 }
 
-/// The numbered case of a seed. Every third one is a text; the others are
-/// those that a seed had when all were lines.
+/// The numbered case of a seed. Every third one is a text.
 pub fn numbered(seed: u64, number: u64) -> Case {
     let mut random = Random::for_case(seed, number);
     let mut case = match number % 3 {
@@ -89,14 +89,16 @@ pub fn numbered(seed: u64, number: u64) -> Case {
 
 /// A line that is a term.
 pub fn case(random: &mut Random) -> Case {
-    let draft = draft(random);
+    let mut draft = draft(random);
+    dates::date(random, &mut draft);
     let line = line(random, &draft);
     completed(random, draft, Form::Line, line)
 }
 
 pub fn text_case(random: &mut Random) -> Case {
     let alphabet = texts::alphabet(random);
-    let draft = texts::draft(random, &alphabet);
+    let mut draft = texts::draft(random, &alphabet);
+    dates::date(random, &mut draft);
     let text = texts::text(random, &alphabet, &draft);
     completed(random, draft, Form::Text, text)
 }
@@ -107,6 +109,7 @@ fn completed(random: &mut Random, draft: Draft, form: Form, line: Vec<u8>) -> Ca
     let budget = budget(random);
     let mut case = Case::new(draft, line, units, budget, schedule);
     case.form = form;
+    case.day = dates::day(random, &case.draft);
     case.writer_offset = *random.pick(&[-1, 0, 0, 7]);
     if random.one_in(4) {
         sharpen(random, &mut case);
@@ -183,11 +186,14 @@ fn sharpen(random: &mut Random, case: &mut Case) {
     }
 }
 
-/// Mostly into what stands before the schedule, where the input is cut short.
+/// Mostly into what stands before the schedule, where the input is cut short;
+/// often into the day of a dated book, its last two bytes.
 fn cut(random: &mut Random, case: &Case) -> usize {
-    let before = case.book().len() + case.line.len() + 9;
-    let cut_short = match random.below(3) {
-        0 => random.between(1, 12),
+    let book = case.book();
+    let before = book.len() + case.line.len() + 9;
+    let cut_short = match random.below(4) {
+        0 => random.between(1, 3),
+        1 => random.between(1, 12),
         _ => random.between(1, before),
     };
     match random.below(4) {

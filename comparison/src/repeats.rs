@@ -34,6 +34,7 @@ impl Repeats {
         let Ok(book) = crate::model::read_book(question.book) else {
             return;
         };
+        let book = book.on_day(question.day);
         if !book.rules.iter().any(repeats) {
             return;
         }

@@ -31,6 +31,7 @@ impl Shrinker<'_> {
         self.thin(|case| &mut case.schedule);
         self.fewer_units();
         self.thin(|case| &mut case.draft.rules);
+        self.fewer_days();
         self.text_to_line();
         match self.case.form {
             Form::Line => self.smaller_line(),
@@ -102,6 +103,29 @@ impl Shrinker<'_> {
             case.units = units;
             change(&mut case.schedule);
         })
+    }
+
+    /// A difference that an undated book shows too is none of days. Where days
+    /// matter, they become small: the lowest of them 0, the next 1, and so on.
+    fn fewer_days(&mut self) {
+        if !self.try_change(|case| case.draft.dated = false) {
+            self.try_change(|case| {
+                let mut days: Vec<u16> = case.draft.rules.iter().map(|rule| rule.day).collect();
+                days.push(case.day);
+                days.sort_unstable();
+                days.dedup();
+                let place = |day: u16| days.partition_point(|&other| other < day) as u16;
+                case.draft
+                    .rules
+                    .iter_mut()
+                    .for_each(|rule| rule.day = place(rule.day));
+                case.day = place(case.day);
+            });
+            for rule in 0..self.case.draft.rules.len() {
+                self.try_change(|case| case.draft.rules[rule].day = 0);
+            }
+        }
+        self.try_change(|case| case.day = 0);
     }
 
     /// A difference that a text's term shows too is none of texts.

@@ -12,6 +12,7 @@ pub struct Question<'a> {
     pub line: &'a [u8],
     pub units: u8,
     pub budget: u32,
+    pub day: u16,
     pub schedule: &'a [u8],
 }
 
@@ -24,6 +25,7 @@ impl<'a> Question<'a> {
             line: &case.line,
             units: case.units,
             budget: case.budget,
+            day: case.day,
             schedule: &case.schedule,
         }
     }
@@ -41,6 +43,7 @@ impl<'a> Question<'a> {
             self.line,
             self.units,
             self.budget,
+            self.day,
             self.schedule,
             work_len,
             output_len,

@@ -39,10 +39,7 @@ pub fn draft(random: &mut Random, alphabet: &[u8]) -> Draft {
     if random.one_in(25) {
         return books::draft(random);
     }
-    let mut draft = Draft {
-        operators: operators(random),
-        rules: Vec::new(),
-    };
+    let mut draft = Draft::new(operators(random), Vec::new());
     let count = random.from_ranges(&[(0, 3), (1, 6), (1, 6), (4, 15), (10, 30)]);
     let habits = RuleHabits::new(random);
     for _ in 0..count {
@@ -122,10 +119,7 @@ fn copying_rule(random: &mut Random, draft: &Draft, alphabet: &[u8]) -> Option<R
         }
         right.push(rest);
     }
-    Some(RuleDraft {
-        left: vec![root, rest],
-        right,
-    })
+    Some(RuleDraft::new(vec![root, rest], right))
 }
 
 /// A rule for equal arguments.
@@ -134,10 +128,7 @@ fn matching_rule(random: &mut Random, draft: &Draft) -> Option<RuleDraft> {
     let mut left = vec![operator];
     left.extend((0..draft.arity(operator)).map(|_| Symbol::Variable(random.below(2) as u8)));
     let right = *random.pick(&left[1..]);
-    Some(RuleDraft {
-        left,
-        right: vec![right],
-    })
+    Some(RuleDraft::new(left, vec![right]))
 }
 
 /// An operator of several arguments, if there is one.
@@ -178,7 +169,7 @@ fn class_rule(
         return None;
     }
     let right = right_side(random, draft, root, &left, habits)?;
-    Some(RuleDraft { left, right })
+    Some(RuleDraft::new(left, right))
 }
 
 // ---------------------------------------------------------------------------

@@ -34,6 +34,7 @@ fn every_slip_is_found_and_made_small() {
             "{name}: {difference}"
         );
         assert!(small.units <= 5, "{name}: {difference}");
+        assert_eq!(small.draft.dated, needs_days(slip), "{name}: {difference}");
         // Copies matter only near the symbol limit, and so does what is told at it.
         let line_limit = match slip {
             Slip::Copies | Slip::Late | Slip::Swapped => 1024,
@@ -47,19 +48,27 @@ fn every_slip_is_found_and_made_small() {
 /// A slip of the page shows in no answer.
 fn found(slip: Slip) -> Option<Difference> {
     let mut subject = BrokenModel { slip };
-    match slip {
-        Slip::Lines => compare_pages(&subject, 36, 0..20_000).1,
-        _ => compare(&mut subject, 36, 0..20_000).1,
+    match slip.is_of_pages() {
+        true => compare_pages(&subject, 36, 0..20_000).1,
+        false => compare(&mut subject, 36, 0..20_000).1,
     }
 }
 
 fn shows(slip: Slip, case: &Case) -> bool {
     let mut subject = BrokenModel { slip };
-    let difference = match slip {
-        Slip::Lines => subject.check(case),
-        _ => Comparison::new(&mut subject).check(case),
+    let difference = match slip.is_of_pages() {
+        true => subject.check(case),
+        false => Comparison::new(&mut subject).check(case),
     };
     difference.is_some()
+}
+
+fn needs_days(slip: Slip) -> bool {
+    use Slip::*;
+    matches!(
+        slip,
+        Earlier | Own | Naming | Names | Ahead | ByDay | Days | Low
+    )
 }
 
 fn form_of(slip: Slip) -> Form {
@@ -73,7 +82,7 @@ fn form_of(slip: Slip) -> Form {
 #[test]
 fn what_was_not_met_is_named() {
     let (tally, _) = compare(&mut ModelSubject, 31, 0..0);
-    assert_eq!(tally.missing().len(), 4 + 17 + 4 + 14 + 9 + 7);
+    assert_eq!(tally.missing().len(), 4 + 17 + 4 + 14 + 9 + 7 + 8);
     assert_eq!(
         tally.missing()[..5].join(", "),
         "ending 0, ending 1, ending 2, ending 3, refusal 1"
@@ -83,6 +92,7 @@ fn what_was_not_met_is_named() {
         "refusal 18, refusal 19, a text's ending 0, a text's ending 1"
     );
     assert_eq!(tally.missing()[48], "parts of a repeated variable equal");
+    assert_eq!(tally.missing()[55], "rules or runs of a later day");
     let (tally, _) = compare(&mut ModelSubject, 31, 0..2000);
     assert!(tally.missing().is_empty(), "{tally}");
 }

@@ -5,7 +5,7 @@ mod common;
 
 use common::*;
 use comparison::compare::{compare, Comparison};
-use comparison::draft::{Case, Damage, Draft, OperatorDraft};
+use comparison::draft::{Case, Damage, Draft, OperatorDraft, Symbol};
 use comparison::library::Library;
 use comparison::model::Form;
 
@@ -36,10 +36,7 @@ fn longest_book() -> Draft {
     let side = [vec![op(7); 63], vec![op(0)]].concat();
     let mut operators: Vec<OperatorDraft> = vec![with_strategy(1, &list); 255];
     operators[0] = with_strategy(0, &[0; 31]);
-    Draft {
-        operators,
-        rules: vec![rule(&side, &side); 255],
-    }
+    Draft::new(operators, vec![rule(&side, &side); 255])
 }
 
 #[test]
@@ -53,10 +50,71 @@ fn longest_book_there_is() {
     assert_eq!(refusal(&case), Some(9));
 }
 
+/// Its rules agree, so that one of them stands, whichever day it is of.
+#[test]
+fn longest_dated_book_there_is() {
+    let days: [fn(u16) -> u16; 4] = [|_| 7, |place| place, |place| 254 - place, |place| place % 3];
+    for day in days {
+        let mut draft = longest_book().dated();
+        for (place, rule) in (0..).zip(&mut draft.rules) {
+            rule.day = day(place);
+            rule.right[62 - usize::from(place) / 5] = op(1 + (place % 200) as u8);
+        }
+        let mut case = page(draft);
+        assert_eq!(case.book().len(), 41_473);
+        case.line = [vec![7; 1023], vec![0]].concat();
+        case.schedule = vec![0; 5000];
+        for day in [0, 1, 100, 254, u16::MAX] {
+            case.day = day;
+            assert_eq!(refusal(&case), None);
+        }
+        case.damage = vec![Damage::Add(0)];
+        assert_eq!(refusal(&case), Some(9));
+    }
+}
+
+/// Left sides of 64 symbols that differ in the last one only, or in the names of
+/// 16 variables.
+#[test]
+fn left_sides_that_differ_late() {
+    let mut operators = vec![operator(0); 255];
+    operators[0] = operator(1);
+    let row = |last: u8| [vec![op(0); 63], vec![op(last)]].concat();
+    let rules = (0..255).map(|place| {
+        let last = 1 + (place % 254) as u8;
+        rule(&row(last), &[op(255 - last)]).on(place % 7)
+    });
+    let mut case = page(Draft::new(operators, rules.collect()).dated());
+    case.schedule = vec![0; 200];
+    for (last, day) in [(1, 0), (1, 2), (1, 9), (2, 9), (254, 1), (254, 9)] {
+        case.line = [vec![0; 63], vec![last]].concat();
+        case.day = day;
+        assert_eq!(refusal(&case), None);
+    }
+    // pair over 16 variables, in any order of their names, the last perhaps again
+    let operators = vec![operator(0), operator(2)];
+    let left = |shift: u8, last: u8| {
+        let names = (0..15).map(|place| Symbol::Variable((place + shift) % 16));
+        let pairs = names.flat_map(|name| [op(1), name]);
+        pairs.chain([Symbol::Variable(last)]).collect::<Vec<_>>()
+    };
+    let rules = (0..16).flat_map(|shift| {
+        let fresh = (15 + shift) % 16;
+        let again = (14 + shift) % 16;
+        [fresh, again].map(|last| rule(&left(shift, last), &[op(0)]).on(shift.into()))
+    });
+    let mut case = page(Draft::new(operators, rules.collect()).dated());
+    case.line = [[1, 0].repeat(15), vec![0]].concat();
+    for day in 0..16 {
+        case.day = day;
+        assert_eq!(refusal(&case), None);
+    }
+}
+
 #[test]
 fn bytes_that_are_too_many_for_any_book() {
     for further in [65_535, 65_536, 200_000] {
-        for book in [book_p(), longest_book()] {
+        for book in [book_p(), longest_book(), longest_book().dated()] {
             let mut case = page(book);
             case.damage = vec![Damage::Add(0); further];
             assert_eq!(refusal(&case), Some(9));
@@ -94,7 +152,7 @@ fn schedules_longer_than_the_program_takes() {
 fn text(text: Vec<u8>) -> Case {
     let operators = [vec![operator(0)], vec![operator(1); 42]].concat();
     let rules = Vec::new();
-    let mut case = Case::new(Draft { operators, rules }, text, 1, 9, Vec::new());
+    let mut case = Case::new(Draft::new(operators, rules), text, 1, 9, Vec::new());
     case.form = Form::Text;
     case
 }

@@ -20,6 +20,7 @@ fn runs(seed: u64) -> impl Iterator<Item = (Case, Answer)> {
             &case.line,
             case.units,
             case.budget,
+            case.day,
             &case.schedule,
             0,
             OUTPUT_LEN,
@@ -44,7 +45,7 @@ fn finished_runs_equal_reduction_one_after_the_other() {
     on_large_stack(|| {
         let mut finished = 0;
         for (case, answer) in runs(21).filter(|(_, answer)| answer.ending == ending::FINISHED) {
-            let book = read_book(&case.book()).unwrap();
+            let book = read_book(&case.book()).unwrap().on_day(case.day);
             let line = read_line(&book, &case.line).unwrap();
             let (term, rewrites) = reduce(&book, line, answer.rewrites).expect("no more rewrites");
             assert_eq!(
@@ -62,7 +63,7 @@ fn finished_runs_equal_reduction_one_after_the_other() {
 fn forks_of_a_finished_run_are_those_of_one_unit() {
     on_large_stack(|| {
         for (case, answer) in runs(22).filter(|(_, answer)| answer.ending == ending::FINISHED) {
-            let book = read_book(&case.book()).unwrap();
+            let book = read_book(&case.book()).unwrap().on_day(case.day);
             let line = read_line(&book, &case.line).unwrap();
             let mut alone = Machine::new(&book, line, 1, case.budget);
             alone.size_limit = usize::MAX;
@@ -77,7 +78,7 @@ fn forks_of_a_finished_run_are_those_of_one_unit() {
 #[test]
 fn some_unit_can_act_and_joins_count_what_is_open() {
     for (case, _) in runs(23).take(600) {
-        let book = read_book(&case.book()).unwrap();
+        let book = read_book(&case.book()).unwrap().on_day(case.day);
         let line = read_line(&book, &case.line).unwrap();
         let mut machine = Machine::new(&book, line, case.units, case.budget);
         for &unit in &case.schedule {
@@ -97,7 +98,7 @@ fn some_unit_can_act_and_joins_count_what_is_open() {
 fn work_lies_above_what_a_unit_waits_with() {
     let (mut helped, mut deepest) = (0, 0);
     for (case, _) in runs(28).take(1000) {
-        let book = read_book(&case.book()).unwrap();
+        let book = read_book(&case.book()).unwrap().on_day(case.day);
         let line = read_line(&book, &case.line).unwrap();
         let mut machine = Machine::new(&book, line, case.units, case.budget);
         let mut taken: Vec<Vec<Vec<Order>>> = vec![Vec::new(); machine.units.len()];
@@ -166,7 +167,7 @@ fn uncounted(orders: &[Order]) -> Vec<Order> {
 fn a_run_finishes_with_nothing_left() {
     let mut finished = 0;
     for (case, answer) in runs(29).filter(|(_, answer)| answer.ending == ending::FINISHED) {
-        let book = read_book(&case.book()).unwrap();
+        let book = read_book(&case.book()).unwrap().on_day(case.day);
         let line = read_line(&book, &case.line).unwrap();
         let mut machine = Machine::new(&book, line, case.units, case.budget);
         let last = case.schedule[answer.entries as usize - 1];
@@ -217,7 +218,7 @@ fn endings_keep_their_conditions() {
 
 #[test]
 fn written_books_are_read_and_written_alike() {
-    let mut read = 0;
+    let (mut read, mut dated) = (0, 0);
     for case in cases(25) {
         let Ok(book) = read_book(&case.book()) else {
             continue;
@@ -225,15 +226,46 @@ fn written_books_are_read_and_written_alike() {
         let bytes = written(&case.book(), usize::MAX).unwrap();
         assert!(bytes.len() <= case.book().len());
         let again = read_book(&bytes).unwrap();
-        assert_eq!(again.rules, book.rules);
+        assert_eq!((&again.rules, &again.days), (&book.rules, &book.days));
         for (one, other) in again.operators.iter().zip(&book.operators) {
             assert_eq!((one.arity, &one.strategy), (other.arity, &other.strategy));
             assert_eq!(settle(&one.strategy), one.strategy);
         }
         assert_eq!(written(&bytes, bytes.len()), Ok(bytes));
         read += 1;
+        dated += u64::from(book.days.is_some());
     }
-    assert!(read > 1000);
+    assert!(read > 1000 && dated > 300);
+}
+
+/// Of the rules whose day has come, no two that stand agree in their left
+/// sides, and each that doesn't stand has one that does, of its day or a later
+/// one.
+#[test]
+fn one_rule_stands_for_all_that_agree() {
+    let mut replaced = 0;
+    for case in cases(30) {
+        let Ok(book) = read_book(&case.book()) else {
+            continue;
+        };
+        let Some(days) = &book.days else {
+            continue;
+        };
+        let standing = book.on_day(case.day).rules;
+        for (place, rule) in standing.iter().enumerate() {
+            let behind = &standing[place + 1..];
+            assert!(!behind.iter().any(|other| other.left.agrees(&rule.left)));
+        }
+        let mut rest = standing.iter().peekable();
+        for (rule, day) in book.rules.iter().zip(days) {
+            if rest.next_if(|next| *next == rule).is_none() && *day <= case.day {
+                let stands = |other: &Rule| other.left.agrees(&rule.left);
+                assert!(standing.iter().any(stands), "{case:?}");
+                replaced += 1;
+            }
+        }
+    }
+    assert!(replaced > 500, "{replaced}");
 }
 
 #[test]

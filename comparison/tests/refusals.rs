@@ -7,7 +7,7 @@ use comparison::draft::{Draft, OperatorDraft, RuleDraft, Symbol};
 use comparison::model::*;
 
 fn read(operators: Vec<OperatorDraft>, rules: Vec<RuleDraft>) -> Result<Book, u8> {
-    read_book(&Draft { operators, rules }.encode())
+    read_book(&Draft::new(operators, rules).encode())
 }
 
 fn read_list(arity: u8, items: &[u8]) -> Result<Book, u8> {
@@ -83,10 +83,10 @@ fn variables_that_stand_again() {
     assert_eq!(read_rule(&[op(2), X, X], &[Y]), Err(7));
     assert_eq!(read_rule(&[op(2), X, op(2), X, op(3)], &[X]), Err(4));
     assert_eq!(read_rule(&pair.repeat(32), &[X]), Err(8));
-    let mut cut = Draft {
-        operators: vec![operator(0), operator(2)],
-        rules: vec![rule(&[op(1), X, X], &[op(1), X, X])],
-    }
+    let mut cut = Draft::new(
+        vec![operator(0), operator(2)],
+        vec![rule(&[op(1), X, X], &[op(1), X, X])],
+    )
     .encode();
     cut.pop();
     assert_eq!(read_book(&cut), Err(1));
@@ -104,10 +104,10 @@ fn side_of_64_sound_symbols_and_more_due() {
     let absent = [&[op(1); 63][..], &[Y]].concat();
     assert_eq!(read_rule(&[op(1), X], &absent), Err(7));
     // Bits that run out inside the 64th symbol.
-    let mut cut = Draft {
-        operators: vec![operator(0), operator(1), operator(2)],
-        rules: vec![rule(&open, &[])],
-    }
+    let mut cut = Draft::new(
+        vec![operator(0), operator(1), operator(2)],
+        vec![rule(&open, &[])],
+    )
     .encode();
     cut.pop();
     assert_eq!(read_book(&cut), Err(1));
@@ -148,7 +148,7 @@ fn lines() {
 #[test]
 fn places_from_top_to_bottom() {
     let refused = |units, work, output, book: &[u8], line: &[u8], schedule: &[u8]| {
-        answer(book, line, units, 9, schedule, work, output, 100).unwrap_err()
+        answer(book, line, units, 9, 0, schedule, work, output, 100).unwrap_err()
     };
     let book = book_p().encode();
     let long = [0; 1025];
@@ -170,7 +170,8 @@ fn schedule_is_checked_to_its_end() {
 
 #[test]
 fn writer_tells_the_books_faults_first() {
-    assert_eq!(written(&[0], 0), Err(2));
+    assert_eq!(written(&[0], 0), Err(1));
+    assert_eq!(written(&[0, 0], 0), Err(2));
     assert_eq!(written(&[0x01, 0x00, 0x01], 0), Err(9));
     assert_eq!(written(&[0x01, 0x00, 0x00], 2), Err(16));
     assert_eq!(written(&[0x01, 0x00, 0x00], 3), Ok(vec![0x01, 0x00, 0x00]));
@@ -200,19 +201,19 @@ fn schedules_of_32768_and_32769_bytes() {
     assert!(with(32_768).starts_with("REDUCE 1\nend 0\n"));
     assert_eq!(with(32_769), "REDUCE 1\nrefused 17\n");
     // 17 is told before the rest.
-    let many = input(&[0], &[], 0, 0, &vec![9; 32_769]);
+    let many = input(&[], &[], 0, 0, &vec![9; 32_769]);
     assert_eq!(page_text(&many), "REDUCE 1\nrefused 17\n");
 }
 
 #[test]
 fn refusals_on_the_page() {
     assert_eq!(
-        page_text(&input(&[0], &[], 0, 0, &[9])),
+        page_text(&input(&[], &[], 0, 0, &[9])),
         "REDUCE 1\nrefused 13\n"
     );
     assert_eq!(
-        page_text(&input(&[0], &[], 1, 0, &[9])),
-        "REDUCE 1\nrefused 2\n"
+        page_text(&input(&[], &[], 1, 0, &[9])),
+        "REDUCE 1\nrefused 1\n"
     );
     let long = vec![0; 1025];
     assert_eq!(

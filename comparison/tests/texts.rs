@@ -13,10 +13,7 @@ fn class_operators() -> Vec<OperatorDraft> {
 }
 
 fn class_book(rules: &[RuleDraft]) -> Draft {
-    Draft {
-        operators: class_operators(),
-        rules: rules.to_vec(),
-    }
+    Draft::new(class_operators(), rules.to_vec())
 }
 
 fn with_arity(place: usize, arity: u8) -> Draft {
@@ -28,7 +25,7 @@ fn with_arity(place: usize, arity: u8) -> Draft {
 /// Asks the model for a run from a text in a sound frame.
 fn ask_text(draft: &Draft, text: &[u8], schedule: &[u8]) -> Result<Answer, u8> {
     let book = draft.encode();
-    answer_to(Form::Text, &book, text, 1, 9, schedule, 0, OUTPUT_LEN, 0)
+    answer_to(Form::Text, &book, text, 1, 9, 0, schedule, 0, OUTPUT_LEN, 0)
 }
 
 /// The term of a text, as a run that is cut at once shows it.
@@ -221,7 +218,7 @@ fn operators_beyond_42_and_strategies_are_free() {
 #[test]
 fn places_from_top_to_bottom() {
     let refused = |units, work, output, book: &[u8], text: &[u8]| {
-        let found = answer_to(Form::Text, book, text, units, 9, &[9], work, output, 100);
+        let found = answer_to(Form::Text, book, text, units, 9, 0, &[9], work, output, 100);
         found.unwrap_err()
     };
     let (lacking, sound) = (with_arity(42, 0).encode(), class_book(&[]).encode());
@@ -269,7 +266,7 @@ fn input_cut_short_anywhere_before_the_schedule() {
         assert_eq!(page_text(&whole[..length]), "REDUCE 1\nrefused 17\n");
     }
     assert!(page_text(&whole).ends_with("term 3 1 6 5 0\n"));
-    let many = input(&[0], b"", 0, 0, &vec![9; 32_769]);
+    let many = input(&[], b"", 0, 0, &vec![9; 32_769]);
     assert_eq!(page_text(&many), "REDUCE 1\nrefused 17\n");
 }
 

@@ -3,65 +3,83 @@
 use std::path::Path;
 
 use comparison::model::Form;
-use comparison::vectors::run;
+use comparison::vectors::{run, Kind};
 
-fn check(form: Form, folder: &str, count: usize) {
+const LINE: Kind = Kind::Page(Form::Line);
+const TEXT: Kind = Kind::Page(Form::Text);
+
+fn check(kind: Kind, folder: &str, count: usize) {
     let folder = Path::new("../vectors").join(folder);
-    let outcome = run(form, &folder).unwrap();
+    let outcome = run(kind, &folder).unwrap();
     assert!(outcome.failed.is_empty(), "{:?}", outcome.failed);
     assert_eq!(outcome.passed, count);
 }
 
 #[test]
 fn base() {
-    check(Form::Line, "base", 382);
+    check(LINE, "base", 382);
 }
 
 #[test]
 fn lines_of_change_1() {
-    check(Form::Line, "changes-1/line", 200);
+    check(LINE, "changes-1/line", 200);
 }
 
 #[test]
 fn texts_of_change_1() {
-    check(Form::Text, "changes-1/payee", 120);
+    check(TEXT, "changes-1/payee", 120);
 }
 
 #[test]
 fn lines_of_change_2() {
-    check(Form::Line, "changes-2/line", 200);
+    check(LINE, "changes-2/line", 200);
 }
 
 #[test]
 fn texts_of_change_2() {
-    check(Form::Text, "changes-2/payee", 120);
+    check(TEXT, "changes-2/payee", 120);
 }
 
 #[test]
 fn lines_of_change_3() {
-    check(Form::Line, "changes-3/line", 200);
+    check(LINE, "changes-3/line", 200);
 }
 
 #[test]
 fn texts_of_change_3() {
-    check(Form::Text, "changes-3/payee", 120);
+    check(TEXT, "changes-3/payee", 120);
 }
 
 #[test]
 fn lines_of_change_4() {
-    check(Form::Line, "changes-4/line", 200);
+    check(LINE, "changes-4/line", 200);
 }
 
 #[test]
 fn texts_of_change_4() {
-    check(Form::Text, "changes-4/payee", 120);
+    check(TEXT, "changes-4/payee", 120);
+}
+
+#[test]
+fn lines_of_change_5() {
+    check(LINE, "changes-5/line", 200);
+}
+
+#[test]
+fn texts_of_change_5() {
+    check(TEXT, "changes-5/payee", 120);
+}
+
+#[test]
+fn books_of_change_5() {
+    check(Kind::Write, "changes-5/write", 80);
 }
 
 /// The other program's inputs don't pass: a run of them shows something.
 #[test]
 fn inputs_of_the_other_program() {
-    let folder = Path::new("../vectors/changes-4");
-    let failed = |form, name| run(form, &folder.join(name)).unwrap().failed.len();
-    assert!(failed(Form::Text, "line") > 50);
-    assert!(failed(Form::Line, "payee") > 50);
+    let folder = Path::new("../vectors/changes-5");
+    let failed = |kind, name| run(kind, &folder.join(name)).unwrap().failed.len();
+    assert!(failed(TEXT, "line") > 50);
+    assert!(failed(LINE, "payee") > 50);
 }

@@ -32,7 +32,7 @@ int main(void) {
     static const uint8_t schedule[100]; /* unit 0, a hundred times */
     for (size_t payee = 0; payee < sizeof payees / sizeof *payees; payee++) {
         uint64_t answer[KURVNEIST_ANSWER_LENGTH];
-        uint8_t refusal = kurvneist_payee(book, sizeof book, (const uint8_t *)payees[payee], strlen(payees[payee]), 1, 9,
+        uint8_t refusal = kurvneist_payee(book, sizeof book, (const uint8_t *)payees[payee], strlen(payees[payee]), 1, 9, 0,
                                           schedule, sizeof schedule, work, sizeof work, output, sizeof output, answer);
         if (refusal != KURVNEIST_ACCEPTED) {
             printf("refused %u\n", refusal);

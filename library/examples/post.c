@@ -22,8 +22,9 @@ int main(void) {
     uint8_t schedule[100];
     for (size_t entry = 0; entry < sizeof schedule; entry++) schedule[entry] = (uint8_t)(entry % 2);
 
+    /* day 0: the book is undated and ignores it */
     uint64_t answer[KURVNEIST_ANSWER_LENGTH];
-    uint8_t refusal = kurvneist_reduce(book, sizeof book, line, sizeof line, 2, 9, schedule, sizeof schedule,
+    uint8_t refusal = kurvneist_reduce(book, sizeof book, line, sizeof line, 2, 9, 0, schedule, sizeof schedule,
                                        work, sizeof work, output, sizeof output, answer);
     if (refusal != KURVNEIST_ACCEPTED) {
         printf("refused %u\n", refusal);

@@ -25,7 +25,7 @@ extern "C" {
 #define KURVNEIST_OUTPUT_LENGTH 1024
 
 /* No book is longer, and so no written one. */
-#define KURVNEIST_LONGEST_BOOK 40962
+#define KURVNEIST_LONGEST_BOOK 41473
 
 /*
  * The elements of an answer. They are told by name, since a later version may add some. In a finished run granted and kept
@@ -108,6 +108,8 @@ size_t kurvneist_output_length(void);
  * Reduces a line by a book on `units` units, with at most `budget` rewrites, as the schedule says: each of its bytes is
  * the number of the unit that acts next.
  *
+ * By a dated book, whose first byte is 0, only the rules that stand on `day` are tried. An undated book ignores the day.
+ *
  * The result is KURVNEIST_ACCEPTED, 0, or the number of a refusal. `answer` has KURVNEIST_ANSWER_LENGTH elements.
  *
  * After 0 the present term stands at the front of `output`, one byte a symbol, and the output's other bytes are as they
@@ -116,7 +118,7 @@ size_t kurvneist_output_length(void);
  */
 uint8_t kurvneist_reduce(const uint8_t *book, size_t book_length,
                          const uint8_t *line, size_t line_length,
-                         uint8_t units, uint32_t budget,
+                         uint8_t units, uint32_t budget, uint16_t day,
                          const uint8_t *schedule, size_t schedule_length,
                          uint8_t *work, size_t work_length,
                          uint8_t *output, size_t output_length,
@@ -138,16 +140,16 @@ uint8_t kurvneist_reduce(const uint8_t *book, size_t book_length,
  */
 uint8_t kurvneist_payee(const uint8_t *book, size_t book_length,
                         const uint8_t *text, size_t text_length,
-                        uint8_t units, uint32_t budget,
+                        uint8_t units, uint32_t budget, uint16_t day,
                         const uint8_t *schedule, size_t schedule_length,
                         uint8_t *work, size_t work_length,
                         uint8_t *output, size_t output_length,
                         uint64_t *answer);
 
 /*
- * Writes a book with its strategies settled to the front of `output`; the output's other bytes are as they were. A
- * written book is never longer than the book given, so an output of book_length bytes, or of KURVNEIST_LONGEST_BOOK, is
- * never refused by 16.
+ * Writes a book with its strategies settled to the front of `output`; the output's other bytes are as they were. A dated
+ * book is written dated, with all its rules and their days. A written book is never longer than the book given, so an
+ * output of book_length bytes, or of KURVNEIST_LONGEST_BOOK, is never refused by 16.
  *
  * The result is 0, or the number of a refusal: 1 to 5, 7 to 9, or 16. `length` has one element: the bytes written, or 0 after a
  * refusal, which leaves `output` as it was.

@@ -3,7 +3,7 @@
 //! A request is not made of its fields:
 //!
 //! ```compile_fail,E0639
-//! let request = kurvneist::Request { book: &[], line: &[], units: 1, budget: 0, schedule: &[] };
+//! let request = kurvneist::Request { book: &[], line: &[], units: 1, budget: 0, day: 0, schedule: &[] };
 //! ```
 //!
 //! An answer or a posting is not taken apart into all its fields; with `..` it is:

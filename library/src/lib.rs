@@ -38,6 +38,9 @@
 //! # Ok::<(), kurvneist::Refusal>(())
 //! ```
 //!
+//! Rules with days replace earlier ones: a dated book is asked with a [`day`](Request::day), and only the rules that stand
+//! on it are tried.
+//!
 //! A refusal has a name, a number and a condition, and leaves every buffer as it was:
 //!
 //! ```
@@ -72,12 +75,12 @@ pub const WORK_LENGTH: usize = 24_624;
 /// Bytes of output that a run asks for: a term has at most 1,024 symbols.
 pub const OUTPUT_LENGTH: usize = 1024;
 
-/// No book has more bytes than one of 255 operators, each with a list of 31 items, and 255 rules whose sides have 64
-/// operators each.
+/// No book has more bytes than a dated one of 255 operators, each with a list of 31 items, and 255 rules whose sides have
+/// 64 operators each: a byte 0, and a day of 16 bits before each rule.
 pub const LONGEST_BOOK: usize = {
     let operator = 3 + 1 + 5 + 31 * 4;
-    let rule = 2 * 64 * 9;
-    usize::div_ceil(8 + 255 * operator + 8 + 255 * rule, 8)
+    let rule = 16 + 2 * 64 * 9;
+    usize::div_ceil(8 + 8 + 255 * operator + 8 + 255 * rule, 8)
 };
 
 /// Carries out one run in lent buffers of at least [`WORK_LENGTH`] and [`OUTPUT_LENGTH`] bytes.
@@ -125,7 +128,7 @@ pub fn payee(request: &Request, work: &mut [u8], output: &mut [u8]) -> Result<An
 }
 
 /// Writes a book with its strategies settled to the front of the output and answers the written length. The output's
-/// other bytes stay, and after a refusal all do.
+/// other bytes stay, and after a refusal all do. A dated book is written dated, with all its rules and their days.
 ///
 /// A written book is never longer than the book given, so an output of that length, or of [`LONGEST_BOOK`] bytes, is
 /// never refused by 16.

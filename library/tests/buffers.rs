@@ -160,19 +160,26 @@ fn written_books_are_written_alike() {
 
 #[test]
 fn longest_book_is_written() {
-    assert_eq!(LONGEST_BOOK, 40_962);
+    assert_eq!(LONGEST_BOOK, 41_473);
     let list = [0; 31];
     let mut operators = vec![(1, Some(&list[..])); 254];
     operators.push((0, Some(&list[..])));
     let side = [vec![op(0); 63], vec![op(254)]].concat();
-    let mut longest = book(&operators, &vec![(&side[..], &side[..]); 255]);
-    assert_eq!(longest.len(), LONGEST_BOOK);
+    let rule: Rule = (&side, &side);
     let mut settled = vec![(1, Some(&list[..1])); 254];
     settled.push((0, None));
-    let due = book(&settled, &vec![(&side[..], &side[..]); 255]);
-    assert_eq!(written_book(&longest), Ok(due));
-    longest.push(0);
-    assert_eq!(written_book(&longest).unwrap_err().number(), 9);
+    let dated = |operators: &[Operator]| dated_book(operators, &vec![(0xABCD, rule); 255]);
+    let undated = |operators: &[Operator]| book(operators, &vec![rule; 255]);
+    assert_eq!(dated(&operators).len(), LONGEST_BOOK);
+    assert_eq!(undated(&operators).len(), 40_962);
+    for (mut longest, due) in [
+        (dated(&operators), dated(&settled)),
+        (undated(&operators), undated(&settled)),
+    ] {
+        assert_eq!(written_book(&longest), Ok(due));
+        longest.push(0);
+        assert_eq!(written_book(&longest).unwrap_err().number(), 9);
+    }
 }
 
 #[test]

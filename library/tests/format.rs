@@ -52,8 +52,32 @@ fn the_book_bit_by_bit() {
     let format = format();
     let book = bytes(block(&format, "book"));
     assert_eq!(book, book_p());
+    check_bits(&book, &table(&format, "| Bits | Are | Value | Say |"));
+}
+
+#[test]
+fn the_dated_book_bit_by_bit() {
+    let format = format();
+    let book = bytes(block(&format, "dated"));
+    let constants = [(0, None); 3];
+    let rules: [(u16, Rule); 2] = [(100, (&[op(0)], &[op(1)])), (283, (&[op(0)], &[op(2)]))];
+    assert_eq!(book, dated_book(&constants, &rules));
+    assert!(format.contains(&format!("The book has {} bytes", book.len())));
+    let head = "| Bits | Are | Value | Say, of the dated book |";
+    check_bits(&book, &table(&format, head));
+    let rows = table(&format, "| On day | `00` is posted as |");
+    assert_eq!(rows.len(), 5);
+    for row in rows {
+        let request = Request::new(&book, &[0]).day(row[0].parse().unwrap());
+        let mut engine = Engine::new();
+        let posting = engine.post(&request.schedule(&[0; 9])).unwrap();
+        assert_eq!(posting.term, bytes(&row[1]), "{row:?}");
+    }
+}
+
+fn check_bits(book: &[u8], rows: &[Vec<String>]) {
     let mut bits = String::new();
-    for row in table(&format, "| Bits | Are | Value | Say |") {
+    for row in rows {
         let [place, are, value, _] = &row[..] else {
             panic!("{row:?}")
         };
@@ -62,7 +86,7 @@ fn the_book_bit_by_bit() {
             (bits.len(), bits.len() + are.len() - 1),
             "{row:?}"
         );
-        assert_eq!(u8::from_str_radix(are, 2), value.parse(), "{row:?}");
+        assert_eq!(u16::from_str_radix(are, 2), value.parse(), "{row:?}");
         bits.push_str(are);
     }
     let packed: String = book.iter().map(|byte| format!("{byte:08b}")).collect();
@@ -91,6 +115,7 @@ struct Input<'a> {
     line: &'a [u8],
     units: u8,
     budget: u32,
+    day: u16,
     schedule: &'a [u8],
 }
 
@@ -98,12 +123,17 @@ fn input(bytes: &[u8]) -> Input<'_> {
     let announced = |bytes: &[u8]| usize::from(u16::from_be_bytes([bytes[0], bytes[1]]));
     let (book, rest) = bytes[2..].split_at(announced(bytes));
     let (line, rest) = rest[2..].split_at(announced(rest));
+    let (day, schedule) = match book.first() {
+        Some(0) => (u16::from_be_bytes([rest[5], rest[6]]), &rest[7..]),
+        _ => (0, &rest[5..]),
+    };
     Input {
         book,
         line,
         units: rest[0],
         budget: u32::from_be_bytes(rest[1..5].try_into().unwrap()),
-        schedule: &rest[5..],
+        day,
+        schedule,
     }
 }
 
@@ -121,25 +151,29 @@ fn page_of(posting: &Posting) -> String {
     )
 }
 
+/// The gate puts these files through the proved program.
 #[test]
-fn the_input_has_the_page() {
+fn the_inputs_have_their_pages() {
+    check_page("input", "page", "finished");
+    check_page("dated-input", "dated-page", "dated");
+}
+
+fn check_page(input_word: &str, page_word: &str, example: &str) {
     let format = format();
-    let bytes = bytes(block(&format, "input"));
+    let bytes = bytes(block(&format, input_word));
     let asked = input(&bytes);
     let request = Request::new(asked.book, asked.line)
         .units(asked.units)
         .budget(asked.budget)
+        .day(asked.day)
         .schedule(asked.schedule);
     let mut engine = Engine::new();
     let posting = engine.post(&request).unwrap();
-    let page = block(&format, "page");
+    let page = block(&format, page_word);
     assert_eq!(page_of(&posting), page);
-    // The gate puts this file through the proved program.
-    assert_eq!(fs::read("../examples/finished.in").unwrap(), bytes);
-    assert_eq!(
-        fs::read_to_string("../examples/finished.out").unwrap(),
-        page
-    );
+    let file = |ending| format!("../examples/{example}.{ending}");
+    assert_eq!(fs::read(file("in")).unwrap(), bytes);
+    assert_eq!(fs::read_to_string(file("out")).unwrap(), page);
 }
 
 /// Operators 0 to 42 as texts ask for them.
@@ -227,7 +261,8 @@ fn which_fault_is_told() {
     let rule = |left: &[Symbol], right: &[Symbol]| book(&two, &[(left, right)]);
     assert_eq!(told(&[], &[], 0, &[9]), Refusal::BadUnits);
     assert_eq!(told(&[], &[], 1, &[9]), Refusal::BookRunsOut);
-    assert_eq!(told(&[0], &[], 1, &[9]), Refusal::NoOperator);
+    assert_eq!(told(&[0], &[], 1, &[9]), Refusal::BookRunsOut);
+    assert_eq!(told(&[0, 0], &[], 1, &[9]), Refusal::NoOperator);
     assert_eq!(told(&sound, &[255; 1025], 1, &[9]), Refusal::LineTooLong);
     assert_eq!(told(&sound, &[0, 255], 1, &[9]), Refusal::LineIsNoTerm);
     assert_eq!(
@@ -257,7 +292,7 @@ fn which_fault_is_told() {
 #[test]
 fn lengths() {
     let format = format();
-    for length in [WORK_LENGTH, OUTPUT_LENGTH, LONGEST_BOOK, 32_768] {
+    for length in [WORK_LENGTH, OUTPUT_LENGTH, 40_962, LONGEST_BOOK, 32_768] {
         let shown = format!("{},{:03}", length / 1000, length % 1000);
         assert!(format.contains(&shown), "{shown}");
     }

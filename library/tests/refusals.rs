@@ -19,8 +19,10 @@ fn faulty_books() -> Vec<(u8, Vec<u8>)> {
         (1, vec![]),
         (1, vec![1]),
         (1, cut),
-        (2, vec![0]),
-        (2, vec![0, 255]),
+        (1, vec![0]),
+        (1, vec![0, 255]),
+        (2, vec![0, 0]),
+        (2, vec![0, 0, 255]),
         (3, list(&[10, 0])),
         (3, list(&[8, 8, 9, 9, 0])),
         (3, list(&[9, 0])),
@@ -212,7 +214,10 @@ fn refusals_in_words() {
 fn a_new_request_has_one_unit_and_no_entry() {
     let book = book_p();
     let request = Request::new(&book, &LINE_P);
-    assert_eq!((request.units, request.budget), (1, u32::MAX));
+    assert_eq!(
+        (request.units, request.budget, request.day),
+        (1, u32::MAX, 0)
+    );
     let mut engine = Engine::new();
     let posting = engine.post(&request).unwrap();
     assert_eq!(
@@ -221,7 +226,7 @@ fn a_new_request_has_one_unit_and_no_entry() {
     );
     assert_eq!(posting.term, LINE_P);
     let refused = engine
-        .post(&request.book(&[0]))
+        .post(&request.book(&[0, 0]))
         .map(|posting| posting.answer);
     assert_eq!(refused, Err(Refusal::NoOperator));
 }

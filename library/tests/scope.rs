@@ -163,7 +163,7 @@ fn small_books_byte_by_byte() {
         written_book(&[0x02, 0x03, 0x10, 0x80, 0x00]),
         Ok(vec![0x02, 0x02, 0x00])
     );
-    assert_eq!(refused(written_book(&[0x00])), Some(2));
+    assert_eq!(refused(written_book(&[0x00])), Some(1));
 }
 
 #[test]

@@ -24,6 +24,7 @@ use crate::trace::Told;
 pub struct Settings<'a> {
     pub named: &'a Named,
     pub budget: u32,
+    pub day: u16,
     pub schedules: &'a Schedules,
     /// Says the counts behind each posting, as a comment.
     pub counts: bool,
@@ -312,7 +313,9 @@ fn outcome(item: Item, settings: &Settings, engine: &mut Engine) -> Outcome {
 }
 
 fn posted(line: &[u8], settings: &Settings, engine: &mut Engine) -> Outcome {
-    let request = Request::new(&settings.named.book, line).budget(settings.budget);
+    let request = Request::new(&settings.named.book, line)
+        .budget(settings.budget)
+        .day(settings.day);
     let form = settings.reading.form;
     match settings.schedules.post(engine, form, &request) {
         Ok(posted) => {

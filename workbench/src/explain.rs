@@ -10,6 +10,7 @@ use std::rc::Rc;
 use comparison::model::{self, Book, Form, Machine, Order, Position, Term};
 use kurvneist::{Ending, Request};
 
+use crate::day;
 use crate::json::{Fields, Json};
 use crate::names::Names;
 use crate::progress::Progress;
@@ -41,7 +42,11 @@ pub struct Rewrite {
 
 #[derive(Clone, Debug)]
 pub struct Explained {
+    /// With all its rules.
     pub book: Book,
+    /// Of a dated book the run's day, and the rules that stand on it, counted
+    /// from 1.
+    pub standing: Option<(u16, Vec<usize>)>,
     pub line: Rc<[u8]>,
     pub rewrites: Vec<Rewrite>,
     /// The rule, counted from 1, that the budget or the room didn't allow.
@@ -70,10 +75,11 @@ pub fn run_against(
 ) -> Result<Explained, Failure> {
     engine(request).map_err(Failure::Refused)?;
     let book = model::read_book(request.book).expect("the engine has read the book");
+    let of_day = book.on_day(request.day);
     let line = form
-        .read(&book, request.line)
+        .read(&of_day, request.line)
         .expect("the engine has read the line");
-    let mut machine = Machine::new(&book, line, request.units, request.budget);
+    let mut machine = Machine::new(&of_day, line, request.units, request.budget);
     let line: Rc<[u8]> = machine.term.preorder().into();
     progress.expect(Some(request.schedule.len() as u64));
     let mut rewrites: Vec<Rewrite> = Vec::new();
@@ -101,8 +107,14 @@ pub fn run_against(
     progress.clear();
     compare(engine, request, &machine, ended)?;
     let told = Told::of_model(&machine, ended);
+    let standing = of_day.rules.iter().map(|rule| rule.place + 1);
+    let standing = book
+        .days
+        .as_ref()
+        .map(|_| (request.day, standing.collect()));
     Ok(Explained {
         book,
+        standing,
         line,
         rewrites,
         stopped,
@@ -188,8 +200,9 @@ impl Explained {
     pub fn text(&self, named: &Named) -> String {
         let names = &named.names;
         let mut text = format!("line {}\n", printer::term(&self.line, names));
+        put(&mut text, &self.day_line());
         for (number, rewrite) in (1..).zip(&self.rewrites) {
-            let rule = rule_name(rewrite.rule, &named.rule_lines);
+            let rule = dated_rule_name(rewrite.rule, named);
             let sides = self.sides(rewrite.rule, names);
             let place = position(&rewrite.position);
             put(&mut text, &format!("\n{number}. {rule}: {sides}\n"));
@@ -215,14 +228,27 @@ impl Explained {
 
     /// A row for each rewrite: rule and place.
     pub fn rules(&self, named: &Named) -> String {
-        let mut text = String::new();
+        let mut text = self.day_line();
         for (number, rewrite) in (1..).zip(&self.rewrites) {
-            let rule = rule_name(rewrite.rule, &named.rule_lines);
+            let rule = dated_rule_name(rewrite.rule, named);
             let place = position(&rewrite.position);
             put(&mut text, &format!("{number}. {rule} at {place}\n"));
         }
         put(&mut text, &self.closing(named));
         text
+    }
+
+    /// Which rules of a dated book stand; nothing of an undated one.
+    fn day_line(&self) -> String {
+        let Some((day, standing)) = &self.standing else {
+            return String::new();
+        };
+        let (day, all) = (day::told(*day), self.book.rules.len());
+        match &standing[..] {
+            [] => format!("on {day}: no rule of {all} stands\n"),
+            [only] => format!("on {day}: rule {only} of {all} stands\n"),
+            _ => format!("on {day}: {} of {all} stand\n", listed(standing)),
+        }
     }
 
     fn closing(&self, named: &Named) -> String {
@@ -236,7 +262,7 @@ impl Explained {
                 Ending::Spent => "the budget is spent",
                 _ => "the term has no room",
             };
-            let rule = rule_name(rule, &named.rule_lines);
+            let rule = dated_rule_name(rule, named);
             put(&mut text, &format!("{rule} matches, but {why}\n"));
         }
         let term = printer::term(&told.term, &named.names);
@@ -253,15 +279,22 @@ impl Explained {
         let told = &self.told;
         let term = |symbols: &[u8]| Json::from(printer::term(symbols, &named.names));
         let step = |(number, rewrite)| self.step(number, rewrite, named, rules_only);
-        let mut fields: Fields = vec![
-            ("line", term(&self.line)),
+        let mut fields: Fields = vec![("line", term(&self.line))];
+        if let Some((day, standing)) = &self.standing {
+            fields.extend([
+                ("day", (*day).into()),
+                ("date", day::date(*day).into()),
+                ("standing", standing.iter().copied().collect()),
+            ]);
+        }
+        fields.extend([
             ("steps", (1..).zip(&self.rewrites).map(step).collect()),
             ("end", told.ending.to_string().into()),
             ("rewrites", told.rewrites.into()),
             ("entries", told.entries.into()),
             ("granted", told.granted.into()),
             ("kept", told.kept.into()),
-        ];
+        ]);
         if let Some(rule) = self.stopped {
             fields.push(("stopped", rule_fields(rule, named).into()));
         }
@@ -300,11 +333,40 @@ impl Explained {
 }
 
 /// A rule by its number, and by its line in the text: null for a packed book.
+/// In a dated book it has its day too.
 pub(crate) fn rule_fields(rule: usize, named: &Named) -> Fields {
-    vec![
+    let mut fields: Fields = vec![
         ("rule", rule.into()),
         ("rule_line", named.rule_lines.get(rule - 1).copied().into()),
-    ]
+    ];
+    let day = named.days.as_ref().map(|days| days[rule - 1]);
+    fields.extend(day.map(|day| ("rule_day", day.into())));
+    fields
+}
+
+/// A rule's name, in a dated book with its day.
+pub(crate) fn dated_rule_name(rule: usize, named: &Named) -> String {
+    let name = rule_name(rule, &named.rule_lines);
+    match &named.days {
+        Some(days) => format!("{name}, from {}", day::date(days[rule - 1])),
+        None => name,
+    }
+}
+
+/// "rules 1 to 3, 5 and 7", of at least two.
+fn listed(rules: &[usize]) -> String {
+    let runs = rules.chunk_by(|one, next| one + 1 == *next);
+    let runs = runs.flat_map(|run| match run {
+        [first, _, .., last] => vec![format!("{first} to {last}")],
+        few => few.iter().map(usize::to_string).collect(),
+    });
+    let runs: Vec<String> = runs.collect();
+    match runs.split_last() {
+        Some((last, before)) if !before.is_empty() => {
+            format!("rules {} and {last}", before.join(", "))
+        }
+        _ => format!("rules {}", runs.concat()),
+    }
 }
 
 fn put(text: &mut String, more: &str) {

@@ -3,7 +3,8 @@
 //!
 //! - `text`: the text form of books: `lexer`, `parser`, `check`, `sides` from
 //!   text to book, `printer` from book to text.
-//! - `names`, `line`, `letters`, `schedule`, `mistake`: what the commands share.
+//! - `names`, `line`, `letters`, `day`, `schedule`, `mistake`: what the commands
+//!   share.
 //! - `items`, `encoding`, `compose`, `csv`, `template`: from a file to lines.
 //! - `told`, `width`: characters in messages, and the room that they take.
 //! - `warnings`: what a book may not mean.
@@ -20,6 +21,7 @@ pub mod batch;
 pub mod cli;
 pub mod compose;
 pub mod csv;
+pub mod day;
 pub mod encoding;
 pub mod explain;
 pub mod items;

@@ -8,11 +8,10 @@ use std::sync::Mutex;
 use comparison::model::{self, Book, Form, Machine};
 use kurvneist::Request;
 
-use crate::explain::{due_rule, rule_fields};
+use crate::explain::{dated_rule_name, due_rule, rule_fields};
 use crate::json::{Fields, Json};
 use crate::text::check::Named;
 use crate::text::printer;
-use crate::trace::text::rule_name;
 use crate::trace::{shown_ending, Failure, Told};
 
 /// Of one rule.
@@ -24,7 +23,9 @@ pub struct Count {
 }
 
 pub struct Profile {
+    /// All rules, and those that stand on the day.
     book: Book,
+    standing: Book,
     counts: Mutex<Counts>,
 }
 
@@ -35,14 +36,15 @@ struct Counts {
 }
 
 impl Profile {
-    /// Of a book that the engine reads.
-    pub fn new(book: &[u8]) -> Profile {
+    /// Of a book that the engine reads, for runs on that day.
+    pub fn new(book: &[u8], day: u16) -> Profile {
         let book = model::read_book(book).expect("the engine reads the book");
         let counts = Counts {
             rules: vec![Count::default(); book.rules.len()],
             difference: None,
         };
         Profile {
+            standing: book.on_day(day),
             book,
             counts: Mutex::new(counts),
         }
@@ -67,9 +69,9 @@ impl Profile {
 
     fn counted(&self, form: Form, request: &Request, engine: &Told) -> Result<Vec<u64>, Failure> {
         let line = form
-            .read(&self.book, request.line)
+            .read(&self.standing, request.line)
             .expect("the engine has read the line");
-        let mut machine = Machine::new(&self.book, line, request.units, request.budget);
+        let mut machine = Machine::new(&self.standing, line, request.units, request.budget);
         let mut rewrites = vec![0; self.book.rules.len()];
         let mut ended = None;
         for &unit in request.schedule {
@@ -111,7 +113,7 @@ impl Profile {
     pub fn text(&self, named: &Named) -> String {
         let mut text = String::from("rewrites   lines  rule\n");
         for (rule, count) in self.rules() {
-            let name = rule_name(rule, &named.rule_lines);
+            let name = dated_rule_name(rule, named);
             let sides = self.sides(rule, named);
             let Count { rewrites, lines } = count;
             text.push_str(&format!("{rewrites:>8}{lines:>8}  {name}: {sides}\n"));

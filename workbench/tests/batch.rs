@@ -39,6 +39,7 @@ fn output_line_k_belongs_to_input_line_k() {
     let settings = |jobs| Settings {
         named: &named,
         budget: 5,
+        day: 0,
         schedules: &schedules,
         counts: false,
         reading: &reading,

@@ -15,7 +15,7 @@ use workbench::trace::Told;
 use workbench::warnings::{self, Kind, Warning};
 
 fn warned(source: &str) -> Vec<Warning> {
-    warnings::of(source, &check::read(source).expect(source))
+    warnings::of(source, &check::read(source).expect(source), None)
 }
 
 /// Declarations for the books below; each name is used by their last rule.
@@ -40,6 +40,8 @@ const TABLE: &[(&str, Kind, (usize, usize), &str)] = &[
     ("rule f(f(f(X))) = X rule f(X) = X", Kind::RewrittenBefore, (2, 8), "rule 2 (line 2) rewrites the part \"ff\"(X) before this rule is tried; expected the part as the other rules leave it: this rule never rewrites"),
     ("rule f(a) = b\nrule g(f(f(b)), f(a)) = b", Kind::RewrittenBefore, (3, 17), "rule 1 (line 2) rewrites the part f(a) before this rule is tried; expected the part as the other rules leave it: this rule never rewrites"),
     ("rule g(h(f(a)), X) = X rule f(a) = b", Kind::RewrittenBefore, (2, 10), "rule 2 (line 2) rewrites the part f(a) before this rule is tried; expected the part as the other rules leave it: this rule never rewrites"),
+    ("from 2026-07-01 rule g(X, Y) = X\nrule g(Y, X) = a\nfrom 2026-10-01 rule g(X, Y) = b", Kind::Replaced, (2, 22), "the left side is that of rule 2 (line 3), the last of this day; expected each left side once a day: this rule stands on no day"),
+    ("from 1 rule f(X) = a\nrule f(a) = b", Kind::NeverFirst, (3, 6), "rule 1 (line 2) comes first and matches all that this rule matches; expected this rule before it"),
     ("rule f(X) = f(X)", Kind::SameSides, (2, 13), "the right side is the left side; expected another: once the rule rewrites, it does so until the budget is spent"),
     ("op unused/0", Kind::UnusedOperator, (2, 4), "no rule names 'unused'; expected a rule that does, unless lines name it (a guess)"),
     ("var Z", Kind::UnusedVariable, (2, 5), "no rule names the variable 'Z'; expected a rule that does, or no declaration"),
@@ -133,13 +135,10 @@ fn draft(random: &mut Random) -> Draft {
             Some(variable) if random.one_in(2) => variable,
             _ => Symbol::Operator(0),
         };
-        RuleDraft {
-            left,
-            right: vec![right],
-        }
+        RuleDraft::new(left, vec![right])
     });
     let rules = rules.collect();
-    Draft { operators, rules }
+    Draft::new(operators, rules)
 }
 
 fn part(random: &mut Random, count: usize, depth: usize, again: bool, side: &mut Vec<Symbol>) {
@@ -265,7 +264,7 @@ fn rules_that_never_rewrite_never_do() {
         let found = warned(&source);
         let told = of_kinds(&found, &silent, &source, &named);
         before += of_kinds(&found, &[Kind::RewrittenBefore], &source, &named).len();
-        let profile = Profile::new(&bytes);
+        let profile = Profile::new(&bytes, 0);
         for term in terms(&book, 4) {
             let line = term.preorder();
             let request = Request::new(&bytes, &line)
@@ -284,6 +283,68 @@ fn rules_that_never_rewrite_never_do() {
         }
     }
     assert!(before > 30 && used > 300, "{before} {used}");
+}
+
+/// In a dated book: none of the rules that are said never to rewrite does so on
+/// any day, and those that are the first match on no day are told.
+#[test]
+fn rules_that_never_rewrite_never_do_on_any_day() {
+    let silent = [
+        Kind::NeverFirst,
+        Kind::NeverTried,
+        Kind::RewrittenBefore,
+        Kind::Replaced,
+    ];
+    let mut random = Random::new(17);
+    let mut engine = Engine::new();
+    let schedule = [0, 1].repeat(60);
+    let (mut replaced, mut warned_of, mut used) = (0, 0, 0);
+    for _ in 0..100 {
+        let mut draft = draft(&mut random).dated();
+        for rule in &mut draft.rules {
+            rule.day = random.between(1, 3) as u16;
+        }
+        let bytes = kurvneist::written_book(&draft.encode()).unwrap();
+        let book = model::read_book(&bytes).unwrap();
+        let source = printer::book(&book, &workbench::names::Names::generated(&book));
+        let named = check::read(&source).unwrap();
+        let found = warned(&source);
+        let told = of_kinds(&found, &silent, &source, &named);
+        replaced += of_kinds(&found, &[Kind::Replaced], &source, &named).len();
+        warned_of += told.len();
+        let mut first = vec![false; book.rules.len()];
+        for day in 0..=4 {
+            let profile = Profile::new(&bytes, day);
+            for term in terms(&book, 3) {
+                let line = term.preorder();
+                let request = Request::new(&bytes, &line)
+                    .units(2)
+                    .budget(20)
+                    .day(day)
+                    .schedule(&schedule);
+                let posting = engine.post(&request).unwrap();
+                let told = Told::of(&posting.answer, posting.term);
+                profile.add(Form::Line, &request, &told);
+            }
+            assert!(profile.difference().is_none());
+            for (rule, count) in profile.rules() {
+                let silent = told.contains(&(rule - 1));
+                assert!(!silent || count.rewrites == 0, "rule {rule} of\n{source}");
+                used += usize::from(count.rewrites > 0);
+            }
+            let of_day = book.on_day(day);
+            for term in terms(&book, 4) {
+                if let Some((rule, _)) = of_day.first_match(&term) {
+                    first[rule.place] = true;
+                }
+            }
+        }
+        for (rule, first) in first.into_iter().enumerate() {
+            assert!(first || told.contains(&rule), "rule {rule} of\n{source}");
+        }
+    }
+    assert!(replaced > 10 && warned_of > 60, "{replaced} {warned_of}");
+    assert!(used > 300, "{used}");
 }
 
 /// A rule whose left side is a row of 12 parts, with these at their places.
@@ -377,7 +438,8 @@ fn the_command_tells_warnings_and_errors() {
 
 #[test]
 fn the_example_books_are_sound() {
-    for book in ["examples/ticks.book", "examples/payees.book"] {
+    for book in ["ticks", "payees", "suppliers"] {
+        let book = &format!("examples/{book}.book");
         let ran = kurvneist(&["check", book, "--strict", "--allow", "unused-operator"]);
         assert_eq!(
             (ran.status, ran.output),

@@ -27,6 +27,7 @@ fn runs(mut with: impl FnMut(Form, &Request, Explained)) {
         let request = Request::new(&book, &case.line)
             .units(case.units)
             .budget(case.budget)
+            .day(case.day)
             .schedule(&case.schedule[..case.schedule.len().min(400)]);
         match explain::run(case.form, &request, 1, &mut Progress::hidden()) {
             Ok(explained) => with(case.form, &request, explained),
@@ -75,9 +76,9 @@ fn replaced(term: &Term, position: &[u8], becomes: &Term) -> Term {
 #[test]
 fn each_rewrite_is_the_rules() {
     let (mut explained_runs, mut rewrites, mut deep, mut stopped) = (0, 0, 0, 0);
-    runs(|_, _, explained| {
+    runs(|_, request, explained| {
         explained_runs += 1;
-        let book = &explained.book;
+        let book = &explained.book.on_day(request.day);
         let mut term = explained.line.to_vec();
         let mut last = 0;
         for rewrite in &explained.rewrites {
@@ -88,7 +89,7 @@ fn each_rewrite_is_the_rules() {
             assert_eq!(term[rewrite.start..][..rewrite.part.len()], rewrite.part);
             // The rule is the first that matches, and both its sides fit.
             let (rule, _) = book.first_match(part).unwrap();
-            assert_eq!(*rule, book.rules[rewrite.rule - 1]);
+            assert_eq!(*rule, explained.book.rules[rewrite.rule - 1]);
             let [mut left, mut right] = [Vec::new(), Vec::new()];
             filled(&rule.left, rewrite, &mut left);
             filled(&rule.right, rewrite, &mut right);
@@ -120,7 +121,7 @@ fn each_rewrite_is_the_rules() {
 fn profiles_count_what_explanations_show() {
     let mut counted = 0;
     runs(|form, request, explained| {
-        let profile = Profile::new(request.book);
+        let profile = Profile::new(request.book, request.day);
         let mut engine = kurvneist::Engine::new();
         for _ in 0..2 {
             let posting = match form {
@@ -181,7 +182,7 @@ fn a_difference_stops_the_explanation() {
 #[test]
 fn a_difference_spoils_the_profile() {
     ticks("both(tick(tick(end)), end)", |request| {
-        let profile = Profile::new(request.book);
+        let profile = Profile::new(request.book, request.day);
         let mut engine = kurvneist::Engine::new();
         let posting = engine.post(request).unwrap();
         let told = Told::of(&posting.answer, posting.term);

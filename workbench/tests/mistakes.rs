@@ -13,19 +13,30 @@ const TABLE: &[(&str, (usize, usize), &str)] = &[
     // Statements
     ("", (1, 1), "the book has no operator; expected 'op NAME/ARITY' (refusal 2)"),
     ("# nothing\n", (1, 1), "the book has no operator; expected 'op NAME/ARITY' (refusal 2)"),
-    ("tick/1", (1, 1), "found 'tick'; expected 'op', 'var' or 'rule'"),
-    ("op a/0\n  a = a", (2, 3), "found 'a'; expected a strategy in parentheses, 'op', 'var' or 'rule'"),
+    ("tick/1", (1, 1), "found 'tick'; expected 'op', 'var', 'rule' or 'from'"),
+    ("op a/0\n  a = a", (2, 3), "found 'a'; expected a strategy in parentheses, 'op', 'var', 'rule' or 'from'"),
     ("op a/0\nop", (2, 3), "the text ends; expected an operator's name"),
     ("op a/0\nop /1", (2, 4), "found '/'; expected an operator's name"),
     ("op a/0\nvar", (2, 4), "the text ends; expected a variable's name"),
-    ("op a/0 var X, Y", (1, 13), "found ','; expected another name, 'op', 'var' or 'rule'"),
+    ("op a/0 var X, Y", (1, 13), "found ','; expected another name, 'op', 'var', 'rule' or 'from'"),
     ("op op/0", (1, 4), "'op' begins a statement; expected an operator's name"),
     ("op a/0 rule rule = a", (1, 13), "'rule' begins a statement; expected a term"),
     ("op a/0\nop a/0", (2, 4), "'a' is declared already on line 1; expected a new name"),
     ("op a f/1\nvar f rule a(f) = f", (2, 5), "'f' is declared already on line 1; expected a new name"),
     ("op é/0\nop e\u{301}/0", (2, 5), "an accent stands apart from its letter (U+0301); expected letter and accent as one character"),
-    ("op a/0 @", (1, 8), "found '@'; expected a strategy in parentheses, 'op', 'var' or 'rule'"),
+    ("op a/0 @", (1, 8), "found '@'; expected a strategy in parentheses, 'op', 'var', 'rule' or 'from'"),
     ("\u{3}\u{2}", (1, 1), "found U+0003 (control character); expected a text; a packed book is read by 'kurvneist text' or with --packed"),
+    // Days
+    ("op a/0\nfrom", (2, 5), "the text ends; expected a date from 1970-01-01 to 2149-06-06, or a number from 0 to 65535"),
+    ("op a/0\nfrom July rule a = a", (2, 6), "'July' is no day; expected a date from 1970-01-01 to 2149-06-06, or a number from 0 to 65535"),
+    ("op a/0\nfrom 1.7.2026\nrule a = a", (2, 6), "'1.7.2026' is no day; expected a date from 1970-01-01 to 2149-06-06, or a number from 0 to 65535"),
+    ("op a/0\nfrom 2026-02-29\nrule a = a", (2, 6), "there is no 2026-02-29 in the calendar; expected a date from 1970-01-01 to 2149-06-06, or a number from 0 to 65535"),
+    ("op a/0\nfrom 1969-12-31\nrule a = a", (2, 6), "1969-12-31 is before 1970-01-01, day 0; expected a date from 1970-01-01 to 2149-06-06, or a number from 0 to 65535"),
+    ("op a/0\nfrom 2149-06-07\nrule a = a", (2, 6), "2149-06-07 is past 2149-06-06, day 65535; expected a date from 1970-01-01 to 2149-06-06, or a number from 0 to 65535"),
+    ("op a/0\nfrom 65536\nrule a = a", (2, 6), "'65536' is past day 65535; expected a date from 1970-01-01 to 2149-06-06, or a number from 0 to 65535"),
+    ("op a/0\nfrom 1 2\nrule a = a", (2, 8), "found '2'; expected 'op', 'var', 'rule' or 'from' after the day"),
+    ("op a b/0\nrule a = b\nrule b = a\nfrom 2026-07-01\nrule a = a", (2, 1), "this rule has no day, and others have; expected 'from' and a day before it; 'from 0' if it holds ever since"),
+    ("op f/1 op a/0\nfrom 1\nrule f(a\nfrom 2\nrule a = a", (3, 7), "'(' isn't closed; expected ',' or ')' before 'from' in line 4, column 1"),
     // Arities
     ("op a", (1, 5), "the text ends; expected '/' and the arity, as in 'both/2'"),
     ("op a: 2", (1, 5), "found ':'; expected '/' and the arity, as in 'both/2'"),
@@ -78,7 +89,7 @@ const TABLE: &[(&str, (usize, usize), &str)] = &[
     ("op f/1 op a/0\nrule f(a) =\nvar X", (2, 1), "the rule has no right side; expected a term behind '=' before 'var' in line 3, column 1"),
     ("op f/1 op a/0\nrule f(a)\n", (2, 1), "the rule has no right side; expected '=' and a term before the text ends"),
     ("op f/1 op a/0\nrule f(a) = = a", (2, 1), "the rule has no right side; expected a term behind '=' before '=' in column 13"),
-    ("op f/1 op a/0\nrule f(a) = a)", (2, 14), "found ')'; expected 'op', 'var' or 'rule' after the rule"),
+    ("op f/1 op a/0\nrule f(a) = a)", (2, 14), "found ')'; expected 'op', 'var', 'rule' or 'from' after the rule"),
     ("op f/1 op a/0\nrule f(a) =", (2, 1), "the rule has no right side; expected a term behind '=' before the text ends"),
     ("op f/1 var X\nrule X = f(X)", (2, 6), "the left side is a variable; expected an operator at its root (refusal 5)"),
     ("op f/1 var X Y\nrule f(X) = f(Y)", (2, 15), "'Y' is absent on the left; expected a variable of the left side (refusal 7)"),
@@ -214,12 +225,11 @@ fn refused_drafts() -> Vec<(u8, Draft)> {
         arity,
         strategy: strategy.map(<[u8]>::to_vec),
     };
-    let book = |operator, left: &[Symbol], right: &[Symbol]| Draft {
-        operators: vec![operator],
-        rules: vec![RuleDraft {
-            left: left.into(),
-            right: right.into(),
-        }],
+    let book = |operator, left: &[Symbol], right: &[Symbol]| {
+        Draft::new(
+            vec![operator],
+            vec![RuleDraft::new(left.into(), right.into())],
+        )
     };
     let [f, x, y] = [
         Symbol::Operator(0),

@@ -98,7 +98,7 @@ const TABLE: &[(&str, (usize, usize), &str)] = &[
     (
         "op letters (0)\nrule \"ab\" = a(end)",
         (1, 12),
-        "found '('; expected 'op', 'var' or 'rule' after 'op letters'",
+        "found '('; expected 'op', 'var', 'rule' or 'from' after 'op letters'",
     ),
     // One mistyping, however many letters the rules use.
     (
@@ -304,6 +304,7 @@ fn traces_of_random_texts_equal_the_engine() {
         let request = Request::new(&book, &case.line)
             .units(case.units)
             .budget(case.budget)
+            .day(case.day)
             .schedule(&case.schedule[..case.schedule.len().min(ENTRIES)]);
         match trace::run_form(Form::Text, &request, 1, &mut Progress::hidden()) {
             Ok(trace) => {

@@ -6,10 +6,12 @@ use std::collections::HashSet;
 
 use common::{file, kurvneist, largest_draft};
 use comparison::books;
+use comparison::dates;
 use comparison::draft::{Draft, Symbol};
 use comparison::grow;
 use comparison::model::{read_book, Item};
 use comparison::random::Random;
+use workbench::day;
 use workbench::line;
 use workbench::mistake::Mistake;
 use workbench::names::Names;
@@ -19,7 +21,12 @@ const BOOKS: u64 = 800;
 
 fn drafts() -> impl Iterator<Item = Draft> {
     (0..BOOKS)
-        .map(|number| books::draft(&mut Random::for_case(7, number)))
+        .map(|number| {
+            let mut random = Random::for_case(7, number);
+            let mut draft = books::draft(&mut random);
+            dates::date(&mut random, &mut draft);
+            draft
+        })
         .chain((0..3).map(|number| largest_draft(&mut Random::for_case(8, number))))
 }
 
@@ -44,6 +51,9 @@ fn the_random_books_are_wide_enough() {
         seen.extend((book.operators.len() == 255).then_some("255 operators"));
         seen.extend((book.rules.len() == 255).then_some("255 rules"));
         seen.extend(book.rules.is_empty().then_some("no rules"));
+        let days = book.days.as_ref();
+        seen.extend(days.map(|_| "dated"));
+        seen.extend(days.is_some_and(Vec::is_empty).then_some("dated, no rules"));
         for rule in &draft.rules {
             seen.extend((rule.left.len() == 64).then_some("left of 64"));
             seen.extend((rule.right.len() == 64).then_some("right of 64"));
@@ -70,7 +80,7 @@ fn the_random_books_are_wide_enough() {
             seen.extend((length == Some(31)).then_some("31 items"));
         }
     }
-    assert_eq!(seen.len(), 13, "{seen:?}");
+    assert_eq!(seen.len(), 15, "{seen:?}");
 }
 
 #[test]
@@ -230,7 +240,8 @@ fn the_commands_turn_texts_to_books_and_back() {
 #[test]
 fn a_refused_book_is_told_in_words_and_number() {
     for (bytes, told) in [
-        (&[0u8][..], "refused 2: the book has no operator"),
+        (&[0u8, 0][..], "refused 2: the book has no operator"),
+        (&[0], "refused 1: "),
         (&[1, 0], "refused 1: "),
         (&[1, 0, 0, 0], "refused 9: "),
     ] {
@@ -257,7 +268,7 @@ struct Writer {
     text: String,
 }
 
-const PIECES: [&str; 20] = [
+const PIECES: [&str; 21] = [
     "Müller",
     "é",
     "ß",
@@ -278,6 +289,7 @@ const PIECES: [&str; 20] = [
     "ops",
     "rules",
     "end",
+    "from",
 ];
 
 impl Writer {
@@ -325,13 +337,30 @@ impl Writer {
                 self.put(")");
             }
         }
+        if draft.dated && draft.rules.is_empty() {
+            self.from(7);
+        }
+        let mut before = None;
         for rule in &draft.rules {
+            // The same day may be said again.
+            if draft.dated && (before != Some(rule.day) || self.random.one_in(3)) {
+                self.from(rule.day);
+            }
+            before = Some(rule.day);
             self.put("rule");
             self.side(draft, &rule.left, true);
             self.put("=");
             self.side(draft, &rule.right, false);
         }
         std::mem::take(&mut self.text)
+    }
+
+    fn from(&mut self, day: u16) {
+        self.put("from");
+        match self.random.one_in(2) {
+            true => self.put(&day.to_string()),
+            false => self.put(&day::date(day)),
+        }
     }
 
     /// A token, and any space or comment behind it.

@@ -27,11 +27,13 @@ fn runs(mut with: impl FnMut(&Named, &Request, Trace)) {
             names: Names::generated(&read),
             book,
             rule_lines: Vec::new(),
+            days: read.days,
         };
         let schedule = &case.schedule[..case.schedule.len().min(ENTRIES)];
         let request = Request::new(&named.book, &case.line)
             .units(case.units)
             .budget(case.budget)
+            .day(case.day)
             .schedule(schedule);
         match trace::run(&request, 1, &mut Progress::hidden()) {
             Ok(trace) => with(&named, &request, trace),

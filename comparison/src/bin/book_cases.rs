@@ -1,7 +1,7 @@
 //! Makes the cases of the program `book_cases` and what it is to print: the files `stdin` and `stdout` of a folder.
 //!
-//! A case is 2 bytes book length, 2 bytes output length and the book. The output is lent full of A5 and is printed whole, so that the bytes that
-//! have to stay are seen.
+//! A case is 2 bytes book length, 2 bytes output length, 2 bytes day and the book. The output is lent full of A5 and is printed whole, so that the
+//! bytes that have to stay are seen. The reader's answer has the operators and the rules that stand on the day.
 
 use std::path::Path;
 use std::{env, fs, io};
@@ -19,6 +19,7 @@ const FILLER: u8 = 0xA5;
 struct Case {
     book: Vec<u8>,
     room: usize,
+    day: u16,
 }
 
 fn main() -> io::Result<()> {
@@ -45,17 +46,21 @@ fn input(case: &Case) -> Vec<u8> {
                 .to_be_bytes(),
         );
     }
+    bytes.extend(case.day.to_be_bytes());
     bytes.extend(&case.book);
     bytes
 }
 
 fn line(case: &Case) -> String {
-    format!("{} {}\n", read(&case.book), written(case))
+    format!("{} {}\n", read(case), written(case))
 }
 
-fn read(book: &[u8]) -> String {
-    match model::read_book(book) {
-        Ok(book) => format!("read {} {}", book.operators.len(), book.rules.len()),
+fn read(case: &Case) -> String {
+    match model::read_book(&case.book) {
+        Ok(book) => {
+            let standing = book.on_day(case.day).rules.len();
+            format!("read {} {standing}", book.operators.len())
+        }
         Err(number) => format!("refused {number}"),
     }
 }
@@ -89,14 +94,15 @@ fn check_refusals(cases: &[Case]) {
 // Cases picked by hand
 
 fn picked_cases() -> Vec<Case> {
-    picked_books()
-        .iter()
-        .flat_map(|book| cases_of(book))
-        .collect()
+    let undated = picked_books();
+    let undated = undated.iter().flat_map(|book| cases_of(book, 0));
+    let dated = dated_books();
+    let dated = dated.iter().flat_map(|(book, day)| cases_of(book, *day));
+    undated.chain(dated).collect()
 }
 
 /// A sound book with an output one byte short, one that fits, and one with room to spare.
-fn cases_of(book: &[u8]) -> Vec<Case> {
+fn cases_of(book: &[u8], day: u16) -> Vec<Case> {
     let rooms = match model::written(book, usize::MAX) {
         Ok(bytes) => vec![bytes.len() - 1, bytes.len(), bytes.len() + 3],
         Err(_) => vec![3],
@@ -104,6 +110,7 @@ fn cases_of(book: &[u8]) -> Vec<Case> {
     let case = |room| Case {
         book: book.to_vec(),
         room,
+        day,
     };
     rooms.into_iter().map(case).collect()
 }
@@ -154,6 +161,29 @@ fn picked_books() -> Vec<Vec<u8>> {
     ]
 }
 
+/// Dated books, each with a day on which its rules are counted.
+fn dated_books() -> Vec<(Vec<u8>, u16)> {
+    let (x, y) = (Symbol::Variable(0), Symbol::Variable(15));
+    let rule = |left, day| RuleDraft::new(left, vec![Symbol::Operator(0)]).on(day);
+    let rules = vec![
+        rule(both(x, y), 5),
+        rule(both(y, x), 7),
+        rule(both(x, x), 7),
+        rule(both(x, y), 7),
+        rule(both(y, y), 0xFFFF),
+    ];
+    let mut draft = Draft::new(operators_p(), rules).dated();
+    let whole = draft.encode();
+    let cut = whole[..whole.len() - 1].to_vec();
+    let longer = [&whole[..], &[0]].concat();
+    let days = [4, 5, 6, 7, 0xFFFE, 0xFFFF];
+    let mut books: Vec<(Vec<u8>, u16)> = days.map(|day| (whole.clone(), day)).to_vec();
+    draft.operators[2].strategy = Some(vec![8, 1, 1, 2, 9, 0, 0]);
+    books.extend([(draft.encode(), 7), (cut, 7), (longer, 7)]);
+    books.extend([vec![0, 0], vec![0, 1, 0, 0], vec![0, 1, 0]].map(|book| (book, 1)));
+    books
+}
+
 fn operator(arity: u8, strategy: Option<&[u8]>) -> OperatorDraft {
     OperatorDraft {
         arity,
@@ -182,20 +212,10 @@ fn book_p() -> Vec<u8> {
     );
     let (x, y) = (Symbol::Variable(0), Symbol::Variable(1));
     let rules = vec![
-        RuleDraft {
-            left: vec![both, end, y],
-            right: vec![y],
-        },
-        RuleDraft {
-            left: vec![both, tick, x, y],
-            right: vec![tick, both, x, y],
-        },
+        RuleDraft::new(vec![both, end, y], vec![y]),
+        RuleDraft::new(vec![both, tick, x, y], vec![tick, both, x, y]),
     ];
-    Draft {
-        operators: operators_p(),
-        rules,
-    }
-    .encode()
+    Draft::new(operators_p(), rules).encode()
 }
 
 /// The last bit of P's last byte is padding.
@@ -205,19 +225,11 @@ fn padded_with_one(mut book: Vec<u8>) -> Vec<u8> {
 }
 
 fn one_strategy(arity: u8, items: &[u8]) -> Vec<u8> {
-    Draft {
-        operators: vec![operator(arity, Some(items))],
-        rules: Vec::new(),
-    }
-    .encode()
+    Draft::new(vec![operator(arity, Some(items))], Vec::new()).encode()
 }
 
 fn one_rule(left: Vec<Symbol>, right: Vec<Symbol>) -> Vec<u8> {
-    Draft {
-        operators: operators_p(),
-        rules: vec![RuleDraft { left, right }],
-    }
-    .encode()
+    Draft::new(operators_p(), vec![RuleDraft::new(left, right)]).encode()
 }
 
 /// A side of so many symbols, all but the last of them `tick`.
@@ -253,6 +265,7 @@ fn random_cases() -> Vec<Case> {
             Case {
                 book,
                 room: length.saturating_add_signed(case.writer_offset),
+                day: case.day,
             }
         })
         .take(RANDOM_CASES)

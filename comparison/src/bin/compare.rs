@@ -98,7 +98,9 @@ fn run(options: &Options) -> ExitCode {
             Programs::of(folder).map(|programs| run_pages(&programs, options, numbers))
         }
         // A slip of the page shows in no answer.
-        (None, Some(slip @ Slip::Lines)) => Ok(run_pages(&BrokenModel { slip }, options, numbers)),
+        (None, Some(slip)) if slip.is_of_pages() => {
+            Ok(run_pages(&BrokenModel { slip }, options, numbers))
+        }
         (None, _) => Ok(run_subject(options, numbers)),
     };
     match same {

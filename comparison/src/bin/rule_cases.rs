@@ -1,7 +1,7 @@
 //! Makes the cases of the program `rule_cases` and what it is to print: the files `stdin` and `stdout` of a folder.
 //!
 //! A case is 2 bytes book length, 2 bytes line length, 2 bytes offset, the book and the line. It asks for the rewrite, by the first rule that
-//! matches, of the line's part at the offset.
+//! matches, of the line's part at the offset. All books are undated: which rules stand on a day is no matter of a rewrite.
 
 use std::path::Path;
 use std::{env, fs, io};
@@ -75,12 +75,7 @@ fn rewritten(book: &Book, term: &Term, offset: usize) -> String {
     let Some((rule, filling)) = book.first_match(part) else {
         return String::from("none");
     };
-    // Equal rules can stand at two places; the first one acts.
-    let number = book
-        .rules
-        .iter()
-        .position(|other| other == rule)
-        .expect("the rule is the book's");
+    let number = rule.place;
     let end = offset + part.size();
     let size = rule.right.filled_size(&filling);
     let told = if size > TERM_LIMIT {
@@ -225,20 +220,17 @@ fn repeated_cases() -> Vec<Case> {
 fn matching_book() -> Vec<u8> {
     let symbol = Symbol::Operator;
     let (x, y) = (Symbol::Variable(3), Symbol::Variable(15));
-    let rule = |left: &[Symbol], right: &[Symbol]| RuleDraft {
-        left: left.to_vec(),
-        right: right.to_vec(),
-    };
-    Draft {
-        operators: [0, 0, 1, 2, 3, 1].map(operator).to_vec(),
-        rules: vec![
+    let rule = |left: &[Symbol], right: &[Symbol]| RuleDraft::new(left.to_vec(), right.to_vec());
+    Draft::new(
+        [0, 0, 1, 2, 3, 1].map(operator).to_vec(),
+        vec![
             rule(&[symbol(4), x, x, x], &[symbol(3), x, x]),
             rule(&[symbol(4), x, y, x], &[symbol(3), y, x]),
             rule(&[symbol(3), x, x], &[symbol(2), x]),
             rule(&[symbol(3), symbol(3), x, y, symbol(3), y, x], &[y]),
             rule(&[symbol(5), symbol(3), x, x], &[x]),
         ],
-    }
+    )
     .encode()
 }
 
@@ -257,20 +249,10 @@ fn book_p() -> Vec<u8> {
     );
     let (x, y) = (Symbol::Variable(0), Symbol::Variable(1));
     let rules = vec![
-        RuleDraft {
-            left: vec![both, end, y],
-            right: vec![y],
-        },
-        RuleDraft {
-            left: vec![both, tick, x, y],
-            right: vec![tick, both, x, y],
-        },
+        RuleDraft::new(vec![both, end, y], vec![y]),
+        RuleDraft::new(vec![both, tick, x, y], vec![tick, both, x, y]),
     ];
-    Draft {
-        operators: vec![operator(0), operator(1), operator(2)],
-        rules,
-    }
-    .encode()
+    Draft::new(vec![operator(0), operator(1), operator(2)], rules).encode()
 }
 
 /// tick(X) gives three(X, X, X), and a second rule for tick that never acts.
@@ -278,19 +260,13 @@ fn copying_book() -> Vec<u8> {
     let (tick, three) = (Symbol::Operator(1), Symbol::Operator(3));
     let x = Symbol::Variable(9);
     let rules = vec![
-        RuleDraft {
-            left: vec![tick, x],
-            right: vec![three, x, x, x],
-        },
-        RuleDraft {
-            left: vec![tick, x],
-            right: vec![x],
-        },
+        RuleDraft::new(vec![tick, x], vec![three, x, x, x]),
+        RuleDraft::new(vec![tick, x], vec![x]),
     ];
-    Draft {
-        operators: vec![operator(0), operator(1), operator(1), operator(3)],
+    Draft::new(
+        vec![operator(0), operator(1), operator(1), operator(3)],
         rules,
-    }
+    )
     .encode()
 }
 
@@ -315,6 +291,7 @@ fn random_cases() -> impl Iterator<Item = Case> {
             let offset = some_offset(&mut random, &book, &line);
             Case { book, line, offset }
         })
+        .filter(|case| !model::is_dated(&case.book))
         .filter(|case| case.book.len().max(case.line.len()) <= LONGEST)
         .take(RANDOM_CASES)
 }

@@ -1,7 +1,7 @@
 //! Makes the cases of the program `run_cases` and what it is to print: the files `stdin` and `stdout` of a folder.
 //!
-//! A case is a head of 16 bytes (name length, 2 bytes book length, 2 bytes line length, units, 4 bytes budget, 2 bytes each for the lengths of
-//! schedule, work area and output), the name, the book, the line and the schedule. Both buffers are lent full of a byte that shows where they
+//! A case is a head of 18 bytes (name length, 2 bytes book length, 2 bytes line length, units, 4 bytes budget, 2 bytes day, 2 bytes each for the
+//! lengths of schedule, work area and output), the name, the book, the line and the schedule. The day is there whatever the book's form. Both buffers are lent full of a byte that shows where they
 //! were written.
 //!
 //! With a seed and a count the files hold so many random cases, of any size, and no others.
@@ -31,6 +31,7 @@ struct Case {
     line: Vec<u8>,
     units: u8,
     budget: u32,
+    day: u16,
     schedule: Vec<u8>,
     work: usize,
     output: usize,
@@ -74,6 +75,7 @@ fn input(case: &Case) -> Vec<u8> {
         &short(case.line.len()),
         &[case.units],
         &case.budget.to_be_bytes(),
+        &case.day.to_be_bytes(),
         &short(case.schedule.len()),
         &short(case.work),
         &short(case.output),
@@ -110,6 +112,7 @@ fn answer(case: &Case) -> Result<Answer, u8> {
         &case.line,
         case.units,
         case.budget,
+        case.day,
         &case.schedule,
         case.work,
         case.output,
@@ -151,6 +154,13 @@ fn check(cases: &[Case]) {
         Slip::Lengths,
         Slip::Last,
         Slip::Anew,
+        Slip::Earlier,
+        Slip::Own,
+        Slip::Naming,
+        Slip::Names,
+        Slip::Ahead,
+        Slip::ByDay,
+        Slip::Undated,
     ] {
         let shows = |case: &Case| shows(case, slip);
         assert!(picked_cases().iter().any(shows), "no case shows {slip:?}");
@@ -165,6 +175,7 @@ fn shows(case: &Case, slip: Slip) -> bool {
         line: &case.line,
         units: case.units,
         budget: case.budget,
+        day: case.day,
         schedule: &case.schedule,
     };
     let mut work = vec![0; MODEL_PUBLISHED];
@@ -200,6 +211,7 @@ fn picked_cases() -> Vec<Case> {
         ],
         helping_cases(),
         matching_cases(),
+        dated_cases(),
         slip_cases(),
     ]
     .concat()
@@ -213,6 +225,7 @@ fn case(name: &str, book: impl Into<Vec<u8>>) -> Case {
         line: vec![2, 1, 0, 1, 0],
         units: 1,
         budget: 9,
+        day: 0,
         schedule: vec![0; 29],
         work: PUBLISHED,
         output: OUTPUT_LEN,
@@ -231,6 +244,10 @@ impl Case {
 
     fn budget(self, budget: u32) -> Case {
         Case { budget, ..self }
+    }
+
+    fn day(self, day: u16) -> Case {
+        Case { day, ..self }
     }
 
     fn schedule(self, schedule: impl Into<Vec<u8>>) -> Case {
@@ -283,18 +300,11 @@ fn given(arity: u8, items: &[u8]) -> OperatorDraft {
 }
 
 fn rule(left: &[Symbol], right: &[Symbol]) -> RuleDraft {
-    RuleDraft {
-        left: left.to_vec(),
-        right: right.to_vec(),
-    }
+    RuleDraft::new(left.to_vec(), right.to_vec())
 }
 
 fn book(operators: &[OperatorDraft], rules: &[RuleDraft]) -> Vec<u8> {
-    Draft {
-        operators: operators.to_vec(),
-        rules: rules.to_vec(),
-    }
-    .encode()
+    Draft::new(operators.to_vec(), rules.to_vec()).encode()
 }
 
 /// `end`, `tick` and `both`, whose arguments are reduced side by side.
@@ -432,7 +442,7 @@ fn line_refusals() -> Vec<Case> {
 
 fn order_of_checks() -> Vec<Case> {
     let p = |name| case(name, book_p());
-    let bad = |name| case(name, [0]);
+    let bad = |name| case(name, [0, 0]);
     vec![
         p("13 before 15").units(0).work(0),
         p("13 before 16").units(9).output(0),
@@ -729,6 +739,122 @@ fn matching_cases() -> Vec<Case> {
     ]
 }
 
+/// Three constants, a pair whose arguments are not reduced, and one whose are reduced side by side.
+fn dated_book(rules: &[RuleDraft]) -> Draft {
+    let operators = [
+        plain(0),
+        plain(0),
+        plain(0),
+        given(2, &[0]),
+        given(2, &[8, 1, 2, 9, 0]),
+    ];
+    Draft::new(operators.to_vec(), rules.to_vec()).dated()
+}
+
+fn dated_cases() -> Vec<Case> {
+    let pair = |one, other, right: u8, day| rule(&[op(3), one, other], &[op(right)]).on(day);
+    let on = |name: &str, rules: &[RuleDraft], day, line: &[u8]| {
+        case(name, dated_book(rules).encode())
+            .line(line)
+            .zeros(60)
+            .day(day)
+    };
+    let one = [3, 0, 1];
+    let years = [pair(X, Y, 0, 10), pair(Y, X, 1, 20)];
+    let backwards = [pair(Y, X, 1, 20), pair(X, Y, 0, 10)];
+    let same = [pair(X, Y, 0, 10), pair(Y, X, 1, 10), pair(X, Y, 2, 9)];
+    let repeated = [pair(X, X, 0, 1), pair(X, Y, 1, 2)];
+    let order = [
+        pair(X, op(0), 0, 30),
+        pair(op(0), X, 1, 20),
+        pair(X, X, 2, 10),
+    ];
+    let mut undated = dated_book(&years);
+    undated.dated = false;
+    let undated = undated.encode();
+    let forked = [
+        rule(&[op(4), op(0), X], &[X]).on(5),
+        rule(&[op(4), op(0), Y], &[op(3), Y, Y]).on(6),
+        rule(&[op(3), X, X], &[op(0)]).on(6),
+    ];
+    let line = [4, 4, 0, 1, 4, 0, 1];
+    vec![
+        case("1: a byte 0 alone", [0]),
+        case("2: no operator behind the byte 0", [0, 0]),
+        case("a dated book without rules", [0, 1, 0, 0]).line([0]),
+        on("before the first day", &years, 9, &one),
+        on("on the first day", &years, 10, &one),
+        on("the day before the second", &years, 19, &one),
+        on("on the second day", &years, 20, &one),
+        on("on the last day of all", &years, u16::MAX, &one),
+        on("a later rule first in the book", &backwards, 20, &one),
+        on(
+            "a later rule first in the book, before its day",
+            &backwards,
+            19,
+            &one,
+        ),
+        on("within a day the last", &same, 10, &one),
+        on("an earlier day behind", &same, 9, &one),
+        on(
+            "f(X, X) beside a later f(X, Y), equal parts",
+            &repeated,
+            2,
+            &[3, 0, 0],
+        ),
+        on(
+            "f(X, X) beside a later f(X, Y), other parts",
+            &repeated,
+            2,
+            &one,
+        ),
+        on("tried in book order, one stands", &order, 10, &[3, 0, 0]),
+        on("tried in book order, two stand", &order, 20, &[3, 0, 0]),
+        on("tried in book order, three stand", &order, 30, &[3, 0, 0]),
+        case("an undated book ignores the day", &undated[..])
+            .line(one)
+            .day(9),
+        case("an undated book replaces nothing", &undated[..])
+            .line(one)
+            .day(u16::MAX),
+        on("forked, on the first day", &forked, 5, &line)
+            .units(2)
+            .turns(99),
+        on("forked, on the second day", &forked, 6, &line)
+            .units(2)
+            .turns(99),
+        long_sides("64 symbols that agree", 1),
+        long_sides("64 symbols that differ in the last operator", 2),
+        many_rules("255 rules that agree", |_| 5),
+        many_rules("255 rules that agree, each of its own day", |place| place),
+        many_rules(
+            "255 rules that agree, the first of the latest day",
+            |place| 254 - place,
+        ),
+    ]
+}
+
+/// Two left sides of 64 symbols, of days 1 and 2; `last` is the operator above the variable of the second.
+fn long_sides(name: &str, last: u8) -> Case {
+    let side = |last: u8| [vec![op(1); 62], vec![op(last), X]].concat();
+    let rules = vec![
+        rule(&side(1), &[op(0)]).on(1),
+        rule(&side(last), &[op(2), op(0)]).on(2),
+    ];
+    let book = Draft::new(vec![plain(0), plain(1), plain(1)], rules).dated();
+    let line = [vec![1; 63], vec![0]].concat();
+    case(name, book.encode()).line(line).zeros(300).day(2)
+}
+
+/// Rules for the same constant; the first, the last and the one before have right sides of their own.
+fn many_rules(name: &str, day: fn(u16) -> u16) -> Case {
+    let operators = vec![plain(0); 255];
+    let right = |place: u16| op(254 - place as u8 / 2);
+    let rules = (0..255).map(|place| rule(&[op(0)], &[right(place)]).on(day(place)));
+    let book = Draft::new(operators, rules.collect()).dated().encode();
+    case(name, book).line([0]).day(u16::MAX)
+}
+
 fn slip_cases() -> Vec<Case> {
     let forgets = book(
         &[plain(0), plain(0), given(1, &[0, 1, 0]), plain(2)],
@@ -829,6 +955,7 @@ fn random_case(seed: u64, number: u64) -> Case {
         line: case.line,
         units: case.units,
         budget: case.budget,
+        day: case.day,
         schedule: case.schedule,
         output: case.output_len,
     }

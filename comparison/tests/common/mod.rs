@@ -27,22 +27,19 @@ pub fn with_strategy(arity: u8, items: &[u8]) -> OperatorDraft {
 }
 
 pub fn rule(left: &[Symbol], right: &[Symbol]) -> RuleDraft {
-    RuleDraft {
-        left: left.to_vec(),
-        right: right.to_vec(),
-    }
+    RuleDraft::new(left.to_vec(), right.to_vec())
 }
 
 /// Book P of the document: `end`, `tick` and `both`.
 pub fn book_p() -> Draft {
     let (end, tick, both) = (op(0), op(1), op(2));
-    Draft {
-        operators: vec![operator(0), operator(1), with_strategy(2, &[8, 1, 2, 9, 0])],
-        rules: vec![
+    Draft::new(
+        vec![operator(0), operator(1), with_strategy(2, &[8, 1, 2, 9, 0])],
+        vec![
             rule(&[both, end, Y], &[Y]),
             rule(&[both, tick, X, Y], &[tick, both, X, Y]),
         ],
-    }
+    )
 }
 
 /// The line of the document's page.
@@ -65,7 +62,7 @@ pub fn ask_bytes(
     budget: u32,
     schedule: &[u8],
 ) -> Result<Answer, u8> {
-    answer(book, line, units, budget, schedule, 0, OUTPUT_LEN, 0)
+    answer(book, line, units, budget, 0, schedule, 0, OUTPUT_LEN, 0)
 }
 
 /// The program's input.

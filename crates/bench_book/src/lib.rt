@@ -1,4 +1,4 @@
-// The reader of books for the benchmark: its tables are the caller's, so that they can be compared.
+// The reader of books for the benchmark: its tables are the caller's, so that they can be compared. An undated book ignores the day.
 use book::Book;
 ghost use mathlib.Core.Path.{_≡_};
 ghost use lib.ListN.{length};
@@ -7,6 +7,7 @@ ghost use lib.ListN.{length};
 #[no_mangle]
 pub extern "C" fn bench_book_read(
     bytes: &[u8],
+    day: u16,
     operators: &mut [u8; 4352],
     rules: &mut [u32; 1024],
 ) -> u8
@@ -15,7 +16,7 @@ pub extern "C" fn bench_book_read(
     if 65536 < bytes.len() {
         return 255;
     }
-    match book::read_book(bytes, operators, rules) {
+    match book::read_book(bytes, day, operators, rules) {
         Book::Read(_) => 0,
         Book::Refused(k) => k,
     }

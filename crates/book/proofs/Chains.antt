@@ -13,17 +13,15 @@ use Rattle.paper.specs.Sound.{IsOperator}
 use Rattle.paper.specs.Writer.{concat, write-symbol}
 use Rattle.paper.specs.WellFormed.{Fits, GoodSide, GoodBook}
 use Rattle.paper.proofs.Tests.{eqb-cases}
-use Rattle.tables.specs.Layout.{first-in, next-in, left-in, with-link}
+use Rattle.tables.specs.Layout.{first-in, next-in, day-in, left-in, with-link}
 use Rattle.tables.specs.Tables.{Stand, ruleAt, Sides, NoneOf, FirstOf, Root, ChainedFrom}
 use Rattle.tables.proofs.Laws.{all-at}
+use Rattle.tables.proofs.Grow.{link-day}
 use Rattle.side.specs.Contracts.{standing, NumberFits, StandingAt}
 use Rattle.side.specs.declared.Standing.{Standing}
+use Rattle.side.proofs.There.{number-fits}
 
 -- THE ROOT OF A RULE
-
-number-fits : (ops : List Operator) (s : Symbol) → length ops ≤ 256 → Fits ops s → NumberFits s
-number-fits ops (Symbol.operator o) l f = omega arith
-number-fits ops (Symbol.variable v) l f = f
 
 -- the root of a left side is an operator; it is the symbol that stands where the side does
 abbrev RootIs : Symbol → Standing → Type 0
@@ -125,11 +123,12 @@ module _ (rs : List Rule) (i root : ℕ) (rules : List ℕ) (long : length rules
 -- the turn of the loop
 pub link-more : {bytes rules rules′ : List ℕ} {B : Book} {i k at root next : ℕ} → GoodBook B → k ≡ i + 1 → i < length (B .rules) →
     Sides bytes (B .rules) rules → ChainedFrom k (B .rules) rules → at ≡ left-in rules i → StandingAt bytes at (Standing.Operator root next) →
-    rules′ ≡ with-link rules i root → Sides bytes (B .rules) rules′ × ChainedFrom i (B .rules) rules′
+    rules′ ≡ with-link rules i root → Sides bytes (B .rules) rules′ × ChainedFrom i (B .rules) rules′ × (day-in rules′ ≡ day-in rules)
 link-more {rules = rules} {B = B} {i = i} {root = root} g e l sides chained at-is stands f =
     let (is, small) = root-read g sides l at-is stands in
     let b : i < 255 = omega (arith, g .few-rules) in
     rw f (
       linked-sides (B .rules) i root rules (sides .long) b small sides,
       linked-chains (B .rules) i root rules (sides .long) b small l is (rw e at chained),
+      link-day rules i root b small,
     )

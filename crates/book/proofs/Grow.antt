@@ -1,27 +1,16 @@
--- Tables that grow by an entry at their end. Assumes nothing.
+-- The operators' table grows by an entry at its end. Assumes nothing.
 use mathlib.Core.List.{List, [], _∷_, _++_}
 use mathlib.Core.Path.{_≡_, sym, ap, _∙_, subst}
 use Prim.Native.Nat.{ℕ, _+_, _*_, _≤_, _<_}
 use native.Mathlib.Omega.{arith}
 use lib.ListN.{length, getD, set, take, length-append, length-set, List·getD-append}
 use lib.Seq.{getD-at, getD-take, getD-set-same, getD-set-other, drop-set-lt, length-take-le}
-use borrow.Author.Count.{below-more}
 use Rattle.paper.specs.Strategy.{layout}
-use Rattle.paper.specs.Book.{Operator, Rule}
-use Rattle.tables.specs.Layout.{row, arity-in, row-in, set-row, left-in, right-in, with-sides}
-use Rattle.tables.specs.Tables.{OperatorIn, RuleIn, Operators}
+use Rattle.paper.specs.Book.{Operator}
+use Rattle.tables.specs.Layout.{row, arity-in, row-in, set-row}
+use Rattle.tables.specs.Tables.{OperatorIn, Operators}
 use Rattle.tables.proofs.Rows.{row-length, row-set, row-other}
-use Rattle.book.specs.Contracts.{Unlinked}
-
--- what holds of each entry and of one more, where what is kept of an entry (Q) follows from what was known of it (P)
-snoc-each : {A : Type 0} (d : A) (xs : List A) (x : A) (n : ℕ) (P Q : ℕ → A → Type 0) → length xs ≡ n →
-    ((i : ℕ) → i < length xs → P i (getD xs i d)) → ((i : ℕ) (a : A) → i < n → P i a → Q i a) → Q n x →
-    (i : ℕ) → i < length (xs ++ (x ∷ [])) → Q i (getD (xs ++ (x ∷ [])) i d)
-snoc-each d xs x n P Q e each keep here i l =
-    below-more (λ i. Q i (getD (xs ++ (x ∷ [])) i d)) n
-    (λ i l. subst (Q i) (sym (List·getD-append xs (x ∷ []) d i (omega arith))) (keep i (getD xs i d) l (each i (omega arith))))
-    (subst (Q n) (sym (getD-at xs x [] d n e)) here)
-    i (omega (arith, length-append xs (x ∷ [])))
+use Rattle.tables.proofs.Grow.{snoc-each}
 
 -- OPERATORS
 
@@ -63,31 +52,4 @@ operators-grow op o operators laid operators′ l short f long g ops count t =
                 ∙ ap (λ (z : List ℕ). row-in z o) f ∙ row-set operators o r h (omega arith) e;
           });
       long = ap length g ∙ length-set laid o (op .arity) ∙ long;
-    }
-
--- RULES
-
-pub rules-grow : (bytes : List ℕ) (rule : Rule) (i l r : ℕ) (rules : List ℕ) → i < 255 → RuleIn bytes rule l r →
-    (rs : List Rule) → length rs ≡ i → Unlinked bytes rs rules → Unlinked bytes (rs ++ (rule ∷ [])) (with-sides rules i l r)
-rules-grow bytes rule i l r rules b here rs count u =
-    let mid : List ℕ = set rules (512 + i) l in
-    let t = u .sides in
-    let long : length mid ≡ 1024 = length-set rules (512 + i) l ∙ t .long in
-    let other : (k : ℕ) → (k ≡ 512 + i → ⊥) → (k ≡ 768 + i → ⊥) → getD (with-sides rules i l r) k 0 ≡ getD rules k 0 =
-    λ k m n. getD-set-other mid (768 + i) k r 0 n ∙ getD-set-other rules (512 + i) k l 0 m in
-    record {
-      sides = record {
-        each = snoc-each _ rs rule i
-            (λ j a. RuleIn bytes a (left-in rules j) (right-in rules j))
-            (λ j a. RuleIn bytes a (left-in (with-sides rules i l r) j) (right-in (with-sides rules i l r) j))
-            count (t .each)
-            (λ j a c p. rw (other (512 + j) (λ q. omega arith) (λ q. omega arith), other (768 + j) (λ q. omega arith) (λ q. omega arith)) p)
-            (rw (
-              getD-set-other mid (768 + i) (512 + i) r 0 (λ q. omega arith),
-              getD-set-same rules (512 + i) l 0 (omega (arith, t .long)),
-              getD-set-same mid (768 + i) r 0 (omega arith),
-            ) here);
-        long = length-set mid (768 + i) r ∙ long;
-      };
-      none = λ o k. rw (other o (λ q. omega arith) (λ q. omega arith)) (u .none o k);
     }

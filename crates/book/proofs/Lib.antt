@@ -1,4 +1,5 @@
 pub mod Readers
+pub mod Forms
 pub mod Grow
 pub mod Operators
 pub mod Chains

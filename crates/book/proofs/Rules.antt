@@ -1,47 +1,36 @@
 -- Rules: a rule that is read stands where it was read, the table grows by it, and m rules are read one by one. Assumes nothing.
-use mathlib.Core.List.{List, [], _∷_, _++_}
-use mathlib.Core.Path.{_≡_, refl, ap, _∙_, subst}
-use Prim.Native.Nat.{ℕ, zero, suc, _+_, _*_, _^_, _≤_, _<_}
+use mathlib.Core.Bool.{Bool, true, false, true≢false}
+use mathlib.Core.List.{List, [], _∷_, _++_, map}
+use mathlib.Core.Path.{_≡_, refl, sym, ap, _∙_, subst}
+use Prim.Native.Nat.{ℕ, zero, suc, _+_, _-_, _*_, _^_, _≤_, _<_}
 use native.Mathlib.Nat.{le-antisymm}
 use native.Mathlib.Omega.{arith}
-use lib.ListN.{length, replicate, length-append, length-replicate, getD-replicate}
-use Rattle.paper.specs.Result.{repeat}
-use Rattle.paper.specs.Bits.{toBits}
-use Rattle.paper.specs.Tree.{node, preorder, preorders}
-use Rattle.paper.specs.Book.{Operator, Symbol, Side, arityAt}
-use Rattle.paper.specs.Reader.{read-rule}
-use Rattle.paper.specs.Writer.{concat, write-symbol, write-side}
-use Rattle.bits.proofs.Reading.{bits-left}
-use Rattle.tables.specs.Layout.{arity-in, with-sides}
-use Rattle.tables.specs.Tables.{Stand, RuleIn}
+use lib.ListN.{length, getD, set, replicate, length-append, length-map, length-set, length-replicate, getD-replicate}
+use lib.Seq.{getD-set-same, getD-set-other}
+use Rattle.paper.specs.Result.{return, _>>=_, repeat}
+use Rattle.paper.specs.Book.{Operator, Rule, arityAt}
+use Rattle.paper.specs.Dated.{DatedRule, read-dated-rule}
+use Rattle.paper.specs.Writer.{write-side}
+use Rattle.paper.proofs.Rules.{then-is}
+use Rattle.tables.specs.Layout.{arity-in, left-in, right-in, with-sides}
+use Rattle.tables.specs.Tables.{RuleIn, Unlinked}
+use Rattle.tables.proofs.Laws.{stand-inside}
+use Rattle.tables.proofs.Grow.{snoc-each, rules-grow}
 use Rattle.side.specs.Contracts as S
 use Rattle.side.specs.Contracts.{bitsAt}
 use Rattle.side.specs.declared.Rule as Ru
 use Rattle.side.specs.declared.RuleEnd.{RuleEnd}
-use Rattle.book.specs.Contracts.{RuleTaken, RulesTaken}
+use Rattle.side.proofs.Symbols.{then-refused}
+use Rattle.standing.specs.Dates.{DatedIn, Dates}
+use Rattle.book.specs.Contracts.{read-rule-of, DayIs, DayPassed, undated-rules, RulesIn, RuleTaken, RulesTaken}
 use Rattle.book.specs.declared.Part.{Part}
 use Rattle.book.proofs.Readers.{repeat-next, repeat-stops}
-use Rattle.book.proofs.Grow.{rules-grow}
+
+map-append : {A C : Type 0} (f : A → C) (xs ys : List A) → map f (xs ++ ys) ≡ map f xs ++ map f ys
+map-append f [] ys = refl
+map-append f (x ∷ xs) ys = ap (λ (zs : List _). f x ∷ zs) (map-append f xs ys)
 
 -- A rule that is read stands where it was read
-
-symbol-long : (s : Symbol) → 0 < length (write-symbol s)
-unfolding write-symbol toBits
-symbol-long (Symbol.operator o) = omega arith
-symbol-long (Symbol.variable v) = omega arith
-
--- a side that stands at a position is inside the book
-stand-inside : (bytes : List ℕ) (at : ℕ) (t : Side) → Stand bytes at (preorder t) → at < 8 * length bytes
-unfolding preorder concat
-stand-inside bytes at (node s ts) p =
-    omega (
-      arith,
-      symbol-long s,
-      bits-left bytes at,
-      ap length (p .is),
-      length-append (concat write-symbol (preorder (node s ts))) (p .rest),
-      length-append (write-symbol s) (concat write-symbol (preorders ts)),
-    )
 
 rule-stands : (ops : List Operator) (bytes : List ℕ) (at : ℕ) (e : RuleEnd) (q : S.RuleRead ops bytes at e) → RuleIn bytes (q .rule) at (e .right)
 unfolding write-side
@@ -66,6 +55,35 @@ with-says operators k zero o i l e = absurd (omega arith)
 with-says operators k (suc n) zero i l e = let j : i ≡ k = omega arith in ap (arity-in operators) j
 with-says operators k (suc n) (suc o) i l e = with-says operators (suc k) n o i (omega arith) (omega arith)
 
+-- a rule's days and sides, which the table takes behind those that it holds
+module _ (bytes : List ℕ) (dated : Bool) (r : DatedRule) (i l e : ℕ) (rules : List ℕ) (b : i < 255) (here : RuleIn bytes (r .rule) l e)
+    (day : dated ≡ true → DatedIn bytes r l e) where
+  dates-grow : length rules ≡ 1024 → (rs : List DatedRule) → length rs ≡ i → Dates bytes rs rules → dated ≡ true → Dates bytes (rs ++ (r ∷ [])) (with-sides rules i l e)
+  dates-grow long rs count d f =
+      let mid : List ℕ = set rules (512 + i) l in
+      let other : (k : ℕ) → (k ≡ 512 + i → ⊥) → (k ≡ 768 + i → ⊥) → getD (with-sides rules i l e) k 0 ≡ getD rules k 0 =
+      λ k m n. getD-set-other mid (768 + i) k e 0 n ∙ getD-set-other rules (512 + i) k l 0 m in
+      record {
+        each = snoc-each _ rs r i
+            (λ j a. DatedIn bytes a (left-in rules j) (right-in rules j))
+            (λ j a. DatedIn bytes a (left-in (with-sides rules i l e) j) (right-in (with-sides rules i l e) j))
+            count (d .each)
+            (λ j a c p. rw (other (512 + j) (λ q. omega arith) (λ q. omega arith), other (768 + j) (λ q. omega arith) (λ q. omega arith)) p)
+            (rw (
+              getD-set-other mid (768 + i) (512 + i) e 0 (λ q. omega arith),
+              getD-set-same rules (512 + i) l 0 (omega arith),
+              getD-set-same mid (768 + i) e 0 (omega (arith, length-set rules (512 + i) l)),
+            ) (day f));
+      }
+
+  all-grow : (rs : List DatedRule) → length rs ≡ i → RulesIn dated bytes rs rules → RulesIn dated bytes (rs ++ (r ∷ [])) (with-sides rules i l e)
+  all-grow rs count u = record {
+    unlinked =
+        subst (λ (qs : List Rule). Unlinked bytes qs (with-sides rules i l e)) (sym (map-append (λ (r : DatedRule). r .rule) rs (r ∷ [])))
+        (rules-grow bytes (r .rule) i l e rules b here (undated-rules rs) (length-map rs (λ r. r .rule) ∙ count) (u .unlinked));
+    dates = λ f. dates-grow (u .unlinked .sides .long) rs count (u .dates f) f;
+  }
+
 module _ {bytes : List ℕ} {at n : ℕ} {operators : List ℕ} {e : RuleEnd} (q : S.RuleAt bytes at n operators (Ru.Rule.Read e)) where
   -- its positions are small
   pub rule-inside : length bytes ≤ 65536 → (at < 2 ^ 32) × (e .right < 2 ^ 32)
@@ -77,16 +95,57 @@ module _ {bytes : List ℕ} {at n : ℕ} {operators : List ℕ} {e : RuleEnd} (q
       let b : e .right < 8 * length bytes = stand-inside bytes (e .right) (s .rule .right) (h .right-stands) in
       (omega arith, omega arith)
 
-  pub rule-read : {i : ℕ} {rules rules′ : List ℕ} → i < 255 → rules′ ≡ with-sides rules i at (e .right) →
-      RuleTaken bytes at n operators i rules rules′ (Part.Read (e .next))
-  rule-read {i} {rules} l f = record {
-    is = λ ops t. let s = q .is ops t in (s .rule, s .is, rw f (rules-grow bytes (s .rule) i at (e .right) rules l (rule-stands ops bytes at e s)));
-  }
+  -- behind its day, or with no day before it
+  pub rule-read : {i before : ℕ} {rules rules′ : List ℕ} {dated : Bool} → DayPassed bytes before dated (Part.Read at) → i < 255 →
+      rules′ ≡ with-sides rules i at (e .right) → RuleTaken bytes before dated n operators i rules rules′ (Part.Read (e .next))
+  unfolding read-rule-of read-dated-rule _>>=_ return
+  rule-read {i} {before} {rules} {rules′} {dated} p l f = go dated (p .is)
+    where
+      go : (dated : Bool) → DayIs dated bytes before (Part.Read at) → RuleTaken bytes before dated n operators i rules rules′ (Part.Read (e .next))
+      go true (day, is, ends) = record {
+        is = λ ops t.
+            let s = q .is ops t in
+            let back : at - 16 ≡ before = omega arith in (
+              record { day = day; rule = s .rule },
+              then-is _ _ _ _ is (then-is _ _ _ _ (s .is) refl),
+              rw f
+                  (all-grow bytes true (record { day = day; rule = s .rule }) i at (e .right) rules l (rule-stands ops bytes at e s)
+                  (λ g. record { early = omega arith; day-read = rw back is; left-ends = s .left-written })),
+            );
+      }
+      go false ends = record {
+        is = λ ops t.
+            let s = q .is ops t in (
+              record { day = 0; rule = s .rule },
+              then-is _ _ _ _ (rw ends at (s .is)) refl,
+              rw f
+                  (all-grow bytes false (record { day = 0; rule = s .rule }) i at (e .right) rules l (rule-stands ops bytes at e s)
+                  (λ g. absurd (true≢false (sym g)))),
+            );
+      }
+
+pub day-refused : {bytes : List ℕ} {at n i k : ℕ} {operators rules : List ℕ} {dated : Bool} → DayPassed bytes at dated (Part.Refused k) →
+    RuleTaken bytes at dated n operators i rules rules (Part.Refused k)
+unfolding read-rule-of read-dated-rule _>>=_
+day-refused {bytes} {at} {n} {i} {k} {operators} {rules} {dated} p = go dated (p .is)
+  where
+    go : (dated : Bool) → DayIs dated bytes at (Part.Refused k) → RuleTaken bytes at dated n operators i rules rules (Part.Refused k)
+    go true e = record { is = λ ops t. then-refused _ _ k e }
+    go false e = absurd e
+
+pub rule-refused : {bytes : List ℕ} {at left n i k : ℕ} {operators rules : List ℕ} {dated : Bool} → DayPassed bytes at dated (Part.Read left) →
+    S.RuleAt bytes left n operators (Ru.Rule.Refused k) → RuleTaken bytes at dated n operators i rules rules (Part.Refused k)
+unfolding read-rule-of read-dated-rule _>>=_
+rule-refused {bytes} {at} {left} {n} {i} {k} {operators} {rules} {dated} p q = go dated (p .is)
+  where
+    go : (dated : Bool) → DayIs dated bytes at (Part.Read left) → RuleTaken bytes at dated n operators i rules rules (Part.Refused k)
+    go true (day, is, ends) = record { is = λ ops t. then-is _ _ _ _ is (then-refused _ _ k (q .is ops t)) }
+    go false ends = record { is = λ ops t. then-refused _ _ k (rw ends at (q .is ops t)) }
 
 -- One by one
 
-module _ {bytes : List ℕ} {at n : ℕ} {operators rules : List ℕ} where
-  pub rules-none : rules ≡ replicate 1024 0 → RulesTaken bytes at n operators 0 rules (Part.Read at)
+module _ {bytes : List ℕ} {at n : ℕ} {dated : Bool} {operators rules : List ℕ} where
+  pub rules-none : rules ≡ replicate 1024 0 → RulesTaken bytes at dated n operators 0 rules (Part.Read at)
   unfolding repeat
   rules-none e = rw e (record {
     are = λ ops t. (
@@ -95,29 +154,34 @@ module _ {bytes : List ℕ} {at n : ℕ} {operators rules : List ℕ} where
       (
         refl,
         record {
-          sides = record { each = λ i l. absurd (omega arith); long = length-replicate {A = ℕ} 1024 0 };
-          none = λ o l. rw (getD-replicate {A = ℕ} 1024 o 0 0 (omega arith));
+          unlinked = record {
+            sides = record { each = λ i l. absurd (omega arith); long = length-replicate {A = ℕ} 1024 0 };
+            none = λ o l. rw (getD-replicate {A = ℕ} 1024 o 0 0 (omega arith));
+          };
+          dates = λ f. record { each = λ i l. absurd (omega arith) };
         },
       ),
     );
   })
 
-  pub rules-all : {i m p : ℕ} → i ≤ m → m ≤ i → RulesTaken bytes at n operators i rules (Part.Read p) → RulesTaken bytes at n operators m rules (Part.Read p)
-  rules-all {p = p} h k = subst (λ (j : ℕ). RulesTaken bytes at n operators j rules (Part.Read p)) (le-antisymm h k)
+  pub rules-all : {i m p : ℕ} → i ≤ m → m ≤ i → RulesTaken bytes at dated n operators i rules (Part.Read p) → RulesTaken bytes at dated n operators m rules (Part.Read p)
+  rules-all {p = p} h k = subst (λ (j : ℕ). RulesTaken bytes at dated n operators j rules (Part.Read p)) (le-antisymm h k)
 
-  module _ {i p : ℕ} {rules′ : List ℕ} (h : RulesTaken bytes at n operators i rules (Part.Read p)) where
-    pub rules-next : {next : ℕ} → RuleTaken bytes p n operators i rules rules′ (Part.Read next) → RulesTaken bytes at n operators (i + 1) rules′ (Part.Read next)
+  module _ {i p : ℕ} {rules′ : List ℕ} (h : RulesTaken bytes at dated n operators i rules (Part.Read p)) where
+    pub rules-next : {next : ℕ} → RuleTaken bytes p dated n operators i rules rules′ (Part.Read next) →
+        RulesTaken bytes at dated n operators (i + 1) rules′ (Part.Read next)
     rules-next {next} q = record {
       are = λ ops t.
           let (rs, are, (count, u)) = h .are ops t in
           let (rule, is, grow) = q .is ops t in (
             rs ++ (rule ∷ []),
-            repeat-next (read-rule ops) i (bitsAt bytes at) (bitsAt bytes p) rs are rule (bitsAt bytes next) is,
+            repeat-next (read-rule-of dated ops) i (bitsAt bytes at) (bitsAt bytes p) rs are rule (bitsAt bytes next) is,
             (length-append rs (rule ∷ []) ∙ ap (λ (k : ℕ). k + 1) count, grow rs count u),
           );
     }
 
-    pub rules-stop : {m k : ℕ} → i < m → RuleTaken bytes p n operators i rules rules′ (Part.Refused k) → RulesTaken bytes at n operators m rules′ (Part.Refused k)
+    pub rules-stop : {m k : ℕ} → i < m → RuleTaken bytes p dated n operators i rules rules′ (Part.Refused k) →
+        RulesTaken bytes at dated n operators m rules′ (Part.Refused k)
     rules-stop {m} {k} l q = record {
-      are = λ ops t. let (rs, are, u) = h .are ops t in repeat-stops (read-rule ops) i (bitsAt bytes at) (bitsAt bytes p) rs are m k l (q .is ops t);
+      are = λ ops t. let (rs, are, u) = h .are ops t in repeat-stops (read-rule-of dated ops) i (bitsAt bytes at) (bitsAt bytes p) rs are m k l (q .is ops t);
     }

@@ -1,5 +1,6 @@
-// A book in one pass over its bytes: the refusal, or the tables that a run needs (document 01, 'The book, bit by bit'; refusals 1 to 9 but 6). A
-// second pass over the rules, from the last one to the first, links those of one root.
+// A book in one pass over its bytes: the refusal, or the tables that a run needs (document 01, 'The book, bit by bit'; refusals 1 to 9 but 6). Of a
+// dated book (document 02, Change 5) the table keeps the rules that stand on the day. A second pass over the rules, from the last one to the first, links
+// those of one root.
 use bits::Bits;
 use side::Rule;
 use side::Standing;
@@ -7,8 +8,8 @@ use strategy::Strategy;
 ghost use mathlib.Core.Path.{_≡_};
 ghost use Prim.Native.Nat.{_<_, _≤_};
 ghost use lib.ListN.{length};
-ghost use Rattle.tables.specs.Tables.{book-of, Rules};
-ghost use Rattle.book.specs.Contracts.{OperatorTaken, OperatorsTaken, RuleTaken, RulesTaken, EndsAt, TailAt, Linkable, BookAt};
+ghost use Rattle.paper.specs.Dated.{is-dated};
+ghost use Rattle.book.specs.Contracts.{OperatorTaken, OperatorsTaken, DayPassed, RuleTaken, RulesTaken, EndsAt, TailAt, begins, AllRead, Linkable, Standing-kept, Linked, BookAt};
 
 // How many operators there are, or a refusal.
 pub enum Book {
@@ -69,24 +70,43 @@ fn read_operators(book: &[u8], at: usize, n: usize, operators: &mut [u8; 4352]) 
     Part::Read(p)
 }
 
+// The position behind the day, which a dated book has before each rule.
+fn pass_day(book: &[u8], at: usize, dated: bool) -> Part
+    requires { ⌜ length (now book) ≤ 65536 ⌝ }
+    ensures { λ r. ⌜ DayPassed (now (book .entry)) at dated r ⌝ }
+{
+    if dated {
+        match reader::field(book, at, 16) {
+            Bits::Value(_, next) => Part::Read(next),
+            Bits::Out => Part::Refused(1),
+        }
+    } else {
+        Part::Read(at)
+    }
+}
+
 // Rule i, at position at: the positions of its sides.
 fn read_rule(
     book: &[u8],
     at: usize,
+    dated: bool,
     n: usize,
     operators: &[u8; 4352],
     i: usize,
     rules: &mut [u32; 1024],
 ) -> Part
     requires { ⌜ (length (now book) ≤ 65536) × (i < 255) ⌝ }
-    ensures { λ r. ⌜ RuleTaken (now (book .entry)) at n (now (operators .entry)) i (now (rules .entry)) (now (rules .exit)) r ⌝ }
+    ensures { λ r. ⌜ RuleTaken (now (book .entry)) at dated n (now (operators .entry)) i (now (rules .entry)) (now (rules .exit)) r ⌝ }
 {
-    match side::read_rule(book, at, n, operators) {
-        Rule::Refused(e) => Part::Refused(e),
-        Rule::Read(end) => {
-            tables::put_sides(rules, i, at, end.right);
-            Part::Read(end.next)
-        }
+    match pass_day(book, at, dated) {
+        Part::Refused(e) => Part::Refused(e),
+        Part::Read(left) => match side::read_rule(book, left, n, operators) {
+            Rule::Refused(e) => Part::Refused(e),
+            Rule::Read(end) => {
+                tables::put_sides(rules, i, left, end.right);
+                Part::Read(end.next)
+            }
+        },
     }
 }
 
@@ -94,19 +114,20 @@ fn read_rule(
 fn read_rules(
     book: &[u8],
     at: usize,
+    dated: bool,
     n: usize,
     operators: &[u8; 4352],
     m: usize,
     rules: &mut [u32; 1024],
 ) -> Part
     requires { ⌜ (length (now book) ≤ 65536) × (m ≤ 255) ⌝ }
-    ensures { λ r. ⌜ RulesTaken (now (book .entry)) at n (now (operators .entry)) m (now (rules .exit)) r ⌝ }
+    ensures { λ r. ⌜ RulesTaken (now (book .entry)) at dated n (now (operators .entry)) m (now (rules .exit)) r ⌝ }
 {
     *rules = [0; 1024];
     let mut p = at;
     let mut i = 0;
     while i < m {
-        match read_rule(book, p, n, operators, i, rules) {
+        match read_rule(book, p, dated, n, operators, i, rules) {
             Part::Refused(e) => {
                 return Part::Refused(e);
             }
@@ -138,18 +159,19 @@ fn ends(book: &[u8], at: usize) -> bool
 fn read_tail(
     book: &[u8],
     at: usize,
+    dated: bool,
     n: usize,
     operators: &[u8; 4352],
     rules: &mut [u32; 1024],
 ) -> Tail
     requires { ⌜ length (now book) ≤ 65536 ⌝ }
-    ensures { λ r. ⌜ TailAt (now (book .entry)) at n (now (operators .entry)) (now (rules .exit)) r ⌝ }
+    ensures { λ r. ⌜ TailAt (now (book .entry)) at dated n (now (operators .entry)) (now (rules .exit)) r ⌝ }
 {
     let Bits::Value(count, p) = reader::field(book, at, 8) else {
         return Tail::Refused(1);
     };
     let m = casts::offset(count);
-    match read_rules(book, p, n, operators, m, rules) {
+    match read_rules(book, p, dated, n, operators, m, rules) {
         Part::Refused(e) => Tail::Refused(e),
         Part::Read(end) => {
             if ends(book, end) {
@@ -160,10 +182,21 @@ fn read_tail(
     }
 }
 
+// Keeps those of the m rules that stand on the day: all of an undated book, which ignores it. How many they are.
+fn keep_standing(book: &[u8], dated: bool, day: u16, m: usize, rules: &mut [u32; 1024]) -> usize
+    requires { ⌜ (length (now book) ≤ 65536) × AllRead (now book) dated day m (now rules) ⌝ }
+    ensures { λ r. ⌜ Standing-kept (now (book .entry)) day r (now (rules .exit)) ⌝ }
+{
+    if dated {
+        return standing::keep(book, day, m, rules);
+    }
+    m
+}
+
 // Links the m rules of a book that was read, the last one first, so that each is put before those of its root that follow it.
 fn link_rules(book: &[u8], m: usize, rules: &mut [u32; 1024])
     requires { ⌜ (length (now book) ≤ 65536) × Linkable (now book) m (now rules) ⌝ }
-    ensures { λ _. ⌜ Rules (now (book .entry)) (book-of (now (book .entry)) .rules) (now (rules .exit)) ⌝ }
+    ensures { λ _. ⌜ Linked (now (book .entry)) (now (rules .entry)) (now (rules .exit)) ⌝ }
 {
     let mut i = m;
     while 0 < i {
@@ -177,12 +210,27 @@ fn link_rules(book: &[u8], m: usize, rules: &mut [u32; 1024])
     }
 }
 
-// The book: the first refusal in reading order, or the tables of its operators and rules. What the answer means, BookAt says.
-pub fn read_book(book: &[u8], operators: &mut [u8; 4352], rules: &mut [u32; 1024]) -> Book
-    requires { ⌜ (length (now book) ≤ 65536) × (length (now operators) ≡ 4352) ⌝ }
-    ensures { λ r. ⌜ BookAt (now (book .entry)) (now (operators .exit)) (now (rules .exit)) r ⌝ }
+// Is it a dated book, which begins with a byte 0?
+pub fn is_dated(book: &[u8]) -> bool
+    ensures { λ r. ⌜ r ≡ is-dated (now (book .entry)) ⌝ }
 {
-    let Bits::Value(count, p) = reader::field(book, 0, 8) else {
+    if 0 < book.len() { book[0] == 0 } else { false }
+}
+
+// Where the book begins behind that byte.
+fn start(dated: bool) -> usize
+    ensures { λ r. ⌜ r ≡ begins dated ⌝ }
+{
+    if dated { 8 } else { 0 }
+}
+
+// The book: the first refusal in reading order, or the tables of its operators and of its rules on a day. What the answer means, BookAt says.
+pub fn read_book(book: &[u8], day: u16, operators: &mut [u8; 4352], rules: &mut [u32; 1024]) -> Book
+    requires { ⌜ (length (now book) ≤ 65536) × (length (now operators) ≡ 4352) ⌝ }
+    ensures { λ r. ⌜ BookAt (now (book .entry)) day (now (operators .exit)) (now (rules .exit)) r ⌝ }
+{
+    let dated = is_dated(book);
+    let Bits::Value(count, p) = reader::field(book, start(dated), 8) else {
         return Book::Refused(1);
     };
     let n = casts::offset(count);
@@ -191,10 +239,12 @@ pub fn read_book(book: &[u8], operators: &mut [u8; 4352], rules: &mut [u32; 1024
     }
     match read_operators(book, p, n, operators) {
         Part::Refused(e) => Book::Refused(e),
-        Part::Read(next) => match read_tail(book, next, n, operators, rules) {
+        Part::Read(next) => match read_tail(book, next, dated, n, operators, rules) {
             Tail::Refused(e) => Book::Refused(e),
             Tail::Rules(m) => {
-                link_rules(book, m, rules);
+                tables::put_day(rules, day);
+                let k = keep_standing(book, dated, day, m, rules);
+                link_rules(book, k, rules);
                 Book::Read(n)
             }
         },

@@ -1,5 +1,5 @@
-// Cases from standard input, each 2 bytes book length, 2 bytes output length (most significant byte first) and the book. For each, a line with
-// what the reader answers, what the writer answers, and the writer's output in hexadecimal, whole.
+// Cases from standard input, each 2 bytes book length, 2 bytes output length, 2 bytes day (most significant byte first) and the book. For each, a line
+// with what the reader answers on that day, what the writer answers, and the writer's output in hexadecimal, whole.
 use book::Book;
 use cases::say;
 use cases::say_number;
@@ -9,25 +9,32 @@ ghost use mathlib.Core.Path.{_≡_};
 ghost use Prim.Native.Nat.{_<_, _≤_};
 ghost use lib.ListN.{length};
 
-// How many rules the table holds: each has its left side behind the first bit.
+fn one_if(there: bool) -> usize
+    ensures { λ r. ⌜ r ≤ 1 ⌝ }
+{
+    if there { 1 } else { 0 }
+}
+
+// How many rules stand: each is the first of its root, or the next behind another.
 fn count_rules(rules: &[u32; 1024]) -> usize {
     let mut m = 0;
-    while m < 256 {
-        if tables::left_side(rules, m) == 0 {
-            return m;
-        }
-        m += 1;
+    let mut o: u8 = 0;
+    while o < 255 {
+        let first = tables::first_rule(rules, o);
+        let next = tables::next_rule(rules, casts::index(o));
+        m += one_if(first != 0) + one_if(next != 0);
+        o += 1;
     }
     m
 }
 
 // What the reader answers.
-fn try_reader(bytes: &[u8])
+fn try_reader(bytes: &[u8], day: u16)
     requires { ⌜ length (now bytes) ≤ 65536 ⌝ }
 {
     let mut operators = [0u8; 4352];
     let mut rules = [0u32; 1024];
-    match book::read_book(bytes, &mut operators, &mut rules) {
+    match book::read_book(bytes, day, &mut operators, &mut rules) {
         Book::Refused(k) => say_refused(k),
         Book::Read(n) => {
             say(b"read ");
@@ -52,10 +59,10 @@ fn try_writer(bytes: &[u8], output: &mut [u8]) {
 }
 
 // The line of one book.
-fn try_book(bytes: &[u8], output: &mut [u8])
+fn try_book(bytes: &[u8], day: u16, output: &mut [u8])
     requires { ⌜ length (now bytes) ≤ 65536 ⌝ }
 {
-    try_reader(bytes);
+    try_reader(bytes, day);
     say(b" ");
     try_writer(bytes, output);
     say(b"\n");
@@ -69,7 +76,7 @@ fn untouched() -> [u8; 65536]
 }
 
 // A book of len bytes, with an output of room bytes. False where the input ends before it.
-fn try_sizes(len: usize, room: usize) -> bool
+fn try_sizes(len: usize, room: usize, day: u16) -> bool
     requires { ⌜ (len < 65536) × (room < 65536) ⌝ }
 {
     let mut space = io::large_buffer();
@@ -77,19 +84,20 @@ fn try_sizes(len: usize, room: usize) -> bool
     if !cases::read_front(&mut space, len) {
         return false;
     }
-    try_book(&space[..len], &mut output[..room]);
+    try_book(&space[..len], day, &mut output[..room]);
     true
 }
 
 // The next case. False at the end of the input.
 fn try_case() -> bool {
-    let mut head = [0u8; 4];
-    if !cases::read_front(&mut head, 4) {
+    let mut head = [0u8; 6];
+    if !cases::read_front(&mut head, 6) {
         return false;
     }
     try_sizes(
         cases::number(head[0], head[1]),
         cases::number(head[2], head[3]),
+        casts::short(cases::number(head[4], head[5])),
     )
 }
 

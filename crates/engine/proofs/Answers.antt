@@ -7,11 +7,11 @@ use Prim.Native.Nat.{ℕ, _≤_}
 use lib.ListN.{length, take}
 use Rattle.paper.specs.Result.{Result, refused, accepted, then}
 use Rattle.paper.specs.Book.{Term, Book}
-use Rattle.paper.specs.Reader.{readBook}
+use Rattle.paper.specs.Dated.{AnyBook, readAny, on-day}
 use Rattle.paper.specs.Run.{Answer, run}
 use Rattle.paper.specs.Page.{Request, all-below, frame-fault, unless, run-checked, LineReader, answerBy}
 use Rattle.paper.proofs.Readers.{refused-accepted}
-use Rattle.paper.proofs.Prefix.{read-prefix}
+use Rattle.paper.proofs.Prefix.{read-any-prefix}
 use Rattle.entry.specs.State.{limited}
 use Rattle.engine.specs.Spec.{published, values-of, request, answeredBy, RunBy, ReducedBy}
 use Rattle.engine.specs.declared.Answer as D
@@ -21,12 +21,12 @@ module _ (read : LineReader) (q : Request) where
   abbrev for-line : Book → Result Term → Result Answer
   for-line B x = then x (λ t. run-checked q B t)
 
-  abbrev for-book : Result Book → Result Answer
-  for-book x = then x (λ B. for-line B (read B (q .line)))
+  abbrev for-book : Result AnyBook → Result Answer
+  for-book x = then x (λ A. let B = on-day (q .day) A in for-line B (read B (q .line)))
 
-  of-frame : (f : Option ℕ) → frame-fault published q ≡ f → answerBy read published q ≡ unless f (for-book (readBook (q .book)))
+  of-frame : (f : Option ℕ) → frame-fault published q ≡ f → answerBy read published q ≡ unless f (for-book (readAny (q .book)))
   unfolding answerBy
-  of-frame f e = ap (λ (f : Option ℕ). unless f (for-book (readBook (q .book)))) e
+  of-frame f e = ap (λ (f : Option ℕ). unless f (for-book (readAny (q .book)))) e
 
   -- units not 1 to 8, or a buffer too short
   pub by-frame : (k : ℕ) → frame-fault published q ≡ some k → answerBy read published q ≡ refused k
@@ -34,18 +34,21 @@ module _ (read : LineReader) (q : Request) where
   by-frame k e = of-frame (some k) e
 
   module _ (f : frame-fault published q ≡ none) where
-    of-book : (x : Result Book) → readBook (q .book) ≡ x → answerBy read published q ≡ for-book x
+    of-book : (x : Result AnyBook) → readAny (q .book) ≡ x → answerBy read published q ≡ for-book x
     unfolding unless
     of-book x e = of-frame none f ∙ ap for-book e
 
-    pub by-book : (k : ℕ) → readBook (q .book) ≡ refused k → answerBy read published q ≡ refused k
+    pub by-book : (k : ℕ) → readAny (q .book) ≡ refused k → answerBy read published q ≡ refused k
     unfolding then
     by-book k e = of-book (refused k) e
 
-    module _ (B : Book) (b : readBook (q .book) ≡ accepted B) where
+    module _ (A : AnyBook) (b : readAny (q .book) ≡ accepted A) where
+      abbrev B : Book
+      B = on-day (q .day) A
+
       of-line : (x : Result Term) → read B (q .line) ≡ x → answerBy read published q ≡ for-line B x
       unfolding then
-      of-line x e = of-book (accepted B) b ∙ ap (for-line B) e
+      of-line x e = of-book (accepted A) b ∙ ap (for-line B) e
 
       pub by-line : (k : ℕ) → read B (q .line) ≡ refused k → answerBy read published q ≡ refused k
       unfolding then
@@ -67,9 +70,9 @@ module _ (read : LineReader) (q : Request) where
         by-run e = of-run ∙ rw (e, run-checked)
 
 -- a refusal, with the buffers as they were
-pub refuses : {read : LineReader} {book line : List ℕ} {units budget : ℕ} {schedule work output : List ℕ} (k : ℕ) →
-    answeredBy read book line units budget schedule work output ≡ refused k →
-    ReducedBy read book line units budget schedule work output work output (D.Answer.Refused k)
+pub refuses : {read : LineReader} {book line : List ℕ} {units budget day : ℕ} {schedule work output : List ℕ} (k : ℕ) →
+    answeredBy read book line units budget day schedule work output ≡ refused k →
+    ReducedBy read book line units budget day schedule work output work output (D.Answer.Refused k)
 refuses k e = record {
   answer = ap values-of (sym e);
   unchanged = λ j h. (refl, refl);
@@ -80,23 +83,25 @@ refuses k e = record {
 
 -- ANOTHER BOOK OR LINE that is answered alike
 
-module _ {read read₂ : LineReader} {book book₂ line line₂ : List ℕ} {units budget : ℕ} {schedule work output : List ℕ} where
-  pub run-as : {A : Answer} (r : RunBy read book line units budget schedule work output A) → readBook book₂ ≡ accepted (r .rules) →
-      read₂ (r .rules) line₂ ≡ accepted (r .term) → RunBy read₂ book₂ line₂ units budget schedule work output A
+module _ {read read₂ : LineReader} {book book₂ line line₂ : List ℕ} {units budget day : ℕ} {schedule work output : List ℕ} where
+  pub run-as : {A : Answer} (r : RunBy read book line units budget day schedule work output A) → readAny book₂ ≡ accepted (r .given) →
+      read₂ (r .rules) line₂ ≡ accepted (r .term) → RunBy read₂ book₂ line₂ units budget day schedule work output A
   run-as r b l = record {
+    given = r .given;
     rules = r .rules;
     term = r .term;
     book-read = b;
+    of-day = r .of-day;
     line-read = l;
     units-named = r .units-named;
     holds = r .holds;
   }
 
   pub reduced-as : {work′ output′ : List ℕ} {r : D.Answer} →
-      answeredBy read book line units budget schedule work output ≡ answeredBy read₂ book₂ line₂ units budget schedule work output →
-      ((A : Answer) → RunBy read book line units budget schedule work output A → RunBy read₂ book₂ line₂ units budget schedule work output A) →
-      ReducedBy read book line units budget schedule work output work′ output′ r →
-      ReducedBy read₂ book₂ line₂ units budget schedule work output work′ output′ r
+      answeredBy read book line units budget day schedule work output ≡ answeredBy read₂ book₂ line₂ units budget day schedule work output →
+      ((A : Answer) → RunBy read book line units budget day schedule work output A → RunBy read₂ book₂ line₂ units budget day schedule work output A) →
+      ReducedBy read book line units budget day schedule work output work′ output′ r →
+      ReducedBy read₂ book₂ line₂ units budget day schedule work output work′ output′ r
   reduced-as e f h = record {
     answer = h .answer ∙ ap values-of e;
     unchanged = λ k x. h .unchanged k (e ∙ x);
@@ -106,17 +111,17 @@ module _ {read read₂ : LineReader} {book book₂ line line₂ : List ℕ} {uni
   }
 
 -- what stands behind a book's first 65,536 bytes is not looked at
-same-answer : (read : LineReader) (book line : List ℕ) (units budget : ℕ) (schedule work output : List ℕ) → 65536 ≤ length book →
-    answeredBy read book line units budget schedule work output ≡ answeredBy read (take 65536 book) line units budget schedule work output
+same-answer : (read : LineReader) (book line : List ℕ) (units budget day : ℕ) (schedule work output : List ℕ) → 65536 ≤ length book →
+    answeredBy read book line units budget day schedule work output ≡ answeredBy read (take 65536 book) line units budget day schedule work output
 unfolding answerBy frame-fault run-checked
-same-answer read book line units budget schedule work output long =
-    let q : Request = request book line units budget schedule work output in
-    ap (λ (x : Result Book). unless (frame-fault published q) (for-book read q x)) (read-prefix book long)
+same-answer read book line units budget day schedule work output long =
+    let q : Request = request book line units budget day schedule work output in
+    ap (λ (x : Result AnyBook). unless (frame-fault published q) (for-book read q x)) (read-any-prefix book long)
 
-pub reduced-prefix : {read : LineReader} {book line : List ℕ} {units budget : ℕ} {schedule work output work′ output′ : List ℕ} {r : D.Answer} →
+pub reduced-prefix : {read : LineReader} {book line : List ℕ} {units budget day : ℕ} {schedule work output work′ output′ : List ℕ} {r : D.Answer} →
     65536 ≤ length book →
-    ReducedBy read (take 65536 book) line units budget schedule work output work′ output′ r →
-    ReducedBy read book line units budget schedule work output work′ output′ r
-reduced-prefix {read} {book} {line} {units} {budget} {schedule} {work} {output} long =
-    reduced-as (sym (same-answer read book line units budget schedule work output long))
-    (λ A r. run-as r (read-prefix book long ∙ r .book-read) (r .line-read))
+    ReducedBy read (take 65536 book) line units budget day schedule work output work′ output′ r →
+    ReducedBy read book line units budget day schedule work output work′ output′ r
+reduced-prefix {read} {book} {line} {units} {budget} {day} {schedule} {work} {output} long =
+    reduced-as (sym (same-answer read book line units budget day schedule work output long))
+    (λ A r. run-as r (read-any-prefix book long ∙ r .book-read) (r .line-read))

@@ -93,7 +93,7 @@ module _ (q : Request) where
 -- so the numbers lie within their bounds
 pub frame-of : {units work output : ℕ} → fault units work output ≡ 0 → Frame units work output
 frame-of {units} {work} {output} e =
-    let q : Request = record { book = []; line = []; units = units; budget = 0; schedule = []; work = work; output = output } in
+    let q : Request = record { book = []; line = []; units = units; budget = 0; day = 0; schedule = []; work = work; output = output } in
     elim (outcome q) [
       | inl p ↦ p .1
       | inr p ↦ absurd (Option·some-ne-none (p .0) (sym (p .2) ∙ framed q e))

@@ -1,19 +1,20 @@
 -- A line or a text, once it is checked, is a term in front of the symbols, and the run of that term answers it. Assumes nothing.
 use mathlib.Core.List.{List, _++_}
-use mathlib.Core.Path.{_≡_, refl, sym, ap, _∙_}
+use mathlib.Core.Path.{_≡_, refl, sym, ap, _∙_, subst}
 use Prim.Native.Nat.{ℕ, _≤_}
 use native.Mathlib.Omega.{arith}
 use lib.ListN.{length, take, drop, length-append, length-drop}
 use lib.Seq.{take-at}
 use Rattle.paper.specs.Result.{refused, accepted}
 use Rattle.paper.specs.Book.{Term, Book}
+use Rattle.paper.specs.Dated.{on-day}
 use Rattle.paper.specs.Line.{readLine}
 use Rattle.paper.specs.Text.{squeezed, chain, readText}
 use Rattle.paper.specs.Page.{LineReader, run-checked}
 use Rattle.paper.proofs.Readers.{accepted-injective}
 use Rattle.paper.proofs.Text.{length-chain, text-correct, text-line}
-use Rattle.tables.specs.Layout.{arity-in}
-use Rattle.tables.specs.Tables.{book-of, Operators, TablesOf}
+use Rattle.tables.specs.Layout.{arity-in, day-in}
+use Rattle.tables.specs.Tables.{any-book, book-of, Operators, TablesOf}
 use Rattle.line.specs.Line.{judgement}
 use Rattle.line.specs.declared.Line as L
 use Rattle.line.proofs.Checking as Lines
@@ -75,30 +76,37 @@ module _ (B : Book) {operators : List ℕ} {n : ℕ} (count : length (B .operato
 
 -- by the book that was read
 pub by-tables : {read : LineReader} {book operators rules line symbols : List ℕ} {n : ℕ} {r : T.Text} → TablesOf book operators rules →
-    n ≡ length (book-of book .operators) → Term-read read n operators line symbols r → Read-as read (book-of book) line symbols r
-by-tables {book = book} tables e q = q .is (book-of book) (sym e) (tables .tables .operators-in)
+    n ≡ length (book-of book rules .operators) → Term-read read n operators line symbols r → Read-as read (book-of book rules) line symbols r
+by-tables {book = book} {rules = rules} tables e q = q .is (book-of book rules) (sym e) (tables .tables .operators-in)
 
 pub loaded : {read : LineReader} {book operators rules line symbols : List ℕ} {n : ℕ} → TablesOf book operators rules →
-    Taken read (book-of book) line symbols n → Loaded book operators rules symbols n
+    Taken read (book-of book rules) line symbols n → Loaded book operators rules symbols n
 loaded tables t = record { tables = tables; long = t .long; most = t .most; term = t .term; term-read = t .term-read }
 
 -- THE RUN of the term answers what it is read from
 
 module _ {read : LineReader} {line symbols : List ℕ} {m : ℕ} (budget : ℕ) (schedule : List ℕ) {book operators rules work output : List ℕ} {units : ℕ}
-    (f : Framed book units work output) (tables : TablesOf book operators rules) (t : Taken read (book-of book) line symbols m) where
+    (f : Framed book units work output) (tables : TablesOf book operators rules) (t : Taken read (book-of book rules) line symbols m) where
   abbrev front : List ℕ
   front = take m symbols
 
-  same-term : answeredBy read book line units budget schedule work output ≡ answered book front units budget schedule work output
+  same-term : answeredBy read book line units budget (day-in rules) schedule work output ≡ answered book front units budget (day-in rules) schedule work output
   unfolding run-checked
   same-term =
       let b = tables .read in
-      of-run read (request book line units budget schedule work output) (framed _ (f .faultless)) (book-of book) b (t .term) (t .line-read)
-      ∙ sym (of-run readLine (request book front units budget schedule work output) (framed _ (f .faultless)) (book-of book) b (t .term) (t .term-read))
+      of-run read (request book line units budget (day-in rules) schedule work output) (framed _ (f .faultless)) (any-book book) b (t .term) (t .line-read)
+      ∙ sym (of-run readLine (request book front units budget (day-in rules) schedule work output) (framed _ (f .faultless)) (any-book book) b (t .term) (t .term-read))
 
-  pub reduced-alike : {work′ output′ : List ℕ} {r : D.Answer} → Reduced book front units budget schedule work output work′ output′ r →
-      ReducedBy read book line units budget schedule work output work′ output′ r
+  pub reduced-alike : {work′ output′ : List ℕ} {r : D.Answer} → Reduced book front units budget (day-in rules) schedule work output work′ output′ r →
+      ReducedBy read book line units budget (day-in rules) schedule work output work′ output′ r
   reduced-alike = reduced-as (sym same-term) (λ A r.
-      let e : book-of book ≡ r .rules = accepted-injective (sym (tables .read) ∙ r .book-read) in
+      let e : book-of book rules ≡ r .rules = ap (on-day (day-in rules)) (accepted-injective (sym (tables .read) ∙ r .book-read)) ∙ sym (r .of-day) in
       run-as r (r .book-read)
       (ap (λ (B : Book). read B line) (sym e) ∙ t .line-read ∙ sym (t .term-read) ∙ ap (λ (B : Book). readLine B front) e ∙ r .line-read))
+
+-- on the day that was asked for, if the tables are of it
+pub on-its-day : {read : LineReader} {book line : List ℕ} {units budget day table : ℕ} {schedule work output work′ output′ : List ℕ} {r : D.Answer} →
+    table ≡ day → ReducedBy read book line units budget table schedule work output work′ output′ r →
+    ReducedBy read book line units budget day schedule work output work′ output′ r
+on-its-day {read} {book} {line} {units} {budget} {schedule = schedule} {work} {output} {work′} {output′} {r} =
+    subst (λ (d : ℕ). ReducedBy read book line units budget d schedule work output work′ output′ r)

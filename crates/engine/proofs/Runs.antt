@@ -15,7 +15,7 @@ use Rattle.paper.specs.Line.{readLine}
 use Rattle.paper.specs.Page.{Request, all-below}
 use Rattle.paper.specs.Sound.{All}
 use Rattle.paper.proofs.Readers.{accepted-injective, refused-accepted}
-use Rattle.paper.proofs.Books.{read-sound}
+use Rattle.paper.proofs.Dated.{day-sound}
 use Rattle.paper.proofs.Line.{line-correct}
 use Rattle.paper.proofs.Trees.{size-preorder}
 use Rattle.paper.proofs.Above.{helps}
@@ -24,7 +24,8 @@ use Rattle.paper.proofs.OneUnit.{grants, accounted}
 use Rattle.flat.specs.Machine.{FlatState, flat-start, with-units}
 use Rattle.flat.specs.Run.{FlatAnswer, flat-run, flat-run-from, Reached, flatten}
 use Rattle.flat.proofs.Run.{same-run-read}
-use Rattle.tables.specs.Tables.{book-of}
+use Rattle.tables.specs.Layout.{day-in}
+use Rattle.tables.specs.Tables.{any-book, book-of}
 use Rattle.units.specs.Stacks.{store, units-in}
 use Rattle.units.specs.Contracts.{Started}
 use Rattle.whole.specs.declared.Limits.{Limits}
@@ -43,7 +44,7 @@ use Rattle.engine.proofs.Answers.{by-run}
 module _ (budget : ℕ) (schedule : List ℕ) {book operators rules symbols work output : List ℕ} {n units : ℕ} (f : Framed book units work output)
     (s : Loaded book operators rules symbols n) (names : all-below units schedule ≡ true) where
   abbrev B : Book
-  B = book-of book
+  B = book-of book rules
 
   -- the symbols in front, which are a line
   abbrev line : List ℕ
@@ -103,7 +104,7 @@ module _ (budget : ℕ) (schedule : List ℕ) {book operators rules symbols work
       unfolding flat-run
       answer-is =
           is ∙ ap₂ (λ (b : ℕ) (x : FlatState). flat-run-from B (limited b) 0 schedule x) limit first-is
-          ∙ same-run-read book line B (s .term) (s .tables .read) (s .term-read) (limited budget) units schedule
+          ∙ same-run-read book line (any-book book) (day-in rules) (s .term) (s .tables .read) (s .term-read) (limited budget) units schedule
 
       term-is : take (r .length) symbols′ ≡ preorder (A .term)
       unfolding flatten
@@ -127,21 +128,23 @@ module _ (budget : ℕ) (schedule : List ℕ) {book operators rules symbols work
           ap₂ (λ (a : FlatAnswer) (n : ℕ).
           accepted (record { ending = a .ending; rewrites = a .rewrites; entries = a .entries; granted = a .granted; kept = a .kept; length = n })) answer-is length-is
 
-      run-of : RunOf book line units budget schedule work output A
+      run-of : RunOf book line units budget (day-in rules) schedule work output A
       unfolding run
       run-of =
-          let d = demand-3 book line B (s .term) (s .tables .read) (s .term-read) units budget schedule in
-          let sound = read-sound book B (s .tables .read) in
+          let d = demand-3 book line (any-book book) (day-in rules) (s .term) (s .tables .read) (s .term-read) units budget schedule in
+          let sound = day-sound book (any-book book) (s .tables .read) (day-in rules) in
           record {
+            given = any-book book;
             rules = B;
             term = s .term;
             book-read = s .tables .read;
+            of-day = refl;
             line-read = s .term-read;
             units-named = names;
             holds = record {
               is = refl;
               demand-3 = d;
-              helps = helps book line B (s .term) (s .tables .read) (s .term-read) units budget schedule;
+              helps = helps book line (any-book book) (day-in rules) (s .term) (s .tables .read) (s .term-read) units budget schedule;
               posting = d .posting;
               grants = grants B sound (s .term) (of-line .0) (limited budget) units schedule;
               accounted = accounted B sound (s .term) (of-line .0) (limited budget) units schedule;
@@ -153,20 +156,20 @@ module _ (budget : ℕ) (schedule : List ℕ) {book operators rules symbols work
           }
 
       pub reduced : {work′ output′ : List ℕ} → work′ ≡ replicate (length work) 0 → output′ ≡ take (r .length) symbols′ ++ drop (r .length) output →
-          Reduced book line units budget schedule work output work′ output′ (D.Answer.Ran r)
+          Reduced book line units budget (day-in rules) schedule work output work′ output′ (D.Answer.Ran r)
       reduced {output′ = output′} e o = record {
         answer = values-are ∙ ap values-of (sym told);
         unchanged = λ k h. absurd (refused-accepted (sym h ∙ told));
         cleared = λ A′ h. e;
         written = λ A′ h. subst (λ (x : Answer). output′ ≡ preorder (x .term) ++ drop (length (preorder (x .term))) output) (only h)
             (o ∙ ap₂ (λ (xs : List ℕ) (n : ℕ). xs ++ drop n output) term-is length-is);
-        run-of = λ A′ h. subst (RunOf book line units budget schedule work output) (only h) run-of;
+        run-of = λ A′ h. subst (RunOf book line units budget (day-in rules) schedule work output) (only h) run-of;
       }
         where
-          told : answered book line units budget schedule work output ≡ accepted A
+          told : answered book line units budget (day-in rules) schedule work output ≡ accepted A
           told =
-              let q : Request = request book line units budget schedule work output in
-              by-run readLine q (framed q (f .faultless)) B (s .tables .read) (s .term) (s .term-read) names
+              let q : Request = request book line units budget (day-in rules) schedule work output in
+              by-run readLine q (framed q (f .faultless)) (any-book book) (s .tables .read) (s .term) (s .term-read) names
 
-          only : {A′ : Answer} → answered book line units budget schedule work output ≡ accepted A′ → A ≡ A′
+          only : {A′ : Answer} → answered book line units budget (day-in rules) schedule work output ≡ accepted A′ → A ≡ A′
           only h = accepted-injective (sym told ∙ h)

@@ -19,20 +19,20 @@ fault-number (some k) = k
 
 abbrev pub fault : ℕ → ℕ → ℕ → ℕ
 fault units work output =
-    fault-number (frame-fault published (record { book = []; line = []; units = units; budget = 0; schedule = []; work = work; output = output }))
+    fault-number (frame-fault published (record { book = []; line = []; units = units; budget = 0; day = 0; schedule = []; work = work; output = output }))
 
 -- the run's frame is without fault, and the book no longer than any book is
 pub record Framed (book : List ℕ) (units : ℕ) (work output : List ℕ) : Type 0 where
   pub faultless : fault units (length work) (length output) ≡ 0
   pub short : length book ≤ 65536
 
--- these are the book's tables, and the first n symbols are a term by it
+-- these are the book's tables on a day, and the first n symbols are a term by it
 pub record Loaded (book operators rules symbols : List ℕ) (n : ℕ) : Type 0 where
   pub tables : TablesOf book operators rules
   pub long : length symbols ≡ 1024
   pub most : n ≤ 1024
   pub term : Term
-  pub term-read : readLine (book-of book) (take n symbols) ≡ accepted term
+  pub term-read : readLine (book-of book rules) (take n symbols) ≡ accepted term
 
 -- the line is read as a term, which the first n symbols are
 pub record Taken (read : LineReader) (B : Book) (line symbols : List ℕ) (n : ℕ) : Type 0 where

@@ -1,5 +1,5 @@
 -- The entry points of a run: which definition their answers equal, and what becomes of the lent buffers (document 01, 'What is checked where', 'How a
--- run ends', 'What a reviewer will try, in order'; document 02, Changes 1 to 3). Assumes nothing.
+-- run ends', 'What a reviewer will try, in order'; document 02, Changes 1 to 3 and 5). Assumes nothing.
 use mathlib.Core.Bool.{true}
 use mathlib.Core.List.{List, _++_}
 use mathlib.Core.Path.{_≡_}
@@ -8,7 +8,7 @@ use lib.ListN.{length, drop, replicate}
 use Rattle.paper.specs.Result.{Result, refused, accepted}
 use Rattle.paper.specs.Tree.{preorder}
 use Rattle.paper.specs.Book.{Term, Book}
-use Rattle.paper.specs.Reader.{readBook}
+use Rattle.paper.specs.Dated.{AnyBook, readAny, on-day}
 use Rattle.paper.specs.Line.{readLine}
 use Rattle.paper.specs.Text.{readText}
 use Rattle.paper.specs.Reduction.{rewrites, Reduces}
@@ -77,12 +77,13 @@ reader F.Form.Term = readLine
 reader F.Form.Text = readText
 
 -- of the two buffers that are lent to be written, only their lengths are asked with
-abbrev pub request : List ℕ → List ℕ → ℕ → ℕ → List ℕ → List ℕ → List ℕ → Request
-request book line units budget schedule work output = record {
+abbrev pub request : List ℕ → List ℕ → ℕ → ℕ → ℕ → List ℕ → List ℕ → List ℕ → Request
+request book line units budget day schedule work output = record {
   book = book;
   line = line;
   units = units;
   budget = budget;
+  day = day;
   schedule = schedule;
   work = length work;
   output = length output;
@@ -110,15 +111,18 @@ pub record RunHolds (rules : Book) (term : Term) (units budget : ℕ) (schedule 
   pub fits : length (preorder (A .term)) ≤ 1024
 
 -- by either reader
-module _ (read : LineReader) (book line : List ℕ) (units budget : ℕ) (schedule work output : List ℕ) where
+module _ (read : LineReader) (book line : List ℕ) (units budget day : ℕ) (schedule work output : List ℕ) where
   abbrev pub answeredBy : Result Answer
-  answeredBy = answerBy read published (request book line units budget schedule work output)
+  answeredBy = answerBy read published (request book line units budget day schedule work output)
 
-  -- A is the answer of a run by the book that was read, from the term that the line is read as
+  -- A is the answer of a run by the book that was read, in its form, with the rules that stand on the run's day (an undated book has the same on every
+  -- day), from the term that the line is read as
   pub record RunBy (A : Answer) : Type 0 where
+    pub given : AnyBook
     pub rules : Book
     pub term : Term
-    pub book-read : readBook book ≡ accepted rules
+    pub book-read : readAny book ≡ accepted given
+    pub of-day : rules ≡ on-day day given
     pub line-read : read rules line ≡ accepted term
     pub units-named : all-below units schedule ≡ true
     pub holds : RunHolds rules term units budget schedule A
@@ -138,15 +142,15 @@ module _ (read : LineReader) (book line : List ℕ) (units budget : ℕ) (schedu
     pub run-of : (A : Answer) → answeredBy ≡ accepted A → RunBy A
 
 -- of a line
-abbrev pub answered : List ℕ → List ℕ → ℕ → ℕ → List ℕ → List ℕ → List ℕ → Result Answer
+abbrev pub answered : List ℕ → List ℕ → ℕ → ℕ → ℕ → List ℕ → List ℕ → List ℕ → Result Answer
 answered = answeredBy readLine
 
-abbrev pub RunOf : List ℕ → List ℕ → ℕ → ℕ → List ℕ → List ℕ → List ℕ → Answer → Type 0
+abbrev pub RunOf : List ℕ → List ℕ → ℕ → ℕ → ℕ → List ℕ → List ℕ → List ℕ → Answer → Type 0
 RunOf = RunBy readLine
 
-abbrev pub Reduced : List ℕ → List ℕ → ℕ → ℕ → List ℕ → List ℕ → List ℕ → List ℕ → List ℕ → D.Answer → Type 0
+abbrev pub Reduced : List ℕ → List ℕ → ℕ → ℕ → ℕ → List ℕ → List ℕ → List ℕ → List ℕ → List ℕ → D.Answer → Type 0
 Reduced = ReducedBy readLine
 
 -- of a payee's text
-abbrev pub PayeeReduced : List ℕ → List ℕ → ℕ → ℕ → List ℕ → List ℕ → List ℕ → List ℕ → List ℕ → D.Answer → Type 0
+abbrev pub PayeeReduced : List ℕ → List ℕ → ℕ → ℕ → ℕ → List ℕ → List ℕ → List ℕ → List ℕ → List ℕ → D.Answer → Type 0
 PayeeReduced = ReducedBy readText

@@ -11,6 +11,7 @@ ghost use mathlib.Core.Path.{_≡_};
 ghost use Prim.Native.Nat.{ℕ, _≤_, _<_};
 ghost use lib.ListN.{length, take, drop};
 ghost use Rattle.paper.specs.Page.{all-below};
+ghost use Rattle.tables.specs.Layout.{day-in};
 ghost use Rattle.engine.specs.Spec as R;
 ghost use Rattle.engine.specs.Contracts as C;
 ghost use Rattle.engine.specs.declared.Answer as D;
@@ -92,8 +93,8 @@ fn post(
     requires { ⌜ C.Framed (now book) units (now work) (now output) ⌝ }
     requires { ⌜ C.Loaded (now book) (now operators) (now rules) (now symbols) length ⌝ }
     requires { ⌜ all-below units (now schedule) ≡ true ⌝ }
-    ensures { λ r. ⌜ R.Reduced (now (book .entry)) (take length (now (symbols .entry))) units budget (now (schedule .entry)) (now (work .entry))
-        (now (output .entry)) (now (work .exit)) (now (output .exit)) (D.Answer.Ran r) ⌝ }
+    ensures { λ r. ⌜ R.Reduced (now (book .entry)) (take length (now (symbols .entry))) units budget (day-in (now (rules .entry)))
+        (now (schedule .entry)) (now (work .entry)) (now (output .entry)) (now (work .exit)) (now (output .exit)) (D.Answer.Ran r) ⌝ }
 {
     let mut scratch = [0; 1024];
     let mut cells = [0; 8];
@@ -134,8 +135,8 @@ fn run_checked(
 ) -> Answer
     requires { ⌜ C.Framed (now book) units (now work) (now output) ⌝ }
     requires { ⌜ C.Loaded (now book) (now operators) (now rules) (now symbols) length ⌝ }
-    ensures { λ r. ⌜ R.Reduced (now (book .entry)) (take length (now (symbols .entry))) units budget (now (schedule .entry)) (now (work .entry))
-        (now (output .entry)) (now (work .exit)) (now (output .exit)) r ⌝ }
+    ensures { λ r. ⌜ R.Reduced (now (book .entry)) (take length (now (symbols .entry))) units budget (day-in (now (rules .entry)))
+        (now (schedule .entry)) (now (work .entry)) (now (output .entry)) (now (work .exit)) (now (output .exit)) r ⌝ }
 {
     if !names_units(schedule, units) {
         return Answer::Refused(14);
@@ -184,18 +185,19 @@ fn reduce_book(
     line: &[u8],
     units: u8,
     budget: u32,
+    day: u16,
     schedule: &[u8],
     work: &mut [u8],
     output: &mut [u8],
 ) -> Answer
     requires { ⌜ C.Framed (now book) units (now work) (now output) ⌝ }
-    ensures { λ r. ⌜ R.ReducedBy (R.reader form) (now (book .entry)) (now (line .entry)) units budget (now (schedule .entry)) (now (work .entry))
+    ensures { λ r. ⌜ R.ReducedBy (R.reader form) (now (book .entry)) (now (line .entry)) units budget day (now (schedule .entry)) (now (work .entry))
         (now (output .entry)) (now (work .exit)) (now (output .exit)) r ⌝ }
 {
     let mut operators = [0u8; tables::OPERATORS];
     let mut rules = [0u32; tables::RULES];
     let mut symbols = [0u8; 1024];
-    match book::read_book(book, &mut operators, &mut rules) {
+    match book::read_book(book, day, &mut operators, &mut rules) {
         Book::Refused(k) => Answer::Refused(k),
         Book::Read(n) => match read_term(form, line, n, &operators, &mut symbols) {
             Text::Refused(k) => Answer::Refused(k),
@@ -234,18 +236,20 @@ fn frame_fault(units: u8, work: usize, output: usize) -> u8
     0
 }
 
-// The run of a line or text by a book: `units` units share the work as the schedule says, and make at most `budget` rewrites.
+// The run of a line or text by the rules of a book that stand on a day: `units` units share the work as the schedule says, and make at most `budget`
+// rewrites. An undated book ignores the day.
 pub fn reduce_form(
     form: Form,
     book: &[u8],
     line: &[u8],
     units: u8,
     budget: u32,
+    day: u16,
     schedule: &[u8],
     work: &mut [u8],
     output: &mut [u8],
 ) -> Answer
-    ensures { λ r. ⌜ R.ReducedBy (R.reader form) (now (book .entry)) (now (line .entry)) units budget (now (schedule .entry)) (now (work .entry))
+    ensures { λ r. ⌜ R.ReducedBy (R.reader form) (now (book .entry)) (now (line .entry)) units budget day (now (schedule .entry)) (now (work .entry))
         (now (output .entry)) (now (work .exit)) (now (output .exit)) r ⌝ }
 {
     let fault = frame_fault(units, work.len(), output.len());
@@ -260,12 +264,13 @@ pub fn reduce_form(
             line,
             units,
             budget,
+            day,
             schedule,
             work,
             output,
         );
     }
-    reduce_book(form, book, line, units, budget, schedule, work, output)
+    reduce_book(form, book, line, units, budget, day, schedule, work, output)
 }
 
 // The run of a line by a book.
@@ -274,11 +279,12 @@ pub fn reduce(
     line: &[u8],
     units: u8,
     budget: u32,
+    day: u16,
     schedule: &[u8],
     work: &mut [u8],
     output: &mut [u8],
 ) -> Answer
-    ensures { λ r. ⌜ R.Reduced (now (book .entry)) (now (line .entry)) units budget (now (schedule .entry)) (now (work .entry)) (now (output .entry))
+    ensures { λ r. ⌜ R.Reduced (now (book .entry)) (now (line .entry)) units budget day (now (schedule .entry)) (now (work .entry)) (now (output .entry))
         (now (work .exit)) (now (output .exit)) r ⌝ }
 {
     reduce_form(
@@ -287,6 +293,7 @@ pub fn reduce(
         line,
         units,
         budget,
+        day,
         schedule,
         work,
         output,
@@ -299,11 +306,12 @@ pub fn payee(
     text: &[u8],
     units: u8,
     budget: u32,
+    day: u16,
     schedule: &[u8],
     work: &mut [u8],
     output: &mut [u8],
 ) -> Answer
-    ensures { λ r. ⌜ R.PayeeReduced (now (book .entry)) (now (text .entry)) units budget (now (schedule .entry)) (now (work .entry)) (now (output .entry))
+    ensures { λ r. ⌜ R.PayeeReduced (now (book .entry)) (now (text .entry)) units budget day (now (schedule .entry)) (now (work .entry)) (now (output .entry))
         (now (work .exit)) (now (output .exit)) r ⌝ }
 {
     reduce_form(
@@ -312,6 +320,7 @@ pub fn payee(
         text,
         units,
         budget,
+        day,
         schedule,
         work,
         output,

@@ -44,7 +44,7 @@ use Rattle.entry.specs.Contracts.{Running, Turn, Working}
 module _ {bytes operators rules symbols scratch work units : List ℕ} {u : ℕ} {p : Progress} {l : Limits} (z : Arrays symbols scratch work units p l)
     (r : Running bytes operators rules l (state symbols work units p l)) (t : Turn l u (state symbols work units p l)) where
   abbrev pub B : Book
-  B = book-of bytes
+  B = book-of bytes rules
 
   abbrev pub L : paper.Limits
   L = limited (l .budget)

@@ -24,8 +24,8 @@ use Rattle.entry.specs.declared.Entry.{Entry}
 pub record Running (bytes operators rules : List ℕ) (l : Limits) (s : FlatState) : Type 0 where
   pub tables : TablesOf bytes operators rules
   pub short : length bytes ≤ 65536
-  pub reached : Reached (book-of bytes) (limited (l .budget)) s
-  pub known : All (λ o. o < length (book-of bytes .operators)) (s .symbols)
+  pub reached : Reached (book-of bytes rules) (limited (l .budget)) s
+  pub known : All (λ o. o < length (book-of bytes rules .operators)) (s .symbols)
 
 -- u is one of the units, and there is a next number for each count
 pub record Turn (l : Limits) (u : ℕ) (s : FlatState) : Type 0 where
@@ -64,5 +64,5 @@ pub record Next (operators symbols : List ℕ) (x : Job) (y : Step) : Type 0 whe
   pub is : some y ≡ step-of (code-in operators (getD symbols (x .offset) 0) (x .next - 1))
 
 -- what the machine on lists does for unit u in the state s
-abbrev pub entered : List ℕ → Limits → ℕ → FlatState → FlatOutcome
-entered bytes l u s = flat-entry (book-of bytes) (limited (l .budget)) u s
+abbrev pub entered : List ℕ → List ℕ → Limits → ℕ → FlatState → FlatOutcome
+entered bytes rules l u s = flat-entry (book-of bytes rules) (limited (l .budget)) u s

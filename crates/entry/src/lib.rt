@@ -78,7 +78,7 @@ fn rewrite(
     requires { λ s. ⌜ S.Arrays (now symbols) (now scratch) (now work) (now units) p l ⌝ }
     requires { λ s. ⌜ E.Running (now book) (now operators) (now rules) l s × E.Turn l (task .unit) s × E.Working (now work) (now units) (task .unit) (task .job) ⌝ }
     requires { λ s. ⌜ E.Next (now operators) (now symbols) (task .job) P.Step.whole ⌝ }
-    ensures { λ s r. ⌜ E.outcome r (S.state (now (symbols .exit)) (now (work .exit)) (now (units .exit)) (E.after p r) l) ≡ E.entered (now (book .entry)) l (task .unit) s ⌝ }
+    ensures { λ s r. ⌜ E.outcome r (S.state (now (symbols .exit)) (now (work .exit)) (now (units .exit)) (E.after p r) l) ≡ E.entered (now (book .entry)) (now (rules .entry)) l (task .unit) s ⌝ }
     ensures { λ s r. ⌜ S.Arrays (now (symbols .exit)) (now (scratch .exit)) (now (work .exit)) (now (units .exit)) (E.after p r) l ⌝ }
 {
     let u = task.unit;
@@ -126,7 +126,7 @@ fn step(
     requires { λ s. ⌜ S.Arrays (now symbols) (now scratch) (now work) (now units) p l ⌝ }
     requires { λ s. ⌜ E.Running (now book) (now operators) (now rules) l s × E.Turn l (task .unit) s × E.Working (now work) (now units) (task .unit) (task .job) ⌝ }
     requires { λ s. ⌜ 1 ≤ task .job .next ⌝ }
-    ensures { λ s r. ⌜ E.outcome r (S.state (now (symbols .exit)) (now (work .exit)) (now (units .exit)) (E.after p r) l) ≡ E.entered (now (book .entry)) l (task .unit) s ⌝ }
+    ensures { λ s r. ⌜ E.outcome r (S.state (now (symbols .exit)) (now (work .exit)) (now (units .exit)) (E.after p r) l) ≡ E.entered (now (book .entry)) (now (rules .entry)) l (task .unit) s ⌝ }
     ensures { λ s r. ⌜ S.Arrays (now (symbols .exit)) (now (scratch .exit)) (now (work .exit)) (now (units .exit)) (E.after p r) l ⌝ }
 {
     let u = task.unit;
@@ -189,7 +189,7 @@ fn carry_out(
     requires { λ s. ⌜ S.state (now symbols) (now work) (now units) p l ≡ s ⌝ }
     requires { λ s. ⌜ S.Arrays (now symbols) (now scratch) (now work) (now units) p l ⌝ }
     requires { λ s. ⌜ E.Running (now book) (now operators) (now rules) l s × E.Turn l (task .unit) s × E.Working (now work) (now units) (task .unit) (task .job) ⌝ }
-    ensures { λ s r. ⌜ E.outcome r (S.state (now (symbols .exit)) (now (work .exit)) (now (units .exit)) (E.after p r) l) ≡ E.entered (now (book .entry)) l (task .unit) s ⌝ }
+    ensures { λ s r. ⌜ E.outcome r (S.state (now (symbols .exit)) (now (work .exit)) (now (units .exit)) (E.after p r) l) ≡ E.entered (now (book .entry)) (now (rules .entry)) l (task .unit) s ⌝ }
     ensures { λ s r. ⌜ S.Arrays (now (symbols .exit)) (now (scratch .exit)) (now (work .exit)) (now (units .exit)) (E.after p r) l ⌝ }
 {
     let u = task.unit;
@@ -230,7 +230,7 @@ pub fn enter(
     requires { λ s. ⌜ S.state (now symbols) (now work) (now units) p l ≡ s ⌝ }
     requires { λ s. ⌜ S.Arrays (now symbols) (now scratch) (now work) (now units) p l ⌝ }
     requires { λ s. ⌜ E.Running (now book) (now operators) (now rules) l s × E.Turn l u s ⌝ }
-    ensures { λ s r. ⌜ E.outcome r (S.state (now (symbols .exit)) (now (work .exit)) (now (units .exit)) (E.after p r) l) ≡ E.entered (now (book .entry)) l u s ⌝ }
+    ensures { λ s r. ⌜ E.outcome r (S.state (now (symbols .exit)) (now (work .exit)) (now (units .exit)) (E.after p r) l) ≡ E.entered (now (book .entry)) (now (rules .entry)) l u s ⌝ }
     ensures { λ s r. ⌜ S.Arrays (now (symbols .exit)) (now (scratch .exit)) (now (work .exit)) (now (units .exit)) (E.after p r) l ⌝ }
 {
     if !units::is_busy(units, u) {

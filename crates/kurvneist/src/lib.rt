@@ -85,23 +85,24 @@ fn put_answer(a: Answer, answer: &mut [u64; 6]) -> u8
     }
 }
 
-// A run of a line: the refusal's number, or 0.
+// A run of a line by the rules that stand on a day, which an undated book ignores: the refusal's number, or 0.
 #[no_mangle]
 pub extern "C" fn kurvneist_reduce(
     book: &[u8],
     line: &[u8],
     units: u8,
     budget: u32,
+    day: u16,
     schedule: &[u8],
     work: &mut [u8],
     output: &mut [u8],
     answer: &mut [u64; 6],
 ) -> u8
     requires { ⌜ length (now answer) ≡ 6 ⌝ }
-    ensures { λ r. ⌜ X.Reduced-in-numbers (now (book .entry)) (now (line .entry)) units budget (now (schedule .entry)) (now (work .entry))
+    ensures { λ r. ⌜ X.Reduced-in-numbers (now (book .entry)) (now (line .entry)) units budget day (now (schedule .entry)) (now (work .entry))
         (now (output .entry)) (now (work .exit)) (now (output .exit)) (now (answer .exit)) r ⌝ }
 {
-    let a = engine::reduce(book, line, units, budget, schedule, work, output);
+    let a = engine::reduce(book, line, units, budget, day, schedule, work, output);
     put_answer(a, answer)
 }
 
@@ -112,16 +113,17 @@ pub extern "C" fn kurvneist_payee(
     text: &[u8],
     units: u8,
     budget: u32,
+    day: u16,
     schedule: &[u8],
     work: &mut [u8],
     output: &mut [u8],
     answer: &mut [u64; 6],
 ) -> u8
     requires { ⌜ length (now answer) ≡ 6 ⌝ }
-    ensures { λ r. ⌜ X.Payee-in-numbers (now (book .entry)) (now (text .entry)) units budget (now (schedule .entry)) (now (work .entry))
+    ensures { λ r. ⌜ X.Payee-in-numbers (now (book .entry)) (now (text .entry)) units budget day (now (schedule .entry)) (now (work .entry))
         (now (output .entry)) (now (work .exit)) (now (output .exit)) (now (answer .exit)) r ⌝ }
 {
-    let a = engine::payee(book, text, units, budget, schedule, work, output);
+    let a = engine::payee(book, text, units, budget, day, schedule, work, output);
     put_answer(a, answer)
 }
 

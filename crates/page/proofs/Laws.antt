@@ -1,23 +1,25 @@
 -- Laws of the page: it begins with its fixed line, an input that is longer than any request is told by its front, and so what was read to a buffer of
--- 163,848 bytes tells the page of the standard input; and no page tells 6 (document 02, Change 4). Assumes nothing.
-use mathlib.Core.Bool.{true}
+-- 163,850 bytes tells the page of the standard input; and no page tells 6 (document 02, Change 4). Assumes nothing.
+use mathlib.Core.Bool.{Bool, true, false}
 use mathlib.Core.List.{List, [], _∷_, _++_}
 use mathlib.Core.Logic.{_≢_}
 use mathlib.Core.Path.{_≡_, refl, sym, ap, subst, _∙_}
-use Prim.Native.Nat.{ℕ, _+_, _≤_, _<_}
+use Prim.Native.Nat.{ℕ, _+_, _-_, _≤_, _<_}
 use native.Mathlib.Omega.{arith}
 use native.Mathlib.Decide.{decLt}
 use lib.ListN.{length, getD, take, drop, length-append, length-take, List·getD-eq-default}
 use lib.Seq.{take-all, take-at, take-length, getD-take}
 use Rattle.paper.specs.Result.{refused}
+use Rattle.paper.specs.Dated.{is-dated}
 use Rattle.paper.specs.Line.{readLine}
 use Rattle.paper.specs.Text.{readText}
 use Rattle.paper.specs.Page.{LineReader, number, read-request, line, refused-word, pageBy, pageOf, payeePageOf}
 use Rattle.paper.proofs.Refusals.{page-not-six, payee-page-not-six}
 use Rattle.page.specs.Spec.{Paged, Bytes, StandardInput, PagedFrom, begins, fixed-line}
-use Rattle.page.specs.Contracts.{Part-ends}
+use Rattle.page.specs.Contracts.{Part-ends, Day-stands}
 use Rattle.page.specs.declared.PartEnd as E
-use Rattle.page.proofs.Input.{number-two, counted-at, cut-over}
+use Rattle.page.specs.declared.Day as Y
+use Rattle.page.proofs.Input.{number-two, counted-at, day-undated, day-there, cut-over}
 use Rattle.page.proofs.Lines.{page-cut}
 use Rattle.page.proofs.Prefix.{begins-front}
 
@@ -47,8 +49,18 @@ bytes-take n xs h i = go (decLt i n)
 length-below : (input : List ℕ) (at : ℕ) → Bytes input → at + 2 ≤ length input → number 0 (take 2 (drop at input)) < 65536
 length-below input at h k = omega (arith, number-two input at k, h at, h (at + 1))
 
--- whatever the lengths say, over 32,768 schedule bytes follow
-long-refused : (input : List ℕ) → Bytes input → 163848 ≤ length input → read-request input ≡ refused 17
+-- a day of either form ends within two bytes
+day-of : (input book : List ℕ) (at : ℕ) → at + 2 ≤ length input →
+    (dated : Bool) × (dated ≡ is-dated book) × (day : ℕ) × (e : ℕ) × Day-stands input at dated (Y.Day.Read day e) × (e ≤ at + 2)
+day-of input book at h = go (is-dated book) refl
+  where
+    go : (dated : Bool) → dated ≡ is-dated book →
+        (dated : Bool) × (dated ≡ is-dated book) × (day : ℕ) × (e : ℕ) × Day-stands input at dated (Y.Day.Read day e) × (e ≤ at + 2)
+    go true p = (true, p, number 0 (take 2 (drop at input)), at + 2, day-there input at refl h _ _ refl refl, omega arith)
+    go false p = (false, p, 0, at, day-undated input at refl (omega arith), omega arith)
+
+-- whatever the lengths and the book's form say, over 32,768 schedule bytes follow
+long-refused : (input : List ℕ) → Bytes input → 163850 ≤ length input → read-request input ≡ refused 17
 long-refused input h k =
     let n : ℕ = number 0 (take 2 (drop 0 input)) in
     let n-below : n < 65536 = length-below input 0 h (omega arith) in
@@ -60,10 +72,11 @@ long-refused input h k =
     record { is = counted-at input 0 (omega arith) n b refl refl (omega arith); within = (omega arith, omega arith) } in
     let line : Part-ends input b (E.PartEnd.At l) =
     record { is = counted-at input b (omega arith) m l refl refl (omega arith); within = (omega arith, omega arith) } in
-    cut-over input book line (omega arith) .is
+    let (dated, form, day, e, f, w) = day-of input (take (b - 2) (drop 2 input)) (l + 5) (omega arith) in
+    cut-over input book line (omega arith) form f (omega arith) .is
 
 -- so that a program may stop reading there
-pub page-prefix : (read : LineReader) (input buffer : List ℕ) → Bytes input → take (length buffer) input ≡ buffer → 163848 ≤ length buffer →
+pub page-prefix : (read : LineReader) (input buffer : List ℕ) → Bytes input → take (length buffer) input ≡ buffer → 163850 ≤ length buffer →
     pageBy read input ≡ pageBy read buffer
 page-prefix read input buffer h e k =
     sym (page-cut read input (long-refused input h (omega (arith, length-take (length buffer) input, ap length e))))
@@ -81,7 +94,7 @@ module _ {read : LineReader} {buffer page page′ : List ℕ} {n r : ℕ} where
   paged-ended h p = record { is = λ input s. subst (λ (i : List ℕ). Paged read i page page′ r) (sym (s .ended h)) p; within = paged-within p }
 
   -- the buffer is full
-  pub paged-filled : 163848 ≤ length buffer → length buffer ≤ n → Paged read buffer page page′ r → PagedFrom read buffer n page page′ r
+  pub paged-filled : 163850 ≤ length buffer → length buffer ≤ n → Paged read buffer page page′ r → PagedFrom read buffer n page page′ r
   paged-filled l h p =
       record {
         is = λ input s.

@@ -51,13 +51,13 @@ fits-as (A.Answer.Ran r) (accepted a) output e l h =
 
 -- with buffers of the lengths that are asked for, the published length of the work area does not matter
 same-answer : (read : LineReader) (q : Request) → q .work ≡ R.published → q .output ≡ 1024 →
-    answerBy read R.published q ≡ answerBy read 0 (asked (q .book) (q .line) (q .units) (q .budget) (q .schedule))
+    answerBy read R.published q ≡ answerBy read 0 (asked (q .book) (q .line) (q .units) (q .budget) (q .day) (q .schedule))
 unfolding answerBy frame-fault run-checked
 same-answer read q e f = rw (e, f)
 
-module _ {read : LineReader} {book line : List ℕ} {units budget : ℕ} {schedule work output work′ output′ : List ℕ} {r : A.Answer}
-    (d : R.ReducedBy read book line units budget schedule work output work′ output′ r) where
-  front : (a : Answer) → R.answeredBy read book line units budget schedule work output ≡ accepted a →
+module _ {read : LineReader} {book line : List ℕ} {units budget day : ℕ} {schedule work output work′ output′ : List ℕ} {r : A.Answer}
+    (d : R.ReducedBy read book line units budget day schedule work output work′ output′ r) where
+  front : (a : Answer) → R.answeredBy read book line units budget day schedule work output ≡ accepted a →
       take (length (preorder (a .term))) output′ ≡ preorder (a .term)
   front a e = ap (take (length (preorder (a .term)))) (d .written a e) ∙ take-at (preorder (a .term)) _ _ refl
 
@@ -65,11 +65,11 @@ module _ {read : LineReader} {book line : List ℕ} {units budget : ℕ} {schedu
   reduced-fits l = fits-as r _ output′ (d .answer) l (λ a e. d .run-of a e .holds .fits)
 
   pub reduced-lines : (budget′ : ℕ) (schedule′ : List ℕ) → budget ≡ budget′ → schedule ≡ schedule′ → length work ≡ R.published → length output ≡ 1024 →
-      lines r output′ ≡ answer-lines (answerBy read 0 (asked book line units budget′ schedule′))
+      lines r output′ ≡ answer-lines (answerBy read 0 (asked book line units budget′ day schedule′))
   reduced-lines budget′ schedule′ b s e f =
       lines-as r _ output′ (d .answer) front
-      ∙ ap answer-lines (same-answer read (R.request book line units budget schedule work output) e f)
-      ∙ ap₂ (λ (k : ℕ) (es : List ℕ). answer-lines (answerBy read 0 (asked book line units k es))) b s
+      ∙ ap answer-lines (same-answer read (R.request book line units budget day schedule work output) e f)
+      ∙ ap₂ (λ (k : ℕ) (es : List ℕ). answer-lines (answerBy read 0 (asked book line units k day es))) b s
 
 -- THE PAGE
 

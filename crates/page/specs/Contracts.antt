@@ -1,13 +1,17 @@
 -- What the functions behind the page ask of each other: where the parts of an input stand, and which bytes are written where. Assumes nothing.
+use mathlib.Core.Bool.{Bool}
 use mathlib.Core.List.{List, [], _∷_, _++_}
 use mathlib.Core.Path.{_≡_}
 use Prim.Native.Nat.{ℕ, _+_, _-_, _≤_}
 use lib.ListN.{length, getD, take, drop}
 use Rattle.paper.specs.Result.{Result, refused, accepted, Read, Reader, _>>=_}
-use Rattle.paper.specs.Page.{Request, number, read-bytes, read-number, read-request, ending-number, decimal, line, refused-word, end-word, rewrites-word, entries-word, granted-word, kept-word, term-word}
+use Rattle.paper.specs.Dated.{is-dated}
+use Rattle.paper.specs.Page.{Request, number, read-bytes, read-number, read-day, read-request, ending-number, decimal, line, refused-word, end-word}
+use Rattle.paper.specs.Page.{rewrites-word, entries-word, granted-word, kept-word, term-word}
 use Rattle.engine.specs.Spec as R
 use Rattle.engine.specs.declared.Answer as A
 use Rattle.page.specs.declared.PartEnd as E
+use Rattle.page.specs.declared.Day as Y
 use Rattle.page.specs.declared.Parts as P
 use Rattle.page.specs.declared.InputParts as I
 
@@ -21,9 +25,9 @@ read-counted = do
   read-bytes n
 
 -- a request as the program makes it
-abbrev pub asked : List ℕ → List ℕ → ℕ → ℕ → List ℕ → Request
-asked book line units budget schedule =
-    record { book = book; line = line; units = units; budget = budget; schedule = schedule; work = 0; output = 1024 }
+abbrev pub asked : List ℕ → List ℕ → ℕ → ℕ → ℕ → List ℕ → Request
+asked book line units budget day schedule =
+    record { book = book; line = line; units = units; budget = budget; day = day; schedule = schedule; work = 0; output = 1024 }
 
 module _ (input : List ℕ) where
   -- what the reading of counted bytes at position at gives, if they end so
@@ -39,14 +43,28 @@ module _ (input : List ℕ) where
     pub is : read-counted (drop at input) ≡ read-up-to at r
     pub within : Ends-within at r
 
-  -- book and line end where p says; units, budget and schedule follow
+  -- what the reading of the day gives, if it ends so
+  abbrev pub read-day-as : Y.Day → Result (Read ℕ)
+  read-day-as Y.Day.Short = refused 17
+  read-day-as (Y.Day.Read d e) = accepted (record { value = d; left = drop e input })
+
+  abbrev pub Day-within : ℕ → Y.Day → Type 0
+  Day-within at Y.Day.Short = Unit {0}
+  Day-within at (Y.Day.Read d e) = (at ≤ e) × (e ≤ length input)
+
+  -- the day of a book of this form, at position at
+  pub record Day-stands (at : ℕ) (dated : Bool) (r : Y.Day) : Type 0 where
+    pub is : (book : List ℕ) → dated ≡ is-dated book → read-day book (drop at input) ≡ read-day-as r
+    pub within : Day-within at r
+
+  -- book and line end where p says; units and budget follow, and the schedule begins where it says
   abbrev pub request-of : P.Parts → Request
   request-of p =
       asked (take (p .book - 2) (drop 2 input)) (take (p .line - (p .book + 2)) (drop (p .book + 2) input)) (getD input (p .line) 0)
-      (number 0 (take 4 (drop (p .line + 1) input))) (drop (p .line + 5) input)
+      (number 0 (take 4 (drop (p .line + 1) input))) (p .day) (drop (p .schedule) input)
 
   abbrev pub Parts-within : P.Parts → Type 0
-  Parts-within p = (2 ≤ p .book) × (p .book + 2 ≤ p .line) × (p .line + 5 ≤ length input)
+  Parts-within p = (2 ≤ p .book) × (p .book + 2 ≤ p .line) × (p .line + 5 ≤ p .schedule) × (p .schedule ≤ length input)
 
   -- what the reading of the request gives, if its parts stand so
   abbrev pub read-by : I.InputParts → Result (Read Request)

@@ -1,5 +1,5 @@
 -- The page of a standard input by either reader, and what a buffer says of that input (document 01, 'The program and its page'; document 02,
--- Change 1). Assumes nothing.
+-- Changes 1 and 5). Assumes nothing.
 use mathlib.Core.Bool.{Bool, true, false}
 use mathlib.Core.List.{List, [], _∷_, _++_}
 use mathlib.Core.Path.{_≡_}

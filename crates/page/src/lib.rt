@@ -1,4 +1,4 @@
-// The program's page for its standard input (document 01, 'The program and its page'; document 02, Changes 1 and 2).
+// The program's page for its standard input (document 01, 'The program and its page'; document 02, Changes 1, 2 and 5).
 use engine::Answer;
 use engine::Form;
 use run::Ending;
@@ -18,7 +18,7 @@ pub const PAGE: usize = 8192;
 
 // The length of a buffer for the standard input: one byte more than the longest input that 17 does not refuse, so that 17 tells of every input that
 // fills it.
-pub const INPUT: usize = 163848;
+pub const INPUT: usize = 163850;
 
 // How many schedule bytes may follow.
 const SCHEDULE: usize = 32768;
@@ -29,10 +29,18 @@ enum PartEnd {
     At(usize),
 }
 
-// The positions behind the book and behind the line.
+// The day and the position behind it, or that it is cut short.
+enum Day {
+    Short,
+    Read(u16, usize),
+}
+
+// The positions behind the book and behind the line, the day, and where the schedule begins.
 struct Parts {
     book: usize,
     line: usize,
+    day: u16,
+    schedule: usize,
 }
 
 // Where the input's parts stand, or that 17 refuses it.
@@ -75,6 +83,20 @@ fn part_end(input: &[u8], at: usize) -> PartEnd
     PartEnd::At(start + n)
 }
 
+// The run's day: the two bytes at position at, if the book is dated; 0 stands for the day that an undated one ignores.
+fn day_at(input: &[u8], at: usize, dated: bool) -> Day
+    requires { ⌜ at ≤ length (now input) ⌝ }
+    ensures { λ r. ⌜ C.Day-stands (now (input .entry)) at dated r ⌝ }
+{
+    if !dated {
+        return Day::Read(0, at);
+    }
+    if input.len() - at < 2 {
+        return Day::Short;
+    }
+    Day::Read(casts::short(pair(input, at)), at + 2)
+}
+
 // Where the parts of the input stand.
 fn parts_of(input: &[u8]) -> InputParts
     ensures { λ r. ⌜ C.Parts-stand (now (input .entry)) r ⌝ }
@@ -89,10 +111,19 @@ fn parts_of(input: &[u8]) -> InputParts
     if left < 5 {
         return InputParts::Refused;
     }
-    if SCHEDULE < left - 5 {
+    let dated = book::is_dated(&input[2..book]);
+    let Day::Read(day, schedule) = day_at(input, line + 5, dated) else {
+        return InputParts::Refused;
+    };
+    if SCHEDULE < input.len() - schedule {
         return InputParts::Refused;
     }
-    InputParts::At(Parts { book, line })
+    InputParts::At(Parts {
+        book,
+        line,
+        day,
+        schedule,
+    })
 }
 
 // Writing: each function answers the position behind what it wrote.
@@ -222,7 +253,7 @@ fn run_page(form: Form, input: &[u8], parts: Parts, page: &mut [u8; 8192], at: u
     let book = parts.book;
     let line = parts.line;
     let start = book + 2;
-    let schedule = line + 5;
+    let schedule = parts.schedule;
     let budget = quad(input, line + 1);
     let a = engine::reduce_form(
         form,
@@ -230,6 +261,7 @@ fn run_page(form: Form, input: &[u8], parts: Parts, page: &mut [u8; 8192], at: u
         &input[start..line],
         input[line],
         budget,
+        parts.day,
         &input[schedule..],
         &mut work,
         &mut output,

@@ -16,14 +16,14 @@ use Rattle.paper.specs.Result.{accepted}
 use Rattle.paper.specs.Tree.{label, size, Position, subterm, replace, Correct}
 use Rattle.paper.specs.Strategy.{Step}
 use Rattle.paper.specs.Book.{Term, Book, arity, steps}
-use Rattle.paper.specs.Reader.{readBook}
+use Rattle.paper.specs.Dated.{AnyBook, readAny, on-day}
 use Rattle.paper.specs.Line.{symbol-limit, readLine}
 use Rattle.paper.specs.Match.{rewrite}
 use Rattle.paper.specs.Machine.{Order, orders, lower, fall, arrive, zero-in, UnitState, unit-state, asleep, State, Event, Ending, Outcome, going, ended, Limits, exceeds, Grant, unit, do-visit, do-fork, do-join, do-exit, do-rewrite, do-whole, carry-out-by, turn-by, entry-by, in-force, start}
 use Rattle.paper.specs.Run.{Answer, Moment, on, moments-from-by, moments-by}
 use Rattle.paper.specs.Sound.{Sound}
 use Rattle.paper.specs.Idle.{IsIdle, OnlyIdle, Waits, SameOrder, SameOrders, StandsOn, UntilExited, Taken, EachTaken, left-in, Done, Helps}
-use Rattle.paper.proofs.Books.{read-sound}
+use Rattle.paper.proofs.Dated.{day-sound}
 use Rattle.paper.proofs.Course.{Course, c-cut, c-end, c-more, e-finished, e-spent, e-full}
 use Rattle.paper.proofs.Demand3.{first, start-inv, whole-course}
 use Rattle.paper.proofs.Entry.{entry-next-by}
@@ -514,8 +514,10 @@ helps-of G only B sound t c L units schedule = record {
   done = course-done (whole-course G only B sound t c L units schedule);
 }
 
--- of accepted bytes
-pub helps : (bytes line : List ℕ) (B : Book) (t : Term) → readBook bytes ≡ accepted B → readLine B line ≡ accepted t →
-    (units budget : ℕ) (schedule : List ℕ) → let L : Limits = record { budget = budget; symbols = some symbol-limit } in Helps in-force B L units schedule t
-helps bytes line B t e q units budget schedule =
-    helps-of in-force lowest-idle B (read-sound bytes B e) t (line-correct B line t q .0) (record { budget = budget; symbols = some symbol-limit }) units schedule
+-- of accepted bytes, by the rules that stand on the run's day
+pub helps : (bytes line : List ℕ) (A : AnyBook) (d : ℕ) (t : Term) → readAny bytes ≡ accepted A → readLine (on-day d A) line ≡ accepted t →
+    (units budget : ℕ) (schedule : List ℕ) → let L : Limits = record { budget = budget; symbols = some symbol-limit } in
+    Helps in-force (on-day d A) L units schedule t
+helps bytes line A d t e q units budget schedule =
+    let B = on-day d A in
+    helps-of in-force lowest-idle B (day-sound bytes A e d) t (line-correct B line t q .0) (record { budget = budget; symbols = some symbol-limit }) units schedule

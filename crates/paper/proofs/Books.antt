@@ -25,7 +25,7 @@ use Rattle.paper.proofs.Operators.{good-distinct, good-within, read-ope
 use Rattle.paper.proofs.Rules.{read-rule-good, write-rule-read, good-sound}
 
 -- some bits
-abbrev AllBits : List ℕ → Type 0
+abbrev pub AllBits : List ℕ → Type 0
 AllBits = All (λ x. x < 2)
 
 -- Repeated reading and writing
@@ -60,10 +60,10 @@ module _ {A : Type 0} (P : A → Type 0) (p : Reader A) where
 
 -- What is written are bits
 
-both-bits : (xs ys : List ℕ) → AllBits xs → AllBits ys → AllBits (xs ++ ys)
+pub both-bits : (xs ys : List ℕ) → AllBits xs → AllBits ys → AllBits (xs ++ ys)
 both-bits = all-append (λ x. x < 2)
 
-concat-bits : {A : Type 0} (write : A → List ℕ) → ((a : A) → AllBits (write a)) → (as′ : List A) → AllBits (concat write as′)
+pub concat-bits : {A : Type 0} (write : A → List ℕ) → ((a : A) → AllBits (write a)) → (as′ : List A) → AllBits (concat write as′)
 unfolding concat
 concat-bits write h [] = tt
 concat-bits write h (a ∷ as′) = both-bits (write a) (concat write as′) (h a) (concat-bits write h as′)
@@ -82,7 +82,7 @@ strategy-bits arity is =
     (both-bits (toBits 1 1) given (toBits-below 1 1)
     (both-bits len (concat (toBits 4) ns) (toBits-below 5 (length ns)) (concat-bits (toBits 4) (toBits-below 4) ns)))
 
-operator-bits : (o : Operator) → AllBits (write-operator o)
+pub operator-bits : (o : Operator) → AllBits (write-operator o)
 unfolding write-operator
 operator-bits o =
     both-bits (toBits 3 (o .arity)) (write-strategy (o .arity) (o .strategy)) (toBits-below 3 (o .arity)) (strategy-bits (o .arity) (o .strategy))
@@ -96,7 +96,7 @@ side-bits : (s : Side) → AllBits (write-side s)
 unfolding write-side
 side-bits s = concat-bits write-symbol symbol-bits (preorder s)
 
-rule-bits : (r : Rule) → AllBits (write-rule r)
+pub rule-bits : (r : Rule) → AllBits (write-rule r)
 unfolding write-rule
 rule-bits r = both-bits (write-side (r .left)) (write-side (r .right)) (side-bits (r .left)) (side-bits (r .right))
 
@@ -118,19 +118,19 @@ unfolding checked refuse
 checked-good zero xs r l h e = absurd (refused-accepted e)
 checked-good (suc n) xs r l h e = return-accepted (suc n) xs r CountRead (sym (checked-suc n xs) ∙ e) (omega arith, l, h)
 
-count-good : (xs : List ℕ) (r : Read ℕ) → AllBits xs → read-count xs ≡ accepted r → CountRead r
+pub count-good : (xs : List ℕ) (r : Read ℕ) → AllBits xs → read-count xs ≡ accepted r → CountRead r
 unfolding read-count checked
 count-good xs r h e =
     let (a, q, e₁) = bind-accepted (field 8) checked xs r e in
     let (l, k) = field-bounded 8 xs a h q in
     checked-good (a .value) (a .left) r l k e₁
 
-count-read : (n : ℕ) (xs : List ℕ) → 0 < n → n < 256 → read-count (toBits 8 n ++ xs) ≡ return n xs
+pub count-read : (n : ℕ) (xs : List ℕ) → 0 < n → n < 256 → read-count (toBits 8 n ++ xs) ≡ return n xs
 unfolding read-count checked
 count-read zero xs h l = absurd (omega arith)
 count-read (suc n) xs h l = bind-return (field 8) checked (toBits 8 (suc n) ++ xs) xs (suc n) (field-toBits 8 (suc n) xs l) ∙ checked-suc n xs
 
-pub end-good : (B : Book) (xs : List ℕ) (r : Read Book) → read-end B xs ≡ accepted r → r .value ≡ B
+pub end-good : {A : Type 0} (B : A) (xs : List ℕ) (r : Read A) → read-end B xs ≡ accepted r → r .value ≡ B
 unfolding read-end
 end-good B xs r e = go (ltb (length xs) 8) (all-zero xs) e
   where
@@ -144,7 +144,7 @@ unfolding all-zero
 all-zero-zeros zero = refl
 all-zero-zeros (suc k) = all-zero-zeros k
 
-end-read : (B : Book) (k : ℕ) → k < 8 → read-end B (replicate k 0) ≡ return B (replicate k 0)
+pub end-read : {A : Type 0} (B : A) (k : ℕ) → k < 8 → read-end B (replicate k 0) ≡ return B (replicate k 0)
 unfolding read-end
 end-read B k l = rw (length-replicate {A = ℕ} k 0, ltb-true k 8 l, all-zero-zeros k)
 

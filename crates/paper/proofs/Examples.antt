@@ -5,7 +5,7 @@ use mathlib.Core.Bool.{true}
 use mathlib.Core.List.{List, [], _∷_, _++_, map}
 use mathlib.Core.Option.{none, some}
 use mathlib.Core.Path.{_≡_, refl}
-use Prim.Native.Nat.{ℕ, zero, suc, _*_, _/_}
+use Prim.Native.Nat.{ℕ, zero, suc, _*_, _/_, _%_}
 use Prim.Native.String.{String}
 use lib.ListN.{take, drop, replicate}
 use Rattle.paper.specs.Result.{Result, refused, accepted, then}
@@ -33,6 +33,11 @@ unfoldable pub book-page : List ℕ → List ℕ
 unfolding input-on pageOf
 book-page book = pageOf (input-on book (0 ∷ []) 1 9 [])
 
+-- the page for a book whose first byte is 0, asked with one unit and a day
+unfoldable pub dated-page : List ℕ → List ℕ → ℕ → List ℕ → List ℕ
+unfolding input-on pageOf
+dated-page book line day schedule = pageOf (input-on book line 1 9 (day / 256 ∷ day % 256 ∷ schedule))
+
 -- the page for a line on P, asked with one unit and no entry
 unfoldable pub line-page : List ℕ → List ℕ
 unfolding input pageOf
@@ -56,7 +61,7 @@ published = 24624
 unfoldable pub library : List ℕ → ℕ → ℕ → ℕ → Result Answer
 unfolding answerBy
 library book units work output =
-    answerOf published (record { book = book; line = 0 ∷ []; units = units; budget = 9; schedule = []; work = work; output = output })
+    answerOf published (record { book = book; line = 0 ∷ []; units = units; budget = 9; day = 0; schedule = []; work = work; output = output })
 
 -- what it answers if nothing is refused
 abbrev pub cut-at-once : Result Answer
@@ -190,7 +195,7 @@ pub record Refusals : Type 0 where
   pub symbol-cut : book-page (ticks (0x01 ∷ 0x00 ∷ [])) ≡ refusal "1"
   pub item-cut : book-page (0x01 ∷ 0x31 ∷ 0x08 ∷ []) ≡ refusal "1"
   -- 2: count 0
-  pub no-operator : book-page (0x00 ∷ []) ≡ refusal "2"
+  pub no-operator : dated-page (0x00 ∷ 0x00 ∷ []) (0 ∷ []) 0 [] ≡ refusal "2"
   -- 3, at an operator of arity 1: (10 0); ({{}} 0); (9 0); ({1 0} 0); (2 0); (1 1)
   pub item-10 : book-page (0x01 ∷ 0x31 ∷ 0x50 ∷ 0x00 ∷ 0x00 ∷ []) ≡ refusal "3"
   pub group-in-group : book-page (0x01 ∷ 0x32 ∷ 0xc4 ∷ 0x4c ∷ 0x80 ∷ 0x00 ∷ []) ≡ refusal "3"
@@ -234,11 +239,11 @@ pub record Refusals : Type 0 where
   pub units-cut : pageOf (0 ∷ 3 ∷ 0x01 ∷ 0x00 ∷ 0x00 ∷ 0 ∷ 1 ∷ 0 ∷ []) ≡ refusal "17"
   pub budget-cut : pageOf (0 ∷ 3 ∷ 0x01 ∷ 0x00 ∷ 0x00 ∷ 0 ∷ 1 ∷ 0 ∷ 1 ∷ 0 ∷ 0 ∷ 0 ∷ []) ≡ refusal "17"
   -- the writer tells the book's own
-  pub written-no-operator : writtenOf (0x00 ∷ []) ≡ refused 2
+  pub written-no-operator : writtenOf (0x00 ∷ 0x00 ∷ []) ≡ refused 2
   pub written-left-variable : writtenOf (ticks (0x01 ∷ 0x80 ∷ 0x00 ∷ [])) ≡ refused 5
 
 pub refusals : Refusals
-unfolding refusal book-page line-page end-page library times pageOf writtenOf
+unfolding refusal book-page dated-page line-page end-page library times pageOf writtenOf
 refusals = record {
   no-byte = refl;
   no-arity = refl;
@@ -291,7 +296,7 @@ pub record Precedence : Type 0 where
   pub work-output : library P-bytes 1 0 0 ≡ refused 15
   pub output-book : library (0x00 ∷ []) 1 published 0 ≡ refused 16
   -- 13 before a fault of the book, on the program's page
-  pub units-book : pageOf (input-on (0x00 ∷ []) (0 ∷ []) 9 9 []) ≡ refusal "13"
+  pub units-book : pageOf (input-on (0x01 ∷ []) (0 ∷ []) 9 9 []) ≡ refusal "13"
   -- 9, the book's last, before 12, the line's first
   pub book-line : pageOf (input-on (0x01 ∷ 0x00 ∷ 0x01 ∷ []) (replicate 1025 0) 1 9 []) ≡ refusal "9"
   -- the line's 12, 11 and 10 before 14
@@ -321,7 +326,7 @@ pub record Precedence : Type 0 where
   pub left-over-operator : line-page (0 ∷ 3 ∷ []) ≡ refusal "10"
 
 pub precedence : Precedence
-unfolding refusal book-page line-page end-page library endless input-on input pageOf
+unfolding refusal book-page dated-page line-page end-page library endless input-on input pageOf
 precedence = record {
   input-units = refl;
   schedule-units = refl;

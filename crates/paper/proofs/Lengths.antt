@@ -1,9 +1,9 @@
 -- The book's reader by lengths and by numbers: what it reads takes at least the bits that its written form has, so a written book is never longer
--- than the bytes that were read; and it refuses by 1 to 9, but not by 6. Assumes nothing.
-use mathlib.Core.Bool.{Bool, true, false}
+-- than the bytes that were read; and it refuses by 1 to 9, but not by 6. So for both forms of a book. Assumes nothing.
+use mathlib.Core.Bool.{Bool, true, false, true≢false}
 use mathlib.Core.List.{List, [], _∷_, _++_}
 use mathlib.Core.Logic.{inl, inr, _≢_}
-use mathlib.Core.Path.{_≡_, refl, ap}
+use mathlib.Core.Path.{_≡_, refl, sym, ap}
 use Prim.Native.Nat.{ℕ, zero, suc, pred, _+_, _*_, _/_, _≤_, _<_}
 use native.Mathlib.Omega.{arith}
 use lib.Dec.{eqb, ltb}
@@ -16,6 +16,8 @@ use Rattle.paper.specs.Book.{Operator, Symbol, Side, Book, symbolArity}
 use Rattle.paper.specs.Reader.{allowed, grouped-after, read-numbers, items, group-items, read-strategy, read-operator, read-symbol, read-symbols}
 use Rattle.paper.specs.Reader.{read-side, left-root, left-symbol, right-symbol, variable-of, variables, read-rule, read-count, all-zero, read-end, read-bits, readBook}
 use Rattle.paper.specs.Writer.{numbers, same, concat, write-strategy, write-operator, write-symbol, write-side, write-rule, writeBook}
+use Rattle.paper.specs.Dated.{DatedBook, AnyBook, is-dated, read-dated-rule, read-dated-bits, readDated, readAny}
+use Rattle.paper.specs.Dated.{write-dated-rule, writeDated, writeAny}
 use Rattle.paper.proofs.Tests.{either, eqb-cases, eqb-true}
 use Rattle.paper.proofs.Bytes.{length-bitsOf, length-bytesOf}
 use Rattle.paper.proofs.Settling.{length-group, settled-length}
@@ -211,9 +213,9 @@ unfolding writeBook toBits
 written-length B =
     rw length-bytesOf (omega (arith, length-append (concat write-operator (B .operators)) (toBits 8 (length (B .rules)) ++ concat write-rule (B .rules))))
 
-end-takes : (B : Book) (n : ℕ) (xs : List ℕ) → book-bits B + length xs ≤ n → Gives book-bits n (read-end B xs)
+end-takes : {A : Type 0} (bits : A → ℕ) (B : A) (n : ℕ) (xs : List ℕ) → bits B + length xs ≤ n → Gives bits n (read-end B xs)
 unfolding read-end
-end-takes B n xs h = elim (either (ltb (length xs) 8)) [
+end-takes bits B n xs h = elim (either (ltb (length xs) 8)) [
   | inl e ↦ rw e (elim (either (all-zero xs)) [ inl f ↦ rw f (answer B xs h) | inr f ↦ rw f (refusal 9 (omega arith, omega arith, λ e. omega arith)) ])
   | inr e ↦ rw e (refusal 9 (omega arith, omega arith, λ e. omega arith))
 ]
@@ -225,7 +227,7 @@ bits-take xs =
     then-gives _ (repeat-takes write-operator read-operator operator-takes n ys) λ ops zs k.
     then-gives _ (field-takes 8 zs) λ m us l.
     then-gives _ (repeat-takes write-rule (read-rule ops) (rule-takes ops) m us) λ rules vs i.
-    end-takes (record { operators = ops; rules = rules }) (length xs) vs (omega arith)
+    end-takes book-bits (record { operators = ops; rules = rules }) (length xs) vs (omega arith)
 
 -- what is told of a book's reading
 abbrev Told : List ℕ → Result Book → Type 0
@@ -248,3 +250,72 @@ module _ (bytes : List ℕ) where
   -- a book is refused by 1 to 9, but not by 6
   pub book-refused-by : (k : ℕ) → readBook bytes ≡ refused k → (0 < k) × (k < 10) × (k ≢ 6)
   book-refused-by k e = rw e at told
+
+-- Dated books, and either form
+
+dated-rule-takes : (ops : List Operator) → TakesWritten write-dated-rule (read-dated-rule ops)
+unfolding read-dated-rule write-dated-rule toBits
+dated-rule-takes ops xs =
+    then-gives _ (field-takes 16 xs) λ d ys h.
+    then-gives _ (rule-takes ops ys) λ r zs k.
+    answer (record { day = d; rule = r }) zs (omega arith)
+
+-- the bits behind the byte 0
+abbrev dated-bits : DatedBook → ℕ
+dated-bits D = 16 + (length (concat write-operator (D .operators)) + length (concat write-dated-rule (D .rules)))
+
+dated-length : (D : DatedBook) → length (writeDated D) ≡ (dated-bits D + 7) / 8
+unfolding writeDated toBits
+dated-length D =
+    rw length-bytesOf (omega (arith, length-append (concat write-operator (D .operators)) (toBits 8 (length (D .rules)) ++ concat write-dated-rule (D .rules))))
+
+dated-bits-take : Takes dated-bits read-dated-bits
+unfolding read-dated-bits
+dated-bits-take xs =
+    then-gives _ (count-takes xs) λ n ys h.
+    then-gives _ (repeat-takes write-operator read-operator operator-takes n ys) λ ops zs k.
+    then-gives _ (field-takes 8 zs) λ m us l.
+    then-gives _ (repeat-takes write-dated-rule (read-dated-rule ops) (dated-rule-takes ops) m us) λ rules vs i.
+    end-takes dated-bits (record { operators = ops; rules = rules }) (length xs) vs (omega arith)
+
+abbrev DatedTold : List ℕ → Result DatedBook → Type 0
+DatedTold bytes (refused k) = OfBook k
+DatedTold bytes (accepted D) = length (writeDated D) ≤ length bytes
+
+dated-told : (bytes : List ℕ) → DatedTold bytes (readDated bytes)
+unfolding readDated then
+dated-told bytes = go (dated-bits-take (bitsOf bytes))
+  where
+    go : {x : Result (Read DatedBook)} → Gives dated-bits (length (bitsOf bytes)) x → DatedTold bytes (then x (λ r. accepted (r .value)))
+    go (refusal k h) = h
+    go (answer D xs h) = omega (arith, length-bitsOf bytes, dated-length D)
+
+abbrev AnyTold : List ℕ → Result AnyBook → Type 0
+AnyTold bytes (refused k) = OfBook k
+AnyTold bytes (accepted A) = length (writeAny A) ≤ length bytes
+
+module _ (bytes : List ℕ) where
+  any-told : AnyTold bytes (readAny bytes)
+  unfolding readAny writeAny then
+  any-told = elim (either (is-dated bytes)) [
+    | inl e ↦ rw (e, readAny) (dated bytes e (readDated (drop 1 bytes)) (dated-told (drop 1 bytes)))
+    | inr e ↦ rw (e, readAny) (undated (readBook bytes) (told bytes))
+  ]
+    where
+      undated : (x : Result Book) → Told bytes x → AnyTold bytes (then x (λ B. accepted (AnyBook.undated B)))
+      undated (refused k) h = h
+      undated (accepted B) h = h
+
+      dated : (bytes : List ℕ) → is-dated bytes ≡ true → (x : Result DatedBook) → DatedTold (drop 1 bytes) x →
+          AnyTold bytes (then x (λ D. accepted (AnyBook.dated D)))
+      dated bytes e (refused k) h = h
+      dated [] e (accepted D) h = absurd (true≢false (sym e))
+      dated (b ∷ bs) e (accepted D) h = omega arith
+
+  -- a written book is never longer than the bytes that were read, whatever its form
+  pub any-no-longer : (A : AnyBook) → readAny bytes ≡ accepted A → length (writeAny A) ≤ length bytes
+  any-no-longer A e = rw e at any-told
+
+  -- a book in either form is refused by 1 to 9, but not by 6
+  pub any-refused-by : (k : ℕ) → readAny bytes ≡ refused k → (0 < k) × (k < 10) × (k ≢ 6)
+  any-refused-by k e = rw e at any-told

@@ -13,8 +13,11 @@ pub mod Rules
 pub mod Bytes
 pub mod Lengths
 pub mod Books
+pub mod Dated
 pub mod Prefix
 pub mod Matching
+pub mod Naming
+pub mod Standing
 pub mod Figure
 pub mod Steps
 pub mod Ghost
@@ -28,6 +31,7 @@ pub mod Local
 pub mod Starred
 pub mod Examples
 pub mod Payees
+pub mod Days
 pub mod Fork
 pub mod Idle
 pub mod Exit

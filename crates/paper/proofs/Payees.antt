@@ -48,7 +48,7 @@ not-run symbols = ascii "REDUCE 1\nend 3\nrewrites 0\nentries 0\ngranted 0\nkept
 unfoldable pub payee : List ℕ → List ℕ → ℕ → ℕ → ℕ → Result Answer
 unfolding answerBy
 payee book text units work output =
-    payeeOf published (record { book = book; line = text; units = units; budget = 9; schedule = []; work = work; output = output })
+    payeeOf published (record { book = book; line = text; units = units; budget = 9; day = 0; schedule = []; work = work; output = output })
 
 -- CLASSES, by the letters themselves: a character's code is its byte in ISO 8859-1
 

@@ -1,6 +1,7 @@
 -- By which numbers a request is refused (document 01, 'What is checked where'; document 02, Change 1): with a line by 1 to 16, with a text by 1 to 9,
 -- 13 to 16, 18 and 19; by 15 only if the work area is below the published length, by 16 only if the output is under 1,024 bytes; by 6 never, whatever
--- the bytes (document 02, Change 4: "Number 6 is given no longer, and this is shown for every book"). Assumes nothing.
+-- the bytes (document 02, Change 4: "Number 6 is given no longer, and this is shown for every book"). An input is refused by 17 alone. Books are in either
+-- form (Change 5). Assumes nothing.
 use mathlib.Core.Bool.{true, false}
 use mathlib.Core.List.{List, [], _∷_, _++_}
 use mathlib.Core.Logic.{_⊎_, inl, inr, _≢_}
@@ -12,15 +13,15 @@ use lib.Dec.{eqb, ltb}
 use lib.ListN.{length, getD, take, drop, length-append}
 use Rattle.paper.specs.Result.{Result, refused, accepted, if, then}
 use Rattle.paper.specs.Book.{Term, Book, arity}
-use Rattle.paper.specs.Reader.{readBook}
+use Rattle.paper.specs.Dated.{is-dated, readAny, on-day}
 use Rattle.paper.specs.Line.{symbol-limit, line-fault, unless-fault, readLine}
 use Rattle.paper.specs.Text.{readText}
 use Rattle.paper.specs.Run.{Answer}
 use Rattle.paper.specs.Page.{Request, all-below, frame-fault, unless, run-checked, LineReader, answerBy, answerOf, payeeOf}
-use Rattle.paper.specs.Page.{read-bytes, read-number, read-schedule, read-request, digits, spaced, line, reduce-word, refused-word}
+use Rattle.paper.specs.Page.{read-bytes, read-number, read-day, read-schedule, read-request, digits, spaced, line, reduce-word, refused-word}
 use Rattle.paper.specs.Page.{answer-lines, pageBy, pageOf, payeePageOf, writtenOf}
 use Rattle.paper.proofs.Tests.{either, ltb-cases}
-use Rattle.paper.proofs.Lengths.{OfBook, book-refused-by}
+use Rattle.paper.proofs.Lengths.{OfBook, any-refused-by}
 use Rattle.paper.proofs.Text.{text-refused-by}
 
 -- what is said of each refusal
@@ -72,8 +73,8 @@ module _ (published : ℕ) (q : Request) where
       ])
     ]
 
-    book-told : Told (Refusal Own) (readBook (q .book))
-    book-told = told (Refusal Own) (readBook (q .book)) (λ k e. book (book-refused-by (q .book) k e))
+    book-told : Told (Refusal Own) (readAny (q .book))
+    book-told = told (Refusal Own) (readAny (q .book)) (λ k e. book (any-refused-by (q .book) k e))
 
     run-told : (B : Book) (t : Term) → Told (Refusal Own) (run-checked q B t)
     unfolding run-checked
@@ -89,7 +90,8 @@ module _ (published : ℕ) (q : Request) where
         let line-told : (B : Book) → Told (Refusal Own) (read B (q .line)) = λ B. told (Refusal Own) (read B (q .line)) (λ k e. own (h B (q .line) k e)) in
         let all-told : Told (Refusal Own) (answerBy read published q) =
         unless-told (frame-fault published q) _ frame-told
-        (then-told (Refusal Own) (readBook (q .book)) _ book-told (λ B. then-told (Refusal Own) (read B (q .line)) _ (line-told B) (λ t. run-told B t))) in
+        (then-told (Refusal Own) (readAny (q .book)) _ book-told
+        (λ A. let B = on-day (q .day) A in then-told (Refusal Own) (read B (q .line)) _ (line-told B) (λ t. run-told B t))) in
         rw e at all-told
 
 -- A LINE
@@ -181,12 +183,12 @@ NotSix k = k ≢ 6
 never : {A : Type 0} {x : Result A} → Told NotSix x → x ≢ refused 6
 never {A} h e = subst (Told {A = A} NotSix) e h refl
 
-pub read-not-six : (bytes : List ℕ) → readBook bytes ≢ refused 6
-read-not-six bytes e = book-refused-by bytes 6 e .2 refl
+pub read-not-six : (bytes : List ℕ) → readAny bytes ≢ refused 6
+read-not-six bytes e = any-refused-by bytes 6 e .2 refl
 
 pub written-not-six : (bytes : List ℕ) → writtenOf bytes ≢ refused 6
 unfolding writtenOf
-written-not-six bytes = never (then-told NotSix (readBook bytes) _ (told NotSix (readBook bytes) (λ k e. book-refused-by bytes k e .2)) (λ B. tt))
+written-not-six bytes = never (then-told NotSix (readAny bytes) _ (told NotSix (readAny bytes) (λ k e. any-refused-by bytes k e .2)) (λ A. tt))
 
 module _ (published : ℕ) (q : Request) where
   pub answer-not-six : answerOf published q ≢ refused 6
@@ -212,6 +214,10 @@ number-told : (n : ℕ) (xs : List ℕ) → Told OfInput (read-number n xs)
 unfolding read-number
 number-told n xs = then-told OfInput (read-bytes n xs) _ (bytes-told n xs) (λ r. tt)
 
+day-told : (bytes xs : List ℕ) → Told OfInput (read-day bytes xs)
+unfolding read-day
+day-told bytes xs = elim (either (is-dated bytes)) [ inl e ↦ rw (e, read-day) (number-told 2 xs) | inr e ↦ rw (e, read-day) tt ]
+
 schedule-told : (xs : List ℕ) → Told OfInput (read-schedule xs)
 unfolding read-schedule
 schedule-told xs = elim (either (ltb 32768 (length xs))) [ inl e ↦ rw e refl | inr e ↦ rw e tt ]
@@ -225,7 +231,8 @@ request-told xs =
     then-told OfInput (read-bytes (m .value) (m .left)) _ (bytes-told (m .value) (m .left)) λ line.
     then-told OfInput (read-number 1 (line .left)) _ (number-told 1 (line .left)) λ units.
     then-told OfInput (read-number 4 (units .left)) _ (number-told 4 (units .left)) λ budget.
-    then-told OfInput (read-schedule (budget .left)) _ (schedule-told (budget .left)) λ schedule. tt
+    then-told OfInput (read-day (book .value) (budget .left)) _ (day-told (book .value) (budget .left)) λ day.
+    then-told OfInput (read-schedule (day .left)) _ (schedule-told (day .left)) λ schedule. tt
 
 pub request-refused-by-17 : (input : List ℕ) (k : ℕ) → read-request input ≡ refused k → k ≡ 17
 request-refused-by-17 input k e = rw e at (request-told input)

@@ -1,5 +1,5 @@
 -- The starred cases of document 01 ('The program and its page') in one statement, all of them computed, with the page's line `kept` of document 02,
--- Change 2; proofs/Examples has more. Assumes nothing.
+-- Change 2, and the number of the bytes 00 of Change 5; proofs/Examples has more. Assumes nothing.
 use mathlib.Core.List.{List, [], _∷_, _++_}
 use mathlib.Core.Option.{some}
 use mathlib.Core.Path.{_≡_, refl}
@@ -12,6 +12,7 @@ use Rattle.paper.specs.Tree.{Tree, node, nil, cons}
 use Rattle.paper.specs.Strategy.{Item, settle}
 use Rattle.paper.specs.Book.{Operator, Symbol, Term, Side, Book}
 use Rattle.paper.specs.Reader.{items, readBook}
+use Rattle.paper.specs.Dated.{AnyBook, readAny}
 use Rattle.paper.specs.Writer.{numbers}
 use Rattle.paper.specs.Line.{readLine}
 use Rattle.paper.specs.Machine.{Event, Limits}
@@ -127,19 +128,21 @@ pub record Starred : Type 0 where
   pub waits : pageOf (input P-line 2 9 (replicate 100 0)) ≡ ascii "REDUCE 1\nend 3\nrewrites 0\nentries 100\ngranted 1\nkept 0\nterm 2 1 0 1 0\n"
   -- U = 2, 13 entries 0 1 0 1 ..: the page, and what the last entry did, P and its line being what is read
   pub turned : pageOf (input P-line 2 9 (turns 13)) ≡ ascii "REDUCE 1\nend 3\nrewrites 0\nentries 13\ngranted 1\nkept 0\nterm 2 1 0 1 0\n"
-  pub book-read : readBook P-bytes ≡ accepted P
+  pub book-read : readAny P-bytes ≡ accepted (AnyBook.undated P)
   pub line-read : readLine P P-line ≡ accepted (both (tick end) (tick end))
   pub passed : drop 12 (events (moments P (limits 1024) 2 (turns 13) (both (tick end) (tick end)))) ≡ Event.passed 0 ∷ []
   -- the two settled lists
   pub settled-wholes : numbers (settle (items (1 ∷ 0 ∷ 1 ∷ 0 ∷ []))) ≡ 1 ∷ 0 ∷ []
   pub settled-groups : numbers (settle (items (8 ∷ 1 ∷ 1 ∷ 9 ∷ 8 ∷ 9 ∷ 2 ∷ 0 ∷ []))) ≡ 1 ∷ 2 ∷ 0 ∷ []
-  -- the three books: one constant; settled when written back; no operator
-  pub constant : readBook (0x01 ∷ 0x00 ∷ 0x00 ∷ []) ≡ accepted (record { operators = record { arity = 0; strategy = Item.whole ∷ [] } ∷ []; rules = [] })
+  -- the three books: one constant; settled when written back; a dated book that is cut short, and what a service that is not yet updated says of it
+  pub constant : readAny (0x01 ∷ 0x00 ∷ 0x00 ∷ []) ≡
+      accepted (AnyBook.undated (record { operators = record { arity = 0; strategy = Item.whole ∷ [] } ∷ []; rules = [] }))
   pub written : writtenOf (0x02 ∷ 0x03 ∷ 0x10 ∷ 0x80 ∷ 0x00 ∷ []) ≡ accepted (0x02 ∷ 0x02 ∷ 0x00 ∷ [])
-  pub no-operator : readBook (0x00 ∷ []) ≡ refused 2
+  pub cut-short : readAny (0x00 ∷ []) ≡ refused 1
+  pub not-updated : readBook (0x00 ∷ []) ≡ refused 2
 
 pub starred : Starred
-unfolding ascii input turns pageOf readBook readLine moments events numbers settle items writtenOf
+unfolding ascii input turns pageOf readBook readAny readLine moments events numbers settle items writtenOf
 starred = record {
   page = refl;
   cut = refl;
@@ -153,5 +156,6 @@ starred = record {
   settled-groups = refl;
   constant = refl;
   written = refl;
-  no-operator = refl;
+  cut-short = refl;
+  not-updated = refl;
 }

@@ -5,6 +5,8 @@ pub mod Strategy
 pub mod Book
 pub mod Reader
 pub mod Writer
+pub mod Naming
+pub mod Dated
 pub mod Line
 pub mod Text
 pub mod Match

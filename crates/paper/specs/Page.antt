@@ -9,8 +9,7 @@ use lib.ListN.{length, take, drop}
 use Rattle.paper.specs.Result.{Result, refused, accepted, Read, Reader, if, return, refuse, then, _>>=_}
 use Rattle.paper.specs.Tree.{preorder}
 use Rattle.paper.specs.Book.{Term, Book}
-use Rattle.paper.specs.Reader.{readBook}
-use Rattle.paper.specs.Writer.{writeBook}
+use Rattle.paper.specs.Dated.{is-dated, readAny, writeAny, on-day}
 use Rattle.paper.specs.Line.{symbol-limit, readLine}
 use Rattle.paper.specs.Text.{readText}
 use Rattle.paper.specs.Machine.{Ending, Limits}
@@ -22,6 +21,7 @@ pub record Request : Type 0 where
   pub line : List ℕ
   pub units : ℕ
   pub budget : ℕ
+  pub day : ℕ
   pub schedule : List ℕ
   pub work : ℕ
   pub output : ℕ
@@ -53,11 +53,13 @@ run-checked q B t =
 abbrev pub LineReader : Type 0
 LineReader = Book → List ℕ → Result Term
 
--- the places of the table from top to bottom: the run's frame, the book, the term or text, the schedule
+-- the places of the table from top to bottom: the run's frame, the book, the term or text, the schedule. Term or text are read, and the run is made,
+-- by the book of the run's day (document 02, Change 5)
 unfoldable pub answerBy : LineReader → ℕ → Request → Result Answer
-unfolding frame-fault unless then readBook run-checked
+unfolding frame-fault unless then readAny on-day run-checked
 answerBy read published q =
-    unless (frame-fault published q) (then (readBook (q .book)) (λ B. then (read B (q .line)) (λ t. run-checked q B t)))
+    unless (frame-fault published q)
+    (then (readAny (q .book)) (λ A. let B = on-day (q .day) A in then (read B (q .line)) (λ t. run-checked q B t)))
 
 abbrev pub answerOf : ℕ → Request → Result Answer
 answerOf = answerBy readLine
@@ -88,9 +90,14 @@ unfoldable pub read-schedule : Reader (List ℕ)
 unfolding return refuse
 read-schedule xs = if (ltb 32768 (length xs)) (refuse 17 xs) (return xs [])
 
+-- the day, which stands in the input exactly if the book's first byte is 0 (document 02, Change 5); an undated book ignores it
+unfoldable pub read-day : List ℕ → Reader ℕ
+unfolding return is-dated read-number
+read-day book = elim (is-dated book) [ true ↦ read-number 2 | false ↦ return 0 ]
+
 -- the program lends its own buffers, of just the lengths that are asked for
 unfoldable pub read-request : Reader Request
-unfolding return _>>=_ read-bytes read-number read-schedule
+unfolding return _>>=_ read-bytes read-number read-day read-schedule
 read-request = do
   n ← read-number 2
   book ← read-bytes n
@@ -98,8 +105,9 @@ read-request = do
   line ← read-bytes m
   units ← read-number 1
   budget ← read-number 4
+  day ← read-day book
   schedule ← read-schedule
-  return (record { book = book; line = line; units = units; budget = budget; schedule = schedule; work = 0; output = symbol-limit })
+  return (record { book = book; line = line; units = units; budget = budget; day = day; schedule = schedule; work = 0; output = symbol-limit })
 
 -- The page
 
@@ -181,5 +189,5 @@ payeePageOf input = pageBy readText input
 
 -- the writer, given a book's bytes: the book's own faults, or the written book
 unfoldable pub writtenOf : List ℕ → Result (List ℕ)
-unfolding then readBook writeBook
-writtenOf bytes = then (readBook bytes) (λ B. accepted (writeBook B))
+unfolding then readAny writeAny
+writtenOf bytes = then (readAny bytes) (λ A. accepted (writeAny A))

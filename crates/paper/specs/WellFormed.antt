@@ -3,7 +3,7 @@
 use mathlib.Core.Bool.{Bool, true, false}
 use mathlib.Core.List.{List, [], _∷_}
 use mathlib.Core.Path.{_≡_}
-use Prim.Native.Nat.{ℕ, _≤_, _<_}
+use Prim.Native.Nat.{ℕ, _^_, _≤_, _<_}
 use lib.ListN.{length}
 use Rattle.paper.specs.Tree.{label, preorder, Correct}
 use Rattle.paper.specs.Strategy.{Item, settle}
@@ -11,6 +11,7 @@ use Rattle.paper.specs.Book.{Operator, Symbol, Side, Rule, Book, symbolA
 use Rattle.paper.specs.Reader.{variables}
 use Rattle.paper.specs.Writer.{numbers}
 use Rattle.paper.specs.Sound.{In, All, IsOperator}
+use Rattle.paper.specs.Dated.{DatedRule, DatedBook, AnyBook}
 
 -- every argument that is named, in a group or not, is one of n
 abbrev pub ItemsWithin : ℕ → List Item → Type 0
@@ -64,3 +65,19 @@ pub record GoodBook (B : Book) : Type 0 where
   pub operators : All GoodOperator (B .operators)
   pub few-rules : length (B .rules) < 256
   pub rules : All (GoodRule (B .operators)) (B .rules)
+
+-- the same with a day of 16 bits before each rule (document 02, Change 5)
+pub record GoodDatedRule (ops : List Operator) (r : DatedRule) : Type 0 where
+  pub day : r .day < 2 ^ 16
+  pub rule : GoodRule ops (r .rule)
+
+pub record GoodDated (D : DatedBook) : Type 0 where
+  pub some-operators : 0 < length (D .operators)
+  pub few-operators : length (D .operators) < 256
+  pub operators : All GoodOperator (D .operators)
+  pub few-rules : length (D .rules) < 256
+  pub rules : All (GoodDatedRule (D .operators)) (D .rules)
+
+abbrev pub GoodAny : AnyBook → Type 0
+GoodAny (AnyBook.undated B) = GoodBook B
+GoodAny (AnyBook.dated D) = GoodDated D

@@ -38,7 +38,7 @@ pub record Present (bytes operators rules symbols : List ℕ) (len a : ℕ) : Ty
   pub long : length symbols ≡ 1024
   pub most : len ≤ 1024
   pub inside : a < len
-  pub known : All (λ o. o < length (book-of bytes .operators)) (take len symbols)
+  pub known : All (λ o. o < length (book-of bytes rules .operators)) (take len symbols)
 
 -- an array of 16 variables' starts and sizes holds the binding b
 pub record Holds-binding (bound : List ℕ) (b : Binding) : Type 0 where

@@ -322,7 +322,7 @@ pub fn find(
     bound: &mut [u16; 32],
 ) -> Hit
     requires { ⌜ R.Present (now book) (now operators) (now rules) (now symbols) len offset ⌝ }
-    ensures { λ r. ⌜ R.Search-answers (book-of (now (book .entry))) (now (operators .entry)) offset (take len (now (symbols .entry))) len (binding (now (bound .exit))) r ⌝ }
+    ensures { λ r. ⌜ R.Search-answers (book-of (now (book .entry)) (now (rules .entry))) (now (operators .entry)) offset (take len (now (symbols .entry))) len (binding (now (bound .exit))) r ⌝ }
 {
     let o = symbols[offset];
     let mut k = tables::first_rule(rules, o);

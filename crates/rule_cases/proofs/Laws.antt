@@ -26,7 +26,7 @@ load-more line symbols i l m e =
 
 -- a sound line is a present term
 pub present : {bytes operators rules line symbols : List ℕ} (arity : ℕ → ℕ) (n len offset : ℕ) → TablesOf bytes operators rules → length bytes ≤ 65536 →
-    n ≡ length (book-of bytes .operators) → L.Line.Sound ≡ judgement n arity line → take len symbols ≡ line → length symbols ≡ 1024 → len ≡ length line →
+    n ≡ length (book-of bytes rules .operators) → L.Line.Sound ≡ judgement n arity line → take len symbols ≡ line → length symbols ≡ 1024 → len ≡ length line →
     offset < len → Present bytes operators rules symbols len offset
 present arity n len offset t s e j k l m i =
     let (all, most) = sound-known n arity _ (sym j) in

@@ -147,7 +147,7 @@ fn try_line(
     line: &[u8],
     offset: usize,
 )
-    requires { ⌜ (length (now bytes) ≤ 65536) × TablesOf (now bytes) (now operators) (now rules) × (n ≡ length (book-of (now bytes) .operators)) ⌝ }
+    requires { ⌜ (length (now bytes) ≤ 65536) × TablesOf (now bytes) (now operators) (now rules) × (n ≡ length (book-of (now bytes) (now rules) .operators)) ⌝ }
 {
     match line::check_line(line, n, operators) {
         Line::Refused(k) => say_refused(k),
@@ -167,12 +167,13 @@ fn try_line(
     }
 }
 
+// A book, which is undated: any day will do.
 fn try_book(bytes: &[u8], line: &[u8], offset: usize)
     requires { ⌜ length (now bytes) ≤ 65536 ⌝ }
 {
     let mut operators = [0u8; 4352];
     let mut rules = [0u32; 1024];
-    match book::read_book(bytes, &mut operators, &mut rules) {
+    match book::read_book(bytes, 0, &mut operators, &mut rules) {
         Book::Refused(k) => say_refused(k),
         Book::Read(n) => try_line(bytes, n, &operators, &rules, line, offset),
     }

@@ -50,8 +50,8 @@ pub record Along (bytes operators rules : List ℕ) (l : Limits) (schedule : Lis
   pub arrays : Arrays symbols scratch work units p l
   pub running : Running bytes operators rules l (state symbols work units p l)
   pub tallied : Tallied (l .budget) i (state symbols work units p l)
-  pub is : flat-run-from (book-of bytes) (limited (l .budget)) 0 schedule s₀ ≡
-      flat-run-from (book-of bytes) (limited (l .budget)) i (drop i schedule) (state symbols work units p l)
+  pub is : flat-run-from (book-of bytes rules) (limited (l .budget)) 0 schedule s₀ ≡
+      flat-run-from (book-of bytes rules) (limited (l .budget)) i (drop i schedule) (state symbols work units p l)
   pub used : i ≤ length schedule
 
 module _ {bytes operators rules : List ℕ} {l : Limits} {schedule : List ℕ} where
@@ -81,12 +81,12 @@ module _ {bytes operators rules : List ℕ} {l : Limits} {schedule : List ℕ} w
 
     module _ (h : i < length schedule) (u : ℕ) (eu : u ≡ getD schedule i 0) {symbols′ scratch′ work′ units′ : List ℕ} where
       -- the entry leads to another state
-      pub along-goes : (p′ : Progress) → going (state symbols′ work′ units′ p′ l) ≡ flat-entry (book-of bytes) (limited (l .budget)) u (state symbols work units p l) →
+      pub along-goes : (p′ : Progress) → going (state symbols′ work′ units′ p′ l) ≡ flat-entry (book-of bytes rules) (limited (l .budget)) u (state symbols work units p l) →
           Arrays symbols′ scratch′ work′ units′ p′ l → Along bytes operators rules l schedule s₀ symbols′ scratch′ work′ units′ p′ (i + 1)
       unfolding after
       along-goes p′ e z =
           let g = a .running .tables .tables .good in
-          let B = book-of bytes in
+          let B = book-of bytes rules in
           record {
             arrays = z;
             running = record {
@@ -101,14 +101,14 @@ module _ {bytes operators rules : List ℕ} {l : Limits} {schedule : List ℕ} w
           }
 
       -- the entry ends the run, and the state is as it was
-      pub along-ends : (x : Ending) → ended (ending x) (state symbols′ work′ units′ p l) ≡ flat-entry (book-of bytes) (limited (l .budget)) u (state symbols work units p l) →
+      pub along-ends : (x : Ending) → ended (ending x) (state symbols′ work′ units′ p l) ≡ flat-entry (book-of bytes rules) (limited (l .budget)) u (state symbols work units p l) →
           Arrays symbols′ scratch′ work′ units′ p l → (r : Run) → r ≡ R.ended x (i + 1) p →
-          (answer r symbols′ ≡ flat-run-from (book-of bytes) (limited (l .budget)) 0 schedule s₀) × Bounded l schedule symbols′ r
+          (answer r symbols′ ≡ flat-run-from (book-of bytes rules) (limited (l .budget)) 0 schedule s₀) × Bounded l schedule symbols′ r
       unfolding after
       along-ends x e z r er = (
         ap (λ (q : Run). answer q symbols′) er
             ∙ ap (λ (j : ℕ). flat-answer (ending x) j (state symbols′ work′ units′ p l)) (add-one i)
-            ∙ sym (a .is ∙ run-more (book-of bytes) (limited (l .budget)) schedule i _ h u eu _ e),
+            ∙ sym (a .is ∙ run-more (book-of bytes rules) (limited (l .budget)) schedule i _ h u eu _ e),
         rw er (record {
           long = z .symbols-long;
           most = z .most;
@@ -120,9 +120,9 @@ module _ {bytes operators rules : List ℕ} {l : Limits} {schedule : List ℕ} w
 
     -- the schedule is at its end
     pub along-cut : length schedule ≤ i → (r : Run) → r ≡ R.ended Ending.Cut i p →
-        (answer r symbols ≡ flat-run-from (book-of bytes) (limited (l .budget)) 0 schedule s₀) × Bounded l schedule symbols r
+        (answer r symbols ≡ flat-run-from (book-of bytes rules) (limited (l .budget)) 0 schedule s₀) × Bounded l schedule symbols r
     along-cut h r er = (
-      ap (λ (q : Run). answer q symbols) er ∙ sym (a .is ∙ run-cut (book-of bytes) (limited (l .budget)) schedule i _ h),
+      ap (λ (q : Run). answer q symbols) er ∙ sym (a .is ∙ run-cut (book-of bytes rules) (limited (l .budget)) schedule i _ h),
       rw er (record {
         long = a .arrays .symbols-long;
         most = a .arrays .most;

@@ -60,7 +60,7 @@ pub fn run_schedule(
     requires { λ s. ⌜ S.state (now symbols) (now work) (now units) (R.beginning length) l ≡ s ⌝ }
     requires { λ s. ⌜ S.Arrays (now symbols) (now scratch) (now work) (now units) (R.beginning length) l ⌝ }
     requires { λ s. ⌜ R.Runnable (now book) (now operators) (now rules) l (now schedule) s ⌝ }
-    ensures { λ s r. ⌜ R.answer r (now (symbols .exit)) ≡ flat-run-from (book-of (now (book .entry))) (S.limited (l .budget)) 0 (now (schedule .entry)) s ⌝ }
+    ensures { λ s r. ⌜ R.answer r (now (symbols .exit)) ≡ flat-run-from (book-of (now (book .entry)) (now (rules .entry))) (S.limited (l .budget)) 0 (now (schedule .entry)) s ⌝ }
     ensures { λ s r. ⌜ R.Bounded l (now (schedule .entry)) (now (symbols .exit)) r ⌝ }
 {
     let mut p = Progress {

@@ -1,6 +1,6 @@
-// Cases from standard input, each a head of 16 bytes, then a name, a book, a line and a schedule. The head: 1 byte name length, 2 bytes book
-// length, 2 bytes line length, 1 byte units, 4 bytes budget, 2 bytes schedule length, 2 bytes work area's length, 2 bytes output's length (most
-// significant byte first). For each, a line with the name, what the run answers and its term in hexadecimal, and what became of the work area
+// Cases from standard input, each a head of 18 bytes, then a name, a book, a line and a schedule. The head: 1 byte name length, 2 bytes book
+// length, 2 bytes line length, 1 byte units, 4 bytes budget, 2 bytes day, 2 bytes schedule length, 2 bytes work area's length, 2 bytes output's length
+// (most significant byte first). For each, a line with the name, what the run answers and its term in hexadecimal, and what became of the work area
 // and of the output behind the term.
 use cases::say;
 use cases::say_front;
@@ -25,6 +25,7 @@ struct Head {
     line: usize,
     units: u8,
     budget: u32,
+    day: u16,
     schedule: usize,
     work: usize,
     output: usize,
@@ -37,8 +38,8 @@ fn long_number(high: usize, low: usize) -> u32
     casts::word(high * 65536 + low)
 }
 
-fn head_of(bytes: &[u8; 16]) -> Head
-    requires { ⌜ length (now bytes) ≡ 16 ⌝ }
+fn head_of(bytes: &[u8; 18]) -> Head
+    requires { ⌜ length (now bytes) ≡ 18 ⌝ }
     ensures { λ r. ⌜ (r .name < 256) × (r .book < 65536) × (r .line < 65536) × (r .schedule < 65536) × (r .work < 65536) × (r .output < 65536) ⌝ }
 {
     Head {
@@ -50,9 +51,10 @@ fn head_of(bytes: &[u8; 16]) -> Head
             cases::number(bytes[6], bytes[7]),
             cases::number(bytes[8], bytes[9]),
         ),
-        schedule: cases::number(bytes[10], bytes[11]),
-        work: cases::number(bytes[12], bytes[13]),
-        output: cases::number(bytes[14], bytes[15]),
+        day: casts::short(cases::number(bytes[10], bytes[11])),
+        schedule: cases::number(bytes[12], bytes[13]),
+        work: cases::number(bytes[14], bytes[15]),
+        output: cases::number(bytes[16], bytes[17]),
     }
 }
 
@@ -118,11 +120,12 @@ fn try_run(
     line: &[u8],
     units: u8,
     budget: u32,
+    day: u16,
     schedule: &[u8],
     work: &mut [u8],
     output: &mut [u8],
 ) {
-    match engine::reduce(book, line, units, budget, schedule, work, output) {
+    match engine::reduce(book, line, units, budget, day, schedule, work, output) {
         Answer::Refused(k) => {
             say_refused(k);
             say_buffers(work, WORK_FILLER, b"kept", output, 0);
@@ -147,6 +150,7 @@ fn try_lengths(
     line: &[u8],
     units: u8,
     budget: u32,
+    day: u16,
     schedule: &[u8],
     area: usize,
     room: usize,
@@ -160,6 +164,7 @@ fn try_lengths(
         line,
         units,
         budget,
+        day,
         schedule,
         &mut work[..area],
         &mut output[..room],
@@ -187,6 +192,7 @@ fn try_head(head: Head) -> bool
         &line[..head.line],
         head.units,
         head.budget,
+        head.day,
         &schedule[..head.schedule],
         head.work,
         head.output,
@@ -209,8 +215,8 @@ fn pass_name(n: usize) -> bool
 
 // The next case. False at the end of the input.
 fn try_case() -> bool {
-    let mut bytes = [0u8; 16];
-    if !cases::read_front(&mut bytes, 16) {
+    let mut bytes = [0u8; 18];
+    if !cases::read_front(&mut bytes, 18) {
         return false;
     }
     let head = head_of(&bytes);

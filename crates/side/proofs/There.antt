@@ -7,7 +7,9 @@ use lib.ListN.{length}
 use Rattle.paper.specs.Result.{Read}
 use Rattle.paper.specs.Bits.{toBits}
 use Rattle.paper.specs.Book as B
+use Rattle.paper.specs.Book.{Operator}
 use Rattle.paper.specs.Writer.{write-symbol}
+use Rattle.paper.specs.WellFormed.{Fits}
 use Rattle.bits.specs.Field.{Nine}
 use Rattle.bits.proofs.Ahead.{begins, begins-rest, begins-inside}
 use Rattle.bits.proofs.Bytes.{two}
@@ -62,3 +64,8 @@ module _ (bytes : List ℕ) (at w : ℕ) (N : Nine bytes at w) (h : length bytes
           let z = variable-is x rest k e in
           let y : v ≡ x = omega arith in
           ap₂ (λ (y : ℕ) (ys : List ℕ). record { value = B.Symbol.variable y; left = ys }) y (variable-rest x rest k e next q)
+
+-- a symbol of a good side fits its field
+pub number-fits : (ops : List Operator) (s : B.Symbol) → length ops ≤ 256 → Fits ops s → NumberFits s
+number-fits ops (B.Symbol.operator o) l f = omega arith
+number-fits ops (B.Symbol.variable v) l f = f

@@ -1,15 +1,18 @@
--- What the tables of a book tell a run: arities, steps, and where sides stand. Assumes nothing.
-use mathlib.Core.List.{List, [], _∷_}
+-- What the tables of a book tell a run: arities, steps, and where sides stand, inside the book. Assumes nothing.
+use mathlib.Core.List.{List, [], _∷_, _++_}
 use mathlib.Core.Path.{_≡_, sym, _∙_, ap}
-use Prim.Native.Nat.{ℕ, zero, suc, _≤_, _<_}
+use Prim.Native.Nat.{ℕ, zero, suc, _*_, _≤_, _<_}
 use native.Mathlib.Omega.{arith}
-use lib.ListN.{length, getD, drop}
-use Rattle.paper.specs.Tree.{preorder}
+use lib.ListN.{length, getD, drop, length-append}
+use Rattle.paper.specs.Bits.{toBits}
+use Rattle.paper.specs.Tree.{node, preorder, preorders}
 use Rattle.paper.specs.Strategy.{Step, layout}
-use Rattle.paper.specs.Book.{Operator, Book, arity, operatorAt, steps}
+use Rattle.paper.specs.Book.{Operator, Symbol, Side, Book, arity, operatorAt, steps}
 use Rattle.paper.specs.Sound.{All, Within}
 use Rattle.paper.proofs.Operators.{good-within}
 use Rattle.paper.specs.WellFormed.{GoodRule}
+use Rattle.paper.specs.Writer.{concat, write-symbol}
+use Rattle.bits.proofs.Reading.{bits-left}
 use Rattle.flat.specs.Machine.{next-count}
 use Rattle.flat.proofs.Lengths.{steps-most, counts-most}
 use Rattle.tables.specs.Layout.{row, arity-in, row-in, steps-in, AllFew, Rowed, left-in, right-in}
@@ -64,3 +67,23 @@ module _ {bytes operators rules : List ℕ} {B : Book} (T : Tables bytes operato
 
     pub right-at : Stand bytes (right-in rules i) (preorder (ruleAt (B .rules) i .right))
     right-at = T .rules-in .sides .each i l .right-stands
+
+-- SIDES
+
+symbol-long : (s : Symbol) → 0 < length (write-symbol s)
+unfolding write-symbol toBits
+symbol-long (Symbol.operator o) = omega arith
+symbol-long (Symbol.variable v) = omega arith
+
+-- a side that stands at a position is inside the book
+pub stand-inside : (bytes : List ℕ) (at : ℕ) (t : Side) → Stand bytes at (preorder t) → at < 8 * length bytes
+unfolding preorder concat
+stand-inside bytes at (node s ts) p =
+    omega (
+      arith,
+      symbol-long s,
+      bits-left bytes at,
+      ap length (p .is),
+      length-append (concat write-symbol (preorder (node s ts))) (p .rest),
+      length-append (write-symbol s) (concat write-symbol (preorders ts)),
+    )

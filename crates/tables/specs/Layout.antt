@@ -93,6 +93,10 @@ first-in rules o = getD rules o 0 % 256
 abbrev pub next-in : List ℕ → ℕ → ℕ
 next-in rules i = getD rules (256 + i) 0 % 256
 
+-- the day whose rules these are; it stands where the next of a 256th rule would, since a book has at most 255
+abbrev pub day-in : List ℕ → ℕ
+day-in rules = getD rules 511 0
+
 -- where the sides of rule i stand in the book's bits
 abbrev pub left-in : List ℕ → ℕ → ℕ
 left-in rules i = getD rules (512 + i) 0
@@ -103,6 +107,10 @@ right-in rules i = getD rules (768 + i) 0
 -- the sides of rule i are put
 abbrev pub with-sides : List ℕ → ℕ → ℕ → ℕ → List ℕ
 with-sides rules i left right = set (set rules (512 + i) left) (768 + i) right
+
+-- the day is put
+abbrev pub with-day : List ℕ → ℕ → List ℕ
+with-day rules day = set rules 511 day
 
 -- rule i becomes the first of its root, before the one that was
 abbrev pub with-link : List ℕ → ℕ → ℕ → List ℕ

@@ -9,20 +9,24 @@ use Rattle.paper.specs.Bits.{bitsOf}
 use Rattle.paper.specs.Tree.{node, nil, label, preorder}
 use Rattle.paper.specs.Strategy.{layout}
 use Rattle.paper.specs.Book.{Operator, Symbol, Rule, Book, operatorAt}
-use Rattle.paper.specs.Reader.{readBook}
+use Rattle.paper.specs.Dated.{AnyBook, readAny, on-day}
 use Rattle.paper.specs.Writer.{concat, write-symbol}
 use Rattle.paper.specs.WellFormed.{GoodBook}
-use Rattle.tables.specs.Layout.{row, arity-in, row-in, first-in, next-in, left-in, right-in}
+use Rattle.tables.specs.Layout.{row, arity-in, row-in, first-in, next-in, day-in, left-in, right-in}
 
 -- THE BOOK
 
--- the book that some bytes are; what stands for a book that is refused is of no weight
-abbrev pub accepted-book : Result Book → Book
-accepted-book (refused k) = record { operators = []; rules = [] }
-accepted-book (accepted B) = B
+-- the book that some bytes are, in its form; what stands for a book that is refused is of no weight
+abbrev pub accepted-book : Result AnyBook → AnyBook
+accepted-book (refused k) = AnyBook.undated (record { operators = []; rules = [] })
+accepted-book (accepted A) = A
 
-abbrev pub book-of : List ℕ → Book
-book-of bytes = accepted-book (readBook bytes)
+abbrev pub any-book : List ℕ → AnyBook
+any-book bytes = accepted-book (readAny bytes)
+
+-- and on the day that the rules' table is of: this is the book that a run goes by
+abbrev pub book-of : List ℕ → List ℕ → Book
+book-of bytes rules = on-day (day-in rules) (any-book bytes)
 
 -- OPERATORS
 
@@ -54,6 +58,11 @@ ruleAt rs i = getD rs i (record { left = node (Symbol.operator 0) nil; right = n
 pub record Sides (bytes : List ℕ) (rs : List Rule) (rules : List ℕ) : Type 0 where
   pub each : (i : ℕ) → i < length rs → RuleIn bytes (ruleAt rs i) (left-in rules i) (right-in rules i)
   pub long : length rules ≡ 1024
+
+-- the table says where the sides of the rules stand, and no rule is linked yet
+pub record Unlinked (bytes : List ℕ) (rs : List Rule) (rules : List ℕ) : Type 0 where
+  pub sides : Sides bytes rs rules
+  pub none : (o : ℕ) → o < 256 → first-in rules o ≡ 0
 
 -- no number from a up to b has the property P
 abbrev pub NoneOf : (ℕ → Type 0) → ℕ → ℕ → Type 0
@@ -88,7 +97,7 @@ pub record Tables (bytes operators rules : List ℕ) (B : Book) : Type 0 where
   pub rules-in : Rules bytes (B .rules) rules
   pub good : GoodBook B
 
--- the bytes are a book, and these are its tables
+-- the bytes are a book, and these are its tables on the day that they name
 pub record TablesOf (bytes operators rules : List ℕ) : Type 0 where
-  pub read : readBook bytes ≡ accepted (book-of bytes)
-  pub tables : Tables bytes operators rules (book-of bytes)
+  pub read : readAny bytes ≡ accepted (any-book bytes)
+  pub tables : Tables bytes operators rules (book-of bytes rules)

@@ -109,6 +109,13 @@ pub fn next_rule(rules: &[u32; 1024], i: usize) -> usize
     casts::position(rules[256 + i] % 256)
 }
 
+// The day whose rules these are.
+pub fn put_day(rules: &mut [u32; 1024], day: u16)
+    ensures { λ _. ⌜ now (rules .exit) ≡ L.with-day (now (rules .entry)) day ⌝ }
+{
+    rules[511] = casts::word(casts::offset(day));
+}
+
 // The bit positions of the sides of rule i.
 pub fn left_side(rules: &[u32; 1024], i: usize) -> usize
     requires { ⌜ i < 256 ⌝ }

@@ -66,7 +66,7 @@ fn choose(
     l: Limits,
 ) -> Choice
     requires { ⌜ Present (now book) (now operators) (now rules) (now symbols) (p .length) a × (length (now scratch) ≡ 1024) ⌝ }
-    ensures { λ r. ⌜ W.Chosen (book-of (now (book .entry))) a p l (take (p .length) (now (symbols .entry))) (now (scratch .exit)) r ⌝ }
+    ensures { λ r. ⌜ W.Chosen (book-of (now (book .entry)) (now (rules .entry))) a p l (take (p .length) (now (symbols .entry))) (now (scratch .exit)) r ⌝ }
 {
     let len = p.length;
     let mut bound = [0; 32];
@@ -139,7 +139,7 @@ pub fn rewrite(
     ghost { S.Arrays }
     requires { λ s. ⌜ S.arrays (now symbols) (now work) (now units) ≡ s ⌝ }
     requires { λ s. ⌜ Present (now book) (now operators) (now rules) (s .symbols) (p .length) (place .offset) × (length (now scratch) ≡ 1024) × W.Units-due (s .store) (l .units) place (p .length) ⌝ }
-    ensures { λ s r. ⌜ W.Carried-out (book-of (now (book .entry))) place p l s (S.arrays (now (symbols .exit)) (now (work .exit)) (s .store .cells)) r × (length (now (scratch .exit)) ≡ 1024) ⌝ }
+    ensures { λ s r. ⌜ W.Carried-out (book-of (now (book .entry)) (now (rules .entry))) place p l s (S.arrays (now (symbols .exit)) (now (work .exit)) (s .store .cells)) r × (length (now (scratch .exit)) ≡ 1024) ⌝ }
 {
     match choose(book, operators, rules, symbols, scratch, place.offset, p, l) {
         Choice::Missed => Whole::Missed,

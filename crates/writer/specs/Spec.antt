@@ -1,4 +1,5 @@
--- What the writer answers, and the output behind it (document 01, 'What is checked where', 'Book writer'). Assumes nothing.
+-- What the writer answers, and the output behind it (document 01, 'What is checked where', 'Book writer'; document 02, Change 5: "The
+-- writer keeps the form it read, days included"). Assumes nothing.
 use mathlib.Core.List.{List, _++_}
 use mathlib.Core.Path.{_≡_}
 use Prim.Native.Nat.{ℕ}

@@ -1,4 +1,5 @@
-// The book's writer (document 01, 'The program and its page'; refusals 1 to 9 but 6, and 16): operators with their settled lists, rules as they stand.
+// The book's writer (document 01, 'The program and its page'; refusals 1 to 9 but 6, and 16): operators with their settled lists, rules as they stand. The
+// form is kept, days included (document 02, Change 5).
 use bits::Bits;
 use book::Book;
 use side::Rule;
@@ -11,7 +12,8 @@ ghost use Rattle.paper.specs.Writer.{concat, same, numbers};
 ghost use Rattle.paper.specs.Strategy.{default};
 ghost use Rattle.side.specs.Contracts.{bitsAt};
 ghost use Rattle.writer.specs.Spec.{Answers};
-ghost use Rattle.writer.specs.Contracts.{BitsPut, list-bits, OperatorWritten, OperatorsWritten, RulesEnd, RulesWritten, AcceptedBook, BookWritten};
+ghost use Rattle.writer.specs.Contracts.{BitsPut, list-bits, OperatorWritten, OperatorsWritten, FormIs, RulesEnd, RulesWritten};
+ghost use Rattle.writer.specs.Contracts.{AcceptedBook, BookWritten};
 
 // How many bytes are written, or a refusal.
 pub enum Written {
@@ -23,6 +25,12 @@ pub enum Written {
 struct Places {
     from: usize,
     to: usize,
+}
+
+// Where a book's count stands in its bits, and how many bits of a day stand before each of its rules.
+struct Form {
+    count: usize,
+    day: usize,
 }
 
 // The 4 low bits: all of an item's.
@@ -145,15 +153,35 @@ fn write_operators(book: &[u8], at: usize, n: usize, out: &mut [u8], to: usize) 
     Places { from: p, to: q }
 }
 
-// The position behind the m rules from position at on.
-fn rules_end(book: &[u8], at: usize, n: usize, operators: &[u8; 4352], m: usize) -> usize
-    requires { ⌜ length (now book) ≤ 65536 ⌝ }
-    ensures { λ r. ⌜ RulesEnd (now (book .entry)) at n (now (operators .entry)) m r ⌝ }
+// The form of a book: a dated one has a byte 0 before its count.
+fn form_of(book: &[u8]) -> Form
+    ensures { λ r. ⌜ FormIs (now (book .entry)) r ⌝ }
+{
+    if book::is_dated(book) {
+        return Form { count: 8, day: 16 };
+    }
+    Form { count: 0, day: 0 }
+}
+
+// The position behind the m rules from position at on, each with a day of so many bits before it.
+fn rules_end(
+    book: &[u8],
+    at: usize,
+    day: usize,
+    n: usize,
+    operators: &[u8; 4352],
+    m: usize,
+) -> usize
+    requires { ⌜ (length (now book) ≤ 65536) × (day ≤ 16) ⌝ }
+    ensures { λ r. ⌜ RulesEnd (now (book .entry)) at day n (now (operators .entry)) m r ⌝ }
 {
     let mut p = at;
     let mut i = 0;
     while i < m {
-        let Rule::Read(rule) = side::read_rule(book, p, n, operators) else {
+        let Bits::Value(_, left) = reader::field(book, p, day) else {
+            return p;
+        };
+        let Rule::Read(rule) = side::read_rule(book, left, n, operators) else {
             return p;
         };
         p = rule.next;
@@ -182,22 +210,23 @@ fn copy(book: &[u8], from: usize, k: usize, out: &mut [u8], to: usize) -> usize
     q
 }
 
-// Writes the rules that are read at position at: their count and their sides, as they stand.
+// Writes the rules that are read at position at: their count, and their days and sides, as they stand.
 fn write_rules(
     book: &[u8],
     at: usize,
+    day: usize,
     n: usize,
     operators: &[u8; 4352],
     out: &mut [u8],
     to: usize,
 ) -> usize
-    requires { ⌜ (length (now book) ≤ 65536) × (to ≤ 2 ^ 37) ⌝ }
-    ensures { λ r. ⌜ RulesWritten (now (book .entry)) at n (now (operators .entry)) to (now (out .entry)) (now (out .exit)) r × (r ≤ to + 524288) ⌝ }
+    requires { ⌜ (length (now book) ≤ 65536) × (day ≤ 16) × (to ≤ 2 ^ 37) ⌝ }
+    ensures { λ r. ⌜ RulesWritten (now (book .entry)) at day n (now (operators .entry)) to (now (out .entry)) (now (out .exit)) r × (r ≤ to + 524288) ⌝ }
 {
     let Bits::Value(m, p) = reader::field(book, at, 8) else {
         return to;
     };
-    let end = rules_end(book, p, n, operators, casts::offset(m));
+    let end = rules_end(book, p, day, n, operators, casts::offset(m));
     let k = less(bits::left(book, at), bits::left(book, end));
     copy(book, at, k, out, to)
 }
@@ -207,11 +236,15 @@ fn write_accepted(book: &[u8], n: usize, operators: &[u8; 4352], out: &mut [u8])
     requires { ⌜ (length (now book) ≤ 65536) × AcceptedBook (now book) n (now operators) ⌝ }
     ensures { λ r. ⌜ BookWritten (now (book .entry)) (now (out .entry)) (now (out .exit)) r ⌝ }
 {
-    let at = emit(out, 0, 8, casts::short(n));
-    let places = write_operators(book, 8, n, out, at);
+    let form = form_of(book);
+    let count = form.count;
+    let day = form.day;
+    let start = emit(out, 0, count, 0);
+    let at = emit(out, start, 8, casts::short(n));
+    let places = write_operators(book, count + 8, n, out, at);
     let from = places.from;
     let to = places.to;
-    let end = write_rules(book, from, n, operators, out, to);
+    let end = write_rules(book, from, day, n, operators, out, to);
     let all = emit(out, end, (8 - end % 8) % 8, 0);
     all / 8
 }
@@ -235,7 +268,7 @@ fn write_fitting(
     Written::Length(length)
 }
 
-// A book of at most 65,536 bytes.
+// A book of at most 65,536 bytes. No rule is asked for, so any day will do.
 fn write_short(book: &[u8], output: &mut [u8]) -> Written
     requires { ⌜ length (now book) ≤ 65536 ⌝ }
     ensures { λ r. ⌜ Answers (now (book .entry)) (now (output .entry)) (now (output .exit)) r ⌝ }
@@ -243,7 +276,7 @@ fn write_short(book: &[u8], output: &mut [u8]) -> Written
     let mut operators = [0u8; 4352];
     let mut rules = [0u32; 1024];
     let mut nowhere = [0u8; 1];
-    match book::read_book(book, &mut operators, &mut rules) {
+    match book::read_book(book, 0, &mut operators, &mut rules) {
         Book::Refused(k) => Written::Refused(k),
         Book::Read(n) => write_fitting(book, n, &operators, &mut nowhere, output),
     }

@@ -23,28 +23,28 @@ static void due(const char *what, uint8_t expected, uint8_t told) {
 
 static void lines(void) {
     due("no book", KURVNEIST_BOOK_RUNS_OUT,
-        kurvneist_reduce(NULL, 0, line, sizeof line, 1, 9, NULL, 0, work, sizeof work, output, sizeof output, answer));
+        kurvneist_reduce(NULL, 0, line, sizeof line, 1, 9, 0, NULL, 0, work, sizeof work, output, sizeof output, answer));
     due("no line", KURVNEIST_LINE_IS_NO_TERM,
-        kurvneist_reduce(constant, sizeof constant, NULL, 0, 1, 9, NULL, 0, work, sizeof work, output, sizeof output, answer));
+        kurvneist_reduce(constant, sizeof constant, NULL, 0, 1, 9, 0, NULL, 0, work, sizeof work, output, sizeof output, answer));
     due("no work area", KURVNEIST_WORK_TOO_SHORT,
-        kurvneist_reduce(constant, sizeof constant, line, sizeof line, 1, 9, NULL, 0, NULL, 0, output, sizeof output, answer));
+        kurvneist_reduce(constant, sizeof constant, line, sizeof line, 1, 9, 0, NULL, 0, NULL, 0, output, sizeof output, answer));
     due("no output", KURVNEIST_OUTPUT_TOO_SHORT,
-        kurvneist_reduce(constant, sizeof constant, line, sizeof line, 1, 9, NULL, 0, work, sizeof work, NULL, 0, answer));
-    due("nothing", KURVNEIST_BAD_UNITS, kurvneist_reduce(NULL, 0, NULL, 0, 0, 0, NULL, 0, NULL, 0, NULL, 0, answer));
+        kurvneist_reduce(constant, sizeof constant, line, sizeof line, 1, 9, 0, NULL, 0, work, sizeof work, NULL, 0, answer));
+    due("nothing", KURVNEIST_BAD_UNITS, kurvneist_reduce(NULL, 0, NULL, 0, 0, 0, 0, NULL, 0, NULL, 0, NULL, 0, answer));
     due("no schedule", KURVNEIST_ACCEPTED,
-        kurvneist_reduce(constant, sizeof constant, line, sizeof line, 1, 9, NULL, 0, work, sizeof work, output, sizeof output,
+        kurvneist_reduce(constant, sizeof constant, line, sizeof line, 1, 9, 0, NULL, 0, work, sizeof work, output, sizeof output,
                          answer));
     due("the ending without a schedule", KURVNEIST_CUT, (uint8_t)answer[KURVNEIST_ENDING]);
 }
 
 static void texts(void) {
     due("a text without a book", KURVNEIST_BOOK_RUNS_OUT,
-        kurvneist_payee(NULL, 0, NULL, 0, 1, 9, NULL, 0, work, sizeof work, output, sizeof output, answer));
+        kurvneist_payee(NULL, 0, NULL, 0, 1, 9, 0, NULL, 0, work, sizeof work, output, sizeof output, answer));
     due("no text, no letters", KURVNEIST_NO_LETTERS,
-        kurvneist_payee(constant, sizeof constant, NULL, 0, 1, 9, NULL, 0, work, sizeof work, output, sizeof output, answer));
+        kurvneist_payee(constant, sizeof constant, NULL, 0, 1, 9, 0, NULL, 0, work, sizeof work, output, sizeof output, answer));
     output[0] = 7;
     due("no text", KURVNEIST_ACCEPTED,
-        kurvneist_payee(letters, sizeof letters, NULL, 0, 1, 9, NULL, 0, work, sizeof work, output, sizeof output, answer));
+        kurvneist_payee(letters, sizeof letters, NULL, 0, 1, 9, 0, NULL, 0, work, sizeof work, output, sizeof output, answer));
     due("the symbols of no text", 1, (uint8_t)answer[KURVNEIST_LENGTH]);
     due("the term of no text", 0, output[0]);
 }

@@ -25,20 +25,25 @@ pub type Rule<'a> = (&'a [Symbol], &'a [Symbol]);
 
 pub fn book(operators: &[Operator], rules: &[Rule]) -> Vec<u8> {
     let mut bits = Bits::default();
-    bits.put(operators.len() as u8, 8);
-    for (arity, list) in operators {
-        bits.put(*arity, 3);
-        bits.put(list.is_some().into(), 1);
-        if let Some(items) = list {
-            bits.put(items.len() as u8, 5);
-            items.iter().for_each(|item| bits.put(*item, 4));
-        }
-    }
+    bits.operators(operators);
     bits.put(rules.len() as u8, 8);
-    for (left, right) in rules {
-        left.iter()
-            .chain(*right)
-            .for_each(|symbol| bits.symbol(*symbol));
+    for rule in rules {
+        bits.rule(rule);
+    }
+    bits.bytes
+}
+
+/// Rules with a day before each.
+pub fn dated_book(operators: &[Operator], rules: &[(u16, Rule)]) -> Vec<u8> {
+    let mut bits = Bits::default();
+    bits.put(0, 8);
+    bits.operators(operators);
+    bits.put(rules.len() as u8, 8);
+    for (day, rule) in rules {
+        for byte in day.to_be_bytes() {
+            bits.put(byte, 8);
+        }
+        bits.rule(rule);
     }
     bits.bytes
 }
@@ -59,6 +64,24 @@ impl Bits {
             self.bytes[self.used / 8] |= (value >> place & 1) << (7 - self.used % 8);
             self.used += 1;
         }
+    }
+
+    fn operators(&mut self, operators: &[Operator]) {
+        self.put(operators.len() as u8, 8);
+        for (arity, list) in operators {
+            self.put(*arity, 3);
+            self.put(list.is_some().into(), 1);
+            if let Some(items) = list {
+                self.put(items.len() as u8, 5);
+                items.iter().for_each(|item| self.put(*item, 4));
+            }
+        }
+    }
+
+    fn rule(&mut self, (left, right): &Rule) {
+        left.iter()
+            .chain(*right)
+            .for_each(|symbol| self.symbol(*symbol));
     }
 
     fn symbol(&mut self, symbol: Symbol) {

@@ -2,7 +2,7 @@
 
 use crate::cli::commands::usage;
 use crate::cli::options::Parsed;
-use crate::cli::{files, Status, Stop};
+use crate::cli::{files, say, Status, Stop};
 use crate::json::Json;
 use crate::mistake::Mistake;
 use crate::warnings::{self, Kind, Warning};
@@ -19,7 +19,11 @@ pub fn check(parsed: &Parsed) -> Result<Status, Stop> {
         Err(mistakes) if parsed.has("--json") => return mistaken(name, &source, &mistakes),
         Err(mistakes) => return Err(files::mistaken(text_name, &source, &mistakes)),
     };
-    let mut found = warnings::of(&source, &named);
+    let day = parsed.day().map_err(usage)?;
+    if day.is_some() && named.days.is_none() {
+        say(files::DAY_IGNORED);
+    }
+    let mut found = warnings::of(&source, &named, day);
     found.retain(|warning| !allowed.contains(&warning.kind));
     let report = match parsed.has("--json") {
         true => object(name, &source, &found, strict),

@@ -45,8 +45,12 @@ pub fn book(parsed: &Parsed) -> Result<Status, Stop> {
 fn contents(name: &Path, named: &Named) -> String {
     let name = name.display();
     let read = model::read_book(&named.book).expect("what the proved writer wrote can be read");
+    let dated = match &named.days {
+        Some(days) => format!(", dated{}", files::span_of(days)),
+        None => String::new(),
+    };
     format!(
-        "{name}: {}, {}, {} packed\n",
+        "{name}: {}, {}, {} packed{dated}\n",
         counted(read.operators.len() as u64, "operator", "operators"),
         counted(read.rules.len() as u64, "rule", "rules"),
         counted(named.book.len() as u64, "byte", "bytes")
@@ -78,7 +82,7 @@ pub fn form(parsed: &Parsed) -> Form {
     }
 }
 
-/// The book, line, units, budget and schedule that a command line says.
+/// The book, line, units, budget, day and schedule that a command line says.
 pub struct Asked {
     pub named: Named,
     pub form: Form,
@@ -86,6 +90,7 @@ pub struct Asked {
     line: Vec<u8>,
     units: u8,
     budget: u32,
+    day: u16,
 }
 
 impl Asked {
@@ -94,6 +99,7 @@ impl Asked {
         let budget = parsed.number("--budget", 0, 1_000_000).map_err(usage)?;
         let schedules = files::schedules(parsed, units)?;
         let named = files::named(parsed, "--encoding")?;
+        let day = files::day(parsed, &named)?;
         let written = files::line(&parsed.arguments[1]).map_err(|stop| {
             let outcome = Outcome::Mistyped(Reason::whole(stop.message.clone()));
             not_posted(parsed, &outcome, stop.message)
@@ -114,6 +120,7 @@ impl Asked {
             line,
             units,
             budget,
+            day,
             schedules,
         })
     }
@@ -123,6 +130,7 @@ impl Asked {
         Request::new(&self.named.book, &self.line)
             .units(self.units)
             .budget(self.budget)
+            .day(self.day)
             .schedule(schedule)
     }
 
@@ -263,13 +271,17 @@ pub fn batch(parsed: &Parsed) -> Result<Status, Stop> {
     let schedules = files::schedules(parsed, units)?;
     profile_apart(parsed)?;
     let named = files::named(parsed, "--book-encoding")?;
+    let day = files::day(parsed, &named)?;
     reading::check_template(parsed, &reading, &named.names)?;
     let name = &parsed.arguments[1];
     let (mut input, length) = files::input(name)?;
-    let profile = parsed.has("--profile").then(|| Profile::new(&named.book));
+    let profile = parsed
+        .has("--profile")
+        .then(|| Profile::new(&named.book, day));
     let settings = batch::Settings {
         named: &named,
         budget,
+        day,
         schedules: &schedules,
         counts: parsed.has("--counts"),
         reading: &reading,

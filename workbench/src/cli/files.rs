@@ -10,8 +10,9 @@ use comparison::model::{self, Book};
 
 use crate::cli::commands::usage;
 use crate::cli::options::Parsed;
-use crate::cli::{Status, Stop};
+use crate::cli::{say, Status, Stop};
 use crate::compose::composed;
+use crate::day;
 use crate::encoding::{BadByte, Encoding};
 use crate::mistake::{Mistake, Span};
 use crate::names::Names;
@@ -19,6 +20,9 @@ use crate::output::Output;
 use crate::posting::Schedules;
 use crate::schedule::{self, Wrong};
 use crate::text::check::{self, Named};
+
+/// Where an undated book is given a day.
+pub const DAY_IGNORED: &str = "the book is undated: --day is ignored";
 
 /// Of many mistakes in a text, so many are shown.
 const SHOWN: usize = 20;
@@ -188,12 +192,42 @@ pub fn named_packed(
             names
         }
     };
-    let rule_lines = Vec::new();
     Ok(Named {
         book,
         names,
-        rule_lines,
+        rule_lines: Vec::new(),
+        days: read.days,
     })
+}
+
+/// The day of the runs by a book, as a command line says it. A dated book has
+/// no day of its own, and today's would make postings depend on the clock.
+pub fn day(parsed: &Parsed, named: &Named) -> Result<u16, Stop> {
+    let given = parsed.day().map_err(usage)?;
+    match (given, &named.days) {
+        (Some(day), Some(_)) => Ok(day),
+        (Some(day), None) => {
+            say(DAY_IGNORED);
+            Ok(day)
+        }
+        (None, None) => Ok(0),
+        (None, Some(days)) => Err(usage(format!(
+            "the book is dated{}; expected --day with {}",
+            span_of(days),
+            day::EXPECTED
+        ))),
+    }
+}
+
+/// `, 2024-01-01 to 2026-07-01`; nothing for a book without rules.
+pub fn span_of(days: &[u16]) -> String {
+    match (days.iter().min(), days.iter().max()) {
+        (Some(first), Some(last)) if first < last => {
+            format!(", {} to {}", day::date(*first), day::date(*last))
+        }
+        (Some(only), _) => format!(", {}", day::date(*only)),
+        _ => String::new(),
+    }
 }
 
 /// The BOOK of a command that reduces, and the option with its encoding.

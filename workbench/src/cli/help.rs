@@ -25,6 +25,7 @@ The text form of a book
             | 'op' 'letters'
             | 'var' name { name }
             | 'rule' term '=' term
+            | 'from' day
   operator  = name | '\"' character '\"'
   strategy  = '(' { item | '{' { item } '}' } ')'
   term      = name [ ':' number ] | name '(' term { ',' term } ')'
@@ -56,9 +57,15 @@ The text form of a book
             1 to 64 symbols. A rule has at most 16 variables. One that stands
             again on the left matches equal parts only. They are numbered as
             they come there, and X:5 on the left gives X the number 5.
+  from      the day of the rules behind it, up to the next from; days may come
+            again and in any order. Then the book is dated, and every rule has
+            a from before it. A day is a date, as 2026-07-01, or a number: by
+            this workbench's convention day 0 is 1970-01-01, and 65535, the
+            last, is 2149-06-06. The engine knows numbers only.
   name      letters and digits of any script, and _ ' - . & + in any order, as
             in Müller, 24, rent-2.OG; but not op, var or rule. A name is
-            declared once, before or after its uses.
+            declared once, before or after its uses. from is one where no day
+            follows it.
   string    \"abc\"(t) is a(b(c(t))), and \"abc\" alone is a(b(c(end))). A space
             in it is the operator _, and a quote is doubled: \"24\"\" pipe\". A
             character that no name may have is declared in quotes, with arity
@@ -69,6 +76,17 @@ The text form of a book
   character that both are, and columns count it once. Lines may end in CR LF.
 
   A line is a term without variables or, with --payee, a payee's text.
+
+Dated books
+
+  A run by a dated book is on a day, --day, and only the rules that stand on it
+  are tried. Rules of later days don't stand. Of rules whose left sides are the
+  same up to the variables' names, the one of the latest day stands, and of those
+  of that day the last in the book: a rule with a new day replaces the old one,
+  which is kept for lines of days before. Rules that stand are tried in the order
+  of the book, each at its own place, whatever their days: one for special terms
+  comes before one for any. A dated book without --day is not run: postings don't
+  depend on the clock. An undated book ignores --day and says so.
 
 Payees' texts
 
@@ -101,6 +119,8 @@ A warning has the form of a mistake, with line and column. Its kinds:
   rewritten-before  a part of the left side, which the strategy visits before 0,
                     is such that a rule always rewrites it: what is left to be
                     matched never has that part
+  replaced          in a dated book, a rule of the same day behind it has this
+                    left side, up to variables' names: it stands on no day
   same-sides        the right side is the left side
   unused-operator   no rule names it; lines may, so this one is a guess. Those of
                     op letters are left out
@@ -108,6 +128,8 @@ A warning has the form of a mistake, with line and column. Its kinds:
   skipped-argument  a strategy leaves out an argument, which then stays as it is
 What is not called a guess is so for every line. Whether several rules together
 match all that a later one does is not told where it takes too long to find out.
+Of a dated book, what is told of rules is so on every day on which they stand, or
+with --day on that day, for the rules that stand on it.
 
 With --json, one object:
   book         the text's name
@@ -126,17 +148,20 @@ rewritten part in brackets. The place is the arguments to follow from the root:
 come from a plain model; after every rewrite, or after 256 of those of a long
 run, its term and counts are compared with what the proved engine answers for the
 schedule cut there. Without --schedule, of a run of over 262144 entries the first
-32768 are explained.
+32768 are explained. For a dated book, the rules that stand on the day are named,
+and of each rule the day from which it holds.
 
 With --json, one object: line, steps, and the fields of post. Each step has
-  step, rule, rule_line  numbers from 1; rule_line is null for a packed book
+  step, rule, rule_line  numbers from 1; rule_line is null for a packed book.
+                         In a dated book, rule_day is the rule's day
   position               a list of arguments' numbers
   sides                  the rule by names
   entry, unit            which entry of the schedule, and its unit
   substitution           a list of objects with variable and term
   part, becomes          the rewritten part before and after
   before, after          the whole term before and after
-With --rules-only it ends with position. Where the budget or the room ended the
+For a dated book the object has day, a number, date, and standing, a list of the
+rules that stand on it. With --rules-only a step ends with position. Where the budget or the room ended the
 run, stopped has the rule and rule_line that would have come next.
 ";
 
@@ -212,8 +237,9 @@ has field, the column's name, if one is to blame, and column counts its characte
 
 The profile has a row for each rule, the most used first: its rewrites, the lines
 in which it rewrote, and the rule. With --json it is an object with rules, a list
-of objects with rule, rule_line, sides, rewrites and lines. The engine counts no
-rules, so each run is made again by the plain model and compared at its end.
+of objects with rule, rule_line, in a dated book rule_day, sides, rewrites and
+lines. The engine counts no rules, so each run is made again by the plain model
+and compared at its end.
 ";
 
 pub fn general() -> String {

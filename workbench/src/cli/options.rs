@@ -5,6 +5,7 @@ use std::collections::HashMap;
 use std::ffi::{OsStr, OsString};
 use std::os::unix::ffi::OsStrExt;
 
+use crate::day;
 use crate::encoding::Encoding;
 use crate::names::nearest;
 
@@ -36,6 +37,11 @@ const fn flag(name: &'static str, value: Option<&'static str>, help: &'static st
     Flag { name, value, help }
 }
 
+const DAY: Flag = flag(
+    "--day",
+    Some("DAY"),
+    "the day of the run, as 2026-07-01 or 20635; for a dated book",
+);
 const PACKED: Flag = flag("--packed", None, "BOOK is a packed book and not a text");
 const NAMES: Flag = flag(
     "--names",
@@ -120,6 +126,11 @@ pub const COMMANDS: &[Command] = &[
                 Some("KIND,.."),
                 "leave out warnings of these kinds",
             ),
+            flag(
+                "--day",
+                Some("DAY"),
+                "of a dated book, look at the rules that stand on this day",
+            ),
             JSON,
             ENCODING,
         ],
@@ -130,7 +141,7 @@ pub const COMMANDS: &[Command] = &[
         about: "reduce one line and show its posting",
         arguments: &[BOOK, LINE],
         flags: &[
-            PAYEE, JSON, UNITS, BUDGET, SCHEDULE, PACKED, NAMES, ENCODING,
+            PAYEE, DAY, JSON, UNITS, BUDGET, SCHEDULE, PACKED, NAMES, ENCODING,
         ],
         more: super::help::POST,
     },
@@ -140,6 +151,7 @@ pub const COMMANDS: &[Command] = &[
         arguments: &[BOOK, LINE],
         flags: &[
             PAYEE,
+            DAY,
             RULES_ONLY,
             JSON,
             flag(
@@ -163,6 +175,7 @@ pub const COMMANDS: &[Command] = &[
         arguments: &[BOOK, LINE],
         flags: &[
             PAYEE,
+            DAY,
             flag(
                 "--svg",
                 Some("FILE"),
@@ -210,6 +223,7 @@ pub const COMMANDS: &[Command] = &[
                 None,
                 "each line is a payee's text, as it is typed, and no term",
             ),
+            DAY,
             OUTPUT,
             flag(
                 "--counts",
@@ -386,6 +400,16 @@ impl Parsed {
                 self.value("--units").unwrap_or_default()
             )),
         }
+    }
+
+    pub fn day(&self) -> Result<Option<u16>, String> {
+        let Some(written) = self.value("--day") else {
+            return Ok(None);
+        };
+        let read = day::read(written);
+        let expected = day::EXPECTED;
+        read.map(Some)
+            .map_err(|wrong| format!("--day {written}: {wrong}; expected {expected}"))
     }
 
     pub fn jobs(&self) -> Result<usize, String> {

@@ -22,6 +22,8 @@ pub struct Named {
     pub names: Names,
     /// The line of each rule in the text; none for a packed book.
     pub rule_lines: Vec<usize>,
+    /// The day of each rule, if the book is dated.
+    pub days: Option<Vec<u16>>,
 }
 
 /// Reads a text; answers the book, or all mistakes in the order of the text.
@@ -36,17 +38,25 @@ pub fn read(source: &str) -> Result<Named, Vec<Mistake>> {
             reader.declare_unclear(names);
         }
     }
+    let mut day = 0;
     for statement in &statements {
+        if let Statement::From(next) = statement {
+            day = *next;
+            reader.draft.dated = true;
+        }
         if let Statement::Rule { left, right, .. } = statement {
             let [left, right] = [left, right].map(|side| reader.with_letters(side));
             match sides::rule(&mut reader.meanings, &left, &right) {
                 Ok(rule) => {
                     reader.names.add_rule(variables(&left, &rule.left));
-                    reader.draft.rules.push(rule);
+                    reader.draft.rules.push(rule.on(day));
                 }
                 Err(mistake) => mistakes.push(mistake),
             }
         }
+    }
+    if mistakes.is_empty() {
+        mistakes.extend(without_day(&statements));
     }
     if reader.operators == 0 && mistakes.is_empty() {
         let start = Span::new(0, 0);
@@ -58,6 +68,23 @@ pub fn read(source: &str) -> Result<Named, Vec<Mistake>> {
     }
     mistakes.sort_by_key(|mistake| mistake.span.start);
     Err(mistakes)
+}
+
+/// The first rule that stands before any `from` of a dated book. It is not
+/// taken to be of day 0: rules replace each other in a dated book and not in an
+/// undated one, so who dates a book has to say it of all.
+fn without_day(statements: &[Statement]) -> Option<Mistake> {
+    let is_from = |statement: &Statement| matches!(statement, Statement::From(_));
+    let first = statements.iter().position(is_from)?;
+    let mut before = statements[..first].iter();
+    before.find_map(|statement| match statement {
+        Statement::Rule { keyword, .. } => {
+            let wrong = "this rule has no day, and others have";
+            let expected = "'from' and a day before it; 'from 0' if it holds ever since";
+            Some(Mistake::new(*keyword, wrong, expected))
+        }
+        _ => None,
+    })
 }
 
 /// What a left side calls its variables, by their numbers.
@@ -113,7 +140,7 @@ impl Reader {
                     mistakes.push(Mistake::new(*keyword, wrong, "at most 255 rules"));
                 }
             }
-            Statement::Unclear(_) => {}
+            Statement::From(_) | Statement::Unclear(_) => {}
         }
     }
 
@@ -211,11 +238,14 @@ impl Reader {
 
     fn packed(self, source: &str) -> Result<Named, Vec<Mistake>> {
         let line = |start: &usize| place_of(source, *start).0;
+        let days = self.draft.rules.iter().map(|rule| rule.day);
+        let days = self.draft.dated.then(|| days.collect());
         match kurvneist::written_book(&self.draft.encode()) {
             Ok(book) => Ok(Named {
                 book,
                 names: self.names,
                 rule_lines: self.rules.iter().map(line).collect(),
+                days,
             }),
             Err(refusal) => {
                 let wrong = format!("the book's reader refuses the book: {refusal}");

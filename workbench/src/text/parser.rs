@@ -1,7 +1,9 @@
 //! Tokens as statements. A statement with a mistake is told once, and reading
-//! goes on at the next word `op`, `var` or `rule`.
+//! goes on at the next word `op`, `var` or `rule`, or at a line that begins with
+//! `from` and a day.
 
 use crate::compose::is_loose_accent;
+use crate::day;
 use crate::letters;
 use crate::mistake::{place_from, Mistake, Span};
 use crate::names::nearest;
@@ -66,6 +68,8 @@ pub enum Statement {
         strategy: Option<Strategy>,
     },
     Variables(Vec<Name>),
+    /// `from DAY`: the day of the rules behind it.
+    From(u16),
     /// What a mistaken declaration may have meant to declare.
     Unclear(Vec<Name>),
     Rule {
@@ -167,9 +171,30 @@ impl<'s> Parser<'s> {
         while !matches!(
             self.peek().kind,
             Kind::Op | Kind::Var | Kind::Rule | Kind::End
-        ) {
+        ) && !self.day_follows(0)
+        {
             self.take();
         }
+    }
+
+    fn is_from(&self, token: Token) -> bool {
+        token.kind == Kind::Word && self.written(token.span) == FROM
+    }
+
+    /// Whether `from` and a day begin a line so many tokens ahead. Elsewhere
+    /// `from` may be a name.
+    fn day_follows(&self, ahead: usize) -> bool {
+        let [word, after] = [0, 1].map(|next| self.tokens.get(self.at + ahead + next));
+        let (Some(&word), Some(after)) = (word, after) else {
+            return false;
+        };
+        let before = (self.at + ahead).checked_sub(1);
+        let before = before.map_or(0, |before| self.tokens[before].span.end);
+        let is_first = before == 0 || self.source[before..word.span.start].contains('\n');
+        let digits = self
+            .written(after.span)
+            .starts_with(|one: char| one.is_ascii_digit());
+        is_first && self.is_from(word) && after.kind == Kind::Word && digits
     }
 
     /// All words and characters of the declaration that starts there and ends
@@ -200,39 +225,58 @@ impl<'s> Parser<'s> {
         let (statement, next) = match keyword.kind {
             Kind::Op if self.letters_follow() => {
                 self.take();
-                let next = "'op', 'var' or 'rule' after 'op letters'";
+                let next = "'op', 'var', 'rule' or 'from' after 'op letters'";
                 (Statement::Letters(self.take().span), next)
             }
             Kind::Op => {
                 self.take();
-                let next = "a strategy in parentheses, 'op', 'var' or 'rule'";
+                let next = "a strategy in parentheses, 'op', 'var', 'rule' or 'from'";
                 (self.operators()?, next)
             }
             Kind::Var => {
                 self.take();
                 let names = self.names("a variable's name")?;
-                let next = "another name, 'op', 'var' or 'rule'";
+                let next = "another name, 'op', 'var', 'rule' or 'from'";
                 (Statement::Variables(names), next)
             }
             Kind::Rule => {
                 self.take();
-                let next = "'op', 'var' or 'rule' after the rule";
+                let next = "'op', 'var', 'rule' or 'from' after the rule";
                 (self.rule(keyword.span)?, next)
             }
-            _ => return Err(self.unexpected("'op', 'var' or 'rule'")),
+            _ if self.is_from(keyword) => {
+                self.take();
+                let next = "'op', 'var', 'rule' or 'from' after the day";
+                (Statement::From(self.day()?), next)
+            }
+            _ => return Err(self.unexpected("'op', 'var', 'rule' or 'from'")),
         };
         match self.peek().kind {
             Kind::Op | Kind::Var | Kind::Rule | Kind::End => Ok(statement),
+            _ if self.is_from(self.peek()) => Ok(statement),
             _ => Err(self.unexpected(next)),
         }
+    }
+
+    fn day(&mut self) -> Result<u16, Mistake> {
+        let token = self.peek();
+        if token.kind != Kind::Word {
+            return Err(self.unexpected(day::EXPECTED));
+        }
+        let read = day::read(self.written(token.span));
+        let day = read.map_err(|wrong| Mistake::new(token.span, wrong, day::EXPECTED))?;
+        self.take();
+        Ok(day)
     }
 
     /// Before an arity or another name, `letters` is a name as any other.
     fn letters_follow(&self) -> bool {
         let [word, after] = [1, 2].map(|ahead| self.tokens.get(self.at + ahead));
         word.is_some_and(|word| self.written(word.span) == letters::KEYWORD)
-            && !after
-                .is_some_and(|after| matches!(after.kind, Kind::Word | Kind::String | Kind::Slash))
+            && (self.day_follows(2)
+                || !after.is_some_and(|after| {
+                    matches!(after.kind, Kind::Word | Kind::String | Kind::Slash)
+                }))
     }
 
     fn operators(&mut self) -> Result<Statement, Mistake> {
@@ -278,7 +322,7 @@ impl<'s> Parser<'s> {
 
     fn names(&mut self, what: &str) -> Result<Vec<Name>, Mistake> {
         let mut names = vec![self.name(what)?];
-        while self.peek().kind == Kind::Word {
+        while self.peek().kind == Kind::Word && !self.day_follows(0) {
             names.push(self.name(what)?);
         }
         Ok(names)
@@ -355,10 +399,11 @@ impl<'s> Parser<'s> {
 
     /// Whether a term or strategy can't go on here, whatever is still open.
     fn is_over(&self) -> bool {
-        matches!(
-            self.peek().kind,
-            Kind::Op | Kind::Var | Kind::Rule | Kind::Equals | Kind::End
-        )
+        self.day_follows(0)
+            || matches!(
+                self.peek().kind,
+                Kind::Op | Kind::Var | Kind::Rule | Kind::Equals | Kind::End
+            )
     }
 
     /// What was opened there and isn't closed before the term or strategy ends.
@@ -483,6 +528,9 @@ pub fn meant_letters(word: &str, span: Span) -> Vec<Name> {
         None => Vec::new(),
     }
 }
+
+/// Before a day.
+const FROM: &str = "from";
 
 const STRATEGY_ITEM: &str = "'0' for the whole term, an argument's number, '{', '}' or ')'";
 

@@ -8,6 +8,7 @@ use std::ops::Range;
 use comparison::draft::Symbol;
 use comparison::model::{default_strategy, item_numbers, Book, Item, Operator, Pattern, Rule};
 
+use crate::day;
 use crate::letters;
 use crate::names::Names;
 use crate::text::lexer::{escaped, is_name_character};
@@ -34,10 +35,24 @@ pub fn book(book: &Book, names: &Names) -> String {
         }
         text.push('\n');
     }
-    for rule in &book.rules {
+    if book.days.as_ref().is_some_and(Vec::is_empty) {
+        text.push_str(&format!("\n{}", from_line(0)));
+    }
+    let mut before = None;
+    for (place, rule) in book.rules.iter().enumerate() {
+        let day = book.days.as_ref().map(|days| days[place]);
+        if let Some(day) = day.filter(|_| day != before) {
+            text.push_str(&from_line(day));
+        }
+        before = day;
         text.push_str(&rule_line(rule, names, &prefix));
     }
     text
+}
+
+/// The day of the rules behind it, by date and number.
+fn from_line(day: u16) -> String {
+    format!("from {} # day {day}\n", day::date(day))
 }
 
 /// How many operators `op letters` declares, if it can: it gives no strategies.

@@ -33,7 +33,7 @@ pub fn rule(meanings: &mut Meanings, left: &Words, right: &Words) -> Result<Rule
         variables.on_left(place, word)
     })?;
     let right = side(meanings, right, &mut |_, word| variables.on_right(word))?;
-    Ok(RuleDraft { left, right })
+    Ok(RuleDraft::new(left, right))
 }
 
 /// Answers the number of a variable at a place of its side.

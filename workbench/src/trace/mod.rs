@@ -203,6 +203,7 @@ fn run_form_against(
 ) -> Result<Trace, Failure> {
     engine(request).map_err(Failure::Refused)?;
     let book = model::read_book(request.book).expect("the engine has read the book");
+    let book = book.on_day(request.day);
     let line = form
         .read(&book, request.line)
         .expect("the engine has read the line");
@@ -382,10 +383,11 @@ impl Watch {
     }
 }
 
+/// The rule that matches, by its number in the book, also where not all of the
+/// book's rules stand.
 pub(crate) fn rule_number(book: &Book, term: &Term, at: &[u8]) -> Option<usize> {
     let (found, _) = book.first_match(term.part(at)?)?;
-    let place = book.rules.iter().position(|rule| std::ptr::eq(rule, found));
-    place.map(|place| place + 1)
+    Some(found.place + 1)
 }
 
 fn count_of(order: &Order) -> usize {

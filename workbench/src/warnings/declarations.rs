@@ -29,7 +29,10 @@ pub fn warnings(statements: &[Statement], named: &Named, book: &Book) -> Vec<War
                 warnings.extend(unused.map(unused_variable));
             }
             // Texts use all letters.
-            Statement::Letters(_) | Statement::Rule { .. } | Statement::Unclear(_) => {}
+            Statement::Letters(_)
+            | Statement::Rule { .. }
+            | Statement::From(_)
+            | Statement::Unclear(_) => {}
         }
     }
     warnings

@@ -7,7 +7,7 @@ mod declarations;
 mod patterns;
 mod rules;
 
-use comparison::model;
+use comparison::model::{self, Book};
 
 use crate::json::{Fields, Json};
 use crate::mistake::{Mistake, Span};
@@ -24,6 +24,8 @@ pub enum Kind {
     NeverTried,
     /// A part of the left side is rewritten before the rule is tried.
     RewrittenBefore,
+    /// Another rule of its day, with the same left side, replaces it.
+    Replaced,
     SameSides,
     UnusedOperator,
     UnusedVariable,
@@ -31,11 +33,12 @@ pub enum Kind {
 }
 
 impl Kind {
-    pub const ALL: [Kind; 8] = [
+    pub const ALL: [Kind; 9] = [
         Kind::NeverFirst,
         Kind::EqualLeft,
         Kind::NeverTried,
         Kind::RewrittenBefore,
+        Kind::Replaced,
         Kind::SameSides,
         Kind::UnusedOperator,
         Kind::UnusedVariable,
@@ -48,6 +51,7 @@ impl Kind {
             Kind::EqualLeft => "equal-left",
             Kind::NeverTried => "never-tried",
             Kind::RewrittenBefore => "rewritten-before",
+            Kind::Replaced => "replaced",
             Kind::SameSides => "same-sides",
             Kind::UnusedOperator => "unused-operator",
             Kind::UnusedVariable => "unused-variable",
@@ -125,14 +129,57 @@ fn place_and_message(mistake: &Mistake, source: &str) -> Fields {
 }
 
 /// The warnings on a book and the text that it was read from, in the order of
-/// the text.
-pub fn of(source: &str, named: &Named) -> Vec<Warning> {
+/// the text. Those on rules of a dated book are so on the given day, or on every
+/// day.
+pub fn of(source: &str, named: &Named, day: Option<u16>) -> Vec<Warning> {
     let (statements, _) = parse(source);
     let book = model::read_book(&named.book).expect("what the proved writer wrote can be read");
-    let mut warnings = rules::warnings(source, &statements, named, &book);
+    let on = |day| rules::warnings(source, &statements, named, &book.on_day(day));
+    let rules = match (&named.days, day) {
+        (None, _) => on(0),
+        (Some(_), Some(day)) => on(day),
+        (Some(days), None) => {
+            let mut rules = on_every_day(&book, days, on);
+            rules.extend(rules::replaced(source, &statements, named, &book, days));
+            rules
+        }
+    };
+    let mut warnings: Vec<Warning> = rules.into_iter().map(|(_, warning)| warning).collect();
     warnings.extend(declarations::warnings(&statements, named, &book));
     warnings.sort_by_key(|warning| warning.mistake.span.start);
     warnings
+}
+
+/// Of each kind and rule, what is so on every day on which the rule stands, as
+/// it is on the last of them. What stands changes on the rules' own days only.
+fn on_every_day(
+    book: &Book,
+    days: &[u16],
+    on: impl Fn(u16) -> Vec<(usize, Warning)>,
+) -> Vec<(usize, Warning)> {
+    let mut ways: Vec<u16> = days.to_vec();
+    ways.sort_unstable();
+    ways.dedup();
+    let looked: Vec<_> = ways
+        .iter()
+        .map(|&day| (book.on_day(day), on(day)))
+        .collect();
+    let is_never = |found: &[(usize, Warning)], rule: usize| {
+        let mut found = found.iter().filter(|(place, _)| *place == rule);
+        found.any(|(_, warning)| warning.kind != Kind::SameSides)
+    };
+    let mut kept = Vec::new();
+    for rule in 0..book.rules.len() {
+        let stands = |(of_day, _): &&(Book, _)| of_day.rules.iter().any(|one| one.place == rule);
+        let standing: Vec<_> = looked.iter().filter(stands).collect();
+        let always = standing.iter().all(|(_, found)| is_never(found, rule));
+        if let Some((_, last)) = standing.last() {
+            let last = last.iter().filter(|(place, _)| *place == rule);
+            let last = last.filter(|(_, warning)| always || warning.kind == Kind::SameSides);
+            kept.extend(last.cloned());
+        }
+    }
+    kept
 }
 
 /// Where a side stands, with its quotes and parentheses.

@@ -11,18 +11,17 @@ use crate::trace::text::rule_name;
 use crate::warnings::patterns::{cover_together, covers, rewritten_before};
 use crate::warnings::{side_span, Kind, Warning};
 
+/// On the rules that stand in the book, each with its place in the text's book.
 pub fn warnings(
     source: &str,
     statements: &[Statement],
     named: &Named,
     book: &Book,
-) -> Vec<Warning> {
-    let sides = statements.iter().filter_map(|statement| match statement {
-        Statement::Rule { left, right, .. } => Some((left, right)),
-        _ => None,
-    });
+) -> Vec<(usize, Warning)> {
+    let sides = sides(statements);
     let mut warnings = Vec::new();
-    for (number, (left, right)) in sides.enumerate() {
+    for (number, rule) in book.rules.iter().enumerate() {
+        let (left, right) = sides[rule.place];
         let look = Look {
             source,
             named,
@@ -30,13 +29,50 @@ pub fn warnings(
             number,
             left,
         };
-        warnings.extend(look.never_rewrites());
-        let rule = &book.rules[number];
+        let never = look.never_rewrites();
+        warnings.extend(never.map(|warning| (rule.place, warning)));
         if rule.left == rule.right {
             let expected = "another: once the rule rewrites, it does so until the budget is spent";
             let wrong = "the right side is the left side";
             let span = side_span(source, right);
-            warnings.push(Warning::new(Kind::SameSides, span, wrong, expected));
+            let warning = Warning::new(Kind::SameSides, span, wrong, expected);
+            warnings.push((rule.place, warning));
+        }
+    }
+    warnings
+}
+
+/// The sides of all rules of a text.
+fn sides(statements: &[Statement]) -> Vec<(&Words, &Words)> {
+    let sides = statements.iter().filter_map(|statement| match statement {
+        Statement::Rule { left, right, .. } => Some((left, right)),
+        _ => None,
+    });
+    sides.collect()
+}
+
+/// Rules of a dated book that stand on no day: another of their own day with
+/// the same left side comes behind them.
+pub fn replaced(
+    source: &str,
+    statements: &[Statement],
+    named: &Named,
+    book: &Book,
+    days: &[u16],
+) -> Vec<(usize, Warning)> {
+    let sides = sides(statements);
+    let mut warnings = Vec::new();
+    for (place, rule) in book.rules.iter().enumerate() {
+        let is_same = |other: &usize| {
+            days[*other] == days[place] && book.rules[*other].left.agrees(&rule.left)
+        };
+        if let Some(other) = (place + 1..book.rules.len()).rfind(is_same) {
+            let name = rule_name(other + 1, &named.rule_lines);
+            let wrong = format!("the left side is that of {name}, the last of this day");
+            let expected = "each left side once a day: this rule stands on no day";
+            let span = side_span(source, sides[place].0);
+            let warning = Warning::new(Kind::Replaced, span, wrong, expected);
+            warnings.push((place, warning));
         }
     }
     warnings
@@ -47,7 +83,7 @@ struct Look<'a> {
     source: &'a str,
     named: &'a Named,
     book: &'a Book,
-    /// Counted from 0.
+    /// Among the rules that stand, counted from 0.
     number: usize,
     left: &'a Words,
 }
@@ -63,6 +99,12 @@ impl Look<'_> {
 
     fn rule(&self) -> &Rule {
         &self.book.rules[self.number]
+    }
+
+    /// What a rule that stands, counted from 0, is called.
+    fn name(&self, number: usize) -> String {
+        let place = self.book.rules[number].place;
+        rule_name(place + 1, &self.named.rule_lines)
     }
 
     fn earlier(&self) -> &[Rule] {
@@ -91,7 +133,7 @@ impl Look<'_> {
         let (left, right) = in_order(self.rule());
         let mut earlier = self.earlier().iter().map(in_order);
         let other = earlier.position(|(other, _)| other == left)?;
-        let name = rule_name(other + 1, &self.named.rule_lines);
+        let name = self.name(other);
         let wrong = match in_order(&self.book.rules[other]).1 == right {
             true => format!("this is {name} again"),
             false => format!("the left side is that of {name}, which comes first"),
@@ -104,7 +146,7 @@ impl Look<'_> {
         let left = &self.rule().left;
         let earlier: Vec<&Pattern> = self.earlier().iter().map(|rule| &rule.left).collect();
         if let Some(other) = earlier.iter().position(|other| covers(other, left)) {
-            let name = rule_name(other + 1, &self.named.rule_lines);
+            let name = self.name(other);
             let wrong = format!("{name} comes first and matches all that this rule matches");
             return self.at_left(Kind::NeverFirst, wrong, "this rule before it");
         }
@@ -117,8 +159,8 @@ impl Look<'_> {
 
     fn rewritten_before(&self) -> Option<Warning> {
         let (place, part, rule) = rewritten_before(self.book, &self.rule().left)?;
-        let part = printer::pattern(self.number, part, &self.named.names);
-        let name = rule_name(rule + 1, &self.named.rule_lines);
+        let part = printer::pattern(self.rule().place, part, &self.named.names);
+        let name = self.name(rule);
         let wrong = format!("{name} rewrites the part {part} before this rule is tried");
         let expected = "the part as the other rules leave it: this rule never rewrites";
         let span = self.left[place].name.span;

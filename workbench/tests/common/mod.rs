@@ -56,17 +56,14 @@ pub fn largest_draft(random: &mut Random) -> Draft {
             strategy: long_strategy(random, (number % 8) as u8),
         })
         .collect();
-    let mut draft = Draft {
-        operators,
-        rules: Vec::new(),
-    };
+    let mut draft = Draft::new(operators, Vec::new());
     for _ in 0..255 {
         let mut variables: Vec<u8> = (0..16).collect();
         random.shuffle(&mut variables);
         let left = side(random, &draft, &variables);
         variables.reverse();
         let right = side(random, &draft, &variables);
-        draft.rules.push(RuleDraft { left, right });
+        draft.rules.push(RuleDraft::new(left, right));
     }
     draft
 }

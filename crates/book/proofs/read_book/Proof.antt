@@ -2,29 +2,34 @@
 use native.Mathlib.Omega.{arith}
 use borrow.Author.Needs.{needs}
 use Rattle.bits.proofs.Reading.{got, got-as, ran-out}
-use Rattle.book.proofs.Parts.{count-out, count-zero, operators-refused, tail-refuses, linkable, book-is}
+use Rattle.book.proofs.Parts.{count-out, count-zero, operators-refused, tail-refuses, all-read, book-is}
 use Rattle.book.proofs.read_book.Statement.{statement}
 use Rattle.book.proofs.read_book.Tie as tie
 
 returns : tie.Need-returns
-returns c = count-out (ran-out (c .before .before .field .ensures) (c .enum-told .given .1))
+returns c =
+    let f = c .before .before in
+    count-out _ (f .before .before .is-dated .ensures) (f .before .start .ensures) (ran-out (f .field .ensures) (c .enum-told .given .1))
 
 returns-2 : tie.Need-returns-2
 returns-2 c =
     let n = c .before in
     let k = n .before .before in
-    count-zero (got-as (got (k .before .before .field .ensures) (k .count .given .1)) (n .offset .ensures .0)) (c .if1 .taken)
+    let f = k .before .before in
+    count-zero _ (f .before .before .is-dated .ensures) (f .before .start .ensures)
+    (got-as (got (f .field .ensures) (k .count .given .1)) (n .offset .ensures .0)) (c .if1 .taken)
 
 read-operators-requires : tie.Need-read-operators-requires
 read-operators-requires c κs =
     let k = c .before .before .before .before in
     let f = k .before .before in
     let s = got (f .field .ensures) (k .count .given .1) .small in
-    (omega arith, omega arith, f .before .before .pre .1)
+    (omega arith, omega arith, f .before .before .before .before .pre .1)
 
-link-rules-requires : tie.Need-link-rules-requires
-link-rules-requires c κs =
-    let m = c .before .before in
+keep-standing-requires : tie.Need-keep-standing-requires
+keep-standing-requires c κs =
+    let d = c .before in
+    let m = d .before .before .before in
     let t = m .before .before in
     let p = t .before .before .before .before in
     let o = p .before .before in
@@ -32,10 +37,20 @@ link-rules-requires c κs =
     let n = i .before in
     let k = n .before .before in
     let f = k .before .before in (
-      f .before .before .pre .0,
-      linkable (got-as (got (f .field .ensures) (k .count .given .1)) (n .offset .ensures .0)) (i .if1 .left)
-          (rw (p .next .given .1) at (o .read-operators .ensures)) (rw (m .m .given .1) at (t .read-tail .ensures)),
+      f .before .before .before .before .pre .0,
+      all-read _ (f .before .before .is-dated .ensures) (f .before .start .ensures)
+          (got-as (got (f .field .ensures) (k .count .given .1)) (n .offset .ensures .0)) (i .if1 .left)
+          (rw (p .next .given .1) at (o .read-operators .ensures)) (rw (m .m .given .1) at (t .read-tail .ensures)) (d .put-day .ensures),
     )
+
+link-rules-requires : tie.Need-link-rules-requires
+link-rules-requires c κs =
+    let s = c .before in
+    let m = s .before .before .before .before .before in
+    let p = m .before .before .before .before .before .before in
+    let i = p .before .before .before .before in
+    let f = i .before .before .before .before .before in
+    (f .before .before .before .before .pre .0, s .keep-standing .ensures .linkable)
 
 returns-3 : tie.Need-returns-3
 returns-3 c =
@@ -43,8 +58,9 @@ returns-3 c =
     let i = o .before .before in
     let n = i .before in
     let k = n .before .before in
-    operators-refused (got-as (got (k .before .before .field .ensures) (k .count .given .1)) (n .offset .ensures .0)) (i .if1 .left)
-    (rw (c .before .e .given .1) at (o .read-operators .ensures))
+    let f = k .before .before in
+    operators-refused _ (f .before .before .is-dated .ensures) (f .before .start .ensures)
+    (got-as (got (f .field .ensures) (k .count .given .1)) (n .offset .ensures .0)) (i .if1 .left) (rw (c .before .e .given .1) at (o .read-operators .ensures))
 
 returns-4 : tie.Need-returns-4
 returns-4 c =
@@ -54,23 +70,30 @@ returns-4 c =
     let i = o .before .before in
     let n = i .before in
     let k = n .before .before in
-    tail-refuses (got-as (got (k .before .before .field .ensures) (k .count .given .1)) (n .offset .ensures .0)) (i .if1 .left)
+    let f = k .before .before in
+    tail-refuses _ (f .before .before .is-dated .ensures) (f .before .start .ensures)
+    (got-as (got (f .field .ensures) (k .count .given .1)) (n .offset .ensures .0)) (i .if1 .left)
     (rw (p .next .given .1) at (o .read-operators .ensures)) (rw (c .before .e2 .given .1) at (t .read-tail .ensures))
 
 returns-5 : tie.Need-returns-5
 returns-5 c =
-    let m = c .before .before .before in
+    let s = c .before .before in
+    let m = s .before .before .before .before .before in
     let t = m .before .before in
     let p = t .before .before .before .before in
     let o = p .before .before in
     let i = o .before .before in
     let n = i .before in
     let k = n .before .before in
-    book-is (got-as (got (k .before .before .field .ensures) (k .count .given .1)) (n .offset .ensures .0)) (i .if1 .left)
-    (rw (p .next .given .1) at (o .read-operators .ensures)) (rw (m .m .given .1) at (t .read-tail .ensures)) (c .link-rules .ensures)
+    let f = k .before .before in
+    book-is _ (f .before .before .is-dated .ensures) (f .before .start .ensures)
+    (got-as (got (f .field .ensures) (k .count .given .1)) (n .offset .ensures .0)) (i .if1 .left)
+    (rw (p .next .given .1) at (o .read-operators .ensures)) (rw (m .m .given .1) at (t .read-tail .ensures)) (s .keep-standing .ensures)
+    (c .link-rules .ensures)
 
 pub read-book-spec : {M : Type 1} → statement M
 read-book-spec =
     tie.close
-    (tie.spec (λ c κs. search needs) (λ c. search needs) (λ c. search needs) returns (λ c κs. search needs) returns-2 read-operators-requires
-    (λ c. search needs) (λ c. search needs) (λ c κs. search needs) (λ c. search needs) (λ c. search needs) link-rules-requires returns-3 returns-4 returns-5)
+    (tie.spec (λ c κs. search needs) (λ c κs. search needs) (λ c κs. search needs) (λ c. search needs) (λ c. search needs) returns
+    (λ c κs. search needs) returns-2 read-operators-requires (λ c. search needs) (λ c. search needs) (λ c κs. search needs) (λ c. search needs)
+    (λ c. search needs) (λ c κs. search needs) keep-standing-requires link-rules-requires returns-3 returns-4 returns-5)

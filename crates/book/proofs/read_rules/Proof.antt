@@ -11,10 +11,10 @@ use Rattle.book.proofs.read_rules.Statement.{statement}
 use Rattle.book.proofs.read_rules.Tie as tie
 
 abbrev Inv-loop : tie.InvT-loop
-Inv-loop book at n operators m rules₀ p₀ i₀ rules p i = (i ≤ m) × RulesTaken book at n operators i rules (Part.Read p)
+Inv-loop book at dated n operators m rules₀ p₀ i₀ rules p i = (i ≤ m) × RulesTaken book at dated n operators i rules (Part.Read p)
 
 abbrev μ-loop : tie.MeasureT-loop
-μ-loop book at n operators m rules₀ p₀ i₀ rules p i = m - i
+μ-loop book at dated n operators m rules₀ p₀ i₀ rules p i = m - i
 
 loop-holds : tie.Need-loop-holds Inv-loop μ-loop
 loop-holds c = (omega arith, rules-none refl)

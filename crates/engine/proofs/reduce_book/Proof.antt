@@ -3,7 +3,7 @@ use borrow.Author.Needs.{needs}
 use mathlib.Core.Path.{refl}
 use Rattle.engine.proofs.Frame.{framed}
 use Rattle.engine.proofs.Answers.{by-book, by-line, refuses}
-use Rattle.engine.proofs.Readers.{by-tables, loaded, reduced-alike}
+use Rattle.engine.proofs.Readers.{by-tables, loaded, reduced-alike, on-its-day}
 use Rattle.engine.proofs.reduce_book.Statement.{statement}
 use Rattle.engine.proofs.reduce_book.Tie as tie
 
@@ -17,7 +17,7 @@ run-checked-requires c κs =
     let n = x .before .before .before .before in
     let b = n .before .before in
     let is = rw (n .n .given .1) at (b .read-book .ensures .is) in
-    let t = rw (l .length .given .1) at (by-tables (is .0) (is .1) (x .read-term .ensures)) in
+    let t = rw (l .length .given .1) at (by-tables (is .0) (is .2) (x .read-term .ensures)) in
     (b .before .before .before .before .before .before .before .before .pre, loaded (is .0) t)
 
 returns : tie.Need-returns
@@ -33,8 +33,8 @@ returns-2 c =
     let b = n .before .before in
     let f = b .before .before .before .before .before .before .before .before .pre in
     let is = rw (n .n .given .1) at (b .read-book .ensures .is) in
-    let e = rw (c .before .k2 .given .1) at (by-tables (is .0) (is .1) (x .read-term .ensures)) in
-    refuses _ (by-line _ _ (framed _ (f .faultless)) _ (is .0 .read) _ e)
+    let e = rw (c .before .k2 .given .1) at (by-tables (is .0) (is .2) (x .read-term .ensures)) in
+    on-its-day (is .1) (refuses _ (by-line _ _ (framed _ (f .faultless)) _ (is .0 .read) _ e))
 
 returns-3 : tie.Need-returns-3
 returns-3 c =
@@ -45,8 +45,8 @@ returns-3 c =
     let b = n .before .before in
     let f = b .before .before .before .before .before .before .before .before .pre in
     let is = rw (n .n .given .1) at (b .read-book .ensures .is) in
-    let t = rw (l .length .given .1) at (by-tables (is .0) (is .1) (x .read-term .ensures)) in
-    reduced-alike _ _ f (is .0) t (r .run-checked .ensures)
+    let t = rw (l .length .given .1) at (by-tables (is .0) (is .2) (x .read-term .ensures)) in
+    on-its-day (is .1) (reduced-alike _ _ f (is .0) t (r .run-checked .ensures))
 
 pub reduce-book-spec : {M : Type 1} → statement M
 reduce-book-spec =

@@ -16,14 +16,14 @@ answer-requires : tie.Need-answer-requires
 answer-requires c κs =
     let a = c .before .before .before .before in
     let s = c .before .before .before .before .before .before .before .before .before .before .before .before .before in
-    (reduced-fits (a .reduce-form .ensures) (a .reduce-form .kept .1 .1 .1 .1 .1 .1 .1 .0 ∙ length-replicate {A = ℕ} 1024 0), s .pre .1, s .pre .2)
+    (reduced-fits (a .reduce-form .ensures) (a .reduce-form .kept .1 .1 .1 .1 .1 .1 .1 .1 .0 ∙ length-replicate {A = ℕ} 1024 0), s .pre .1, s .pre .2)
 
 returns : tie.Need-returns
 returns c =
     let a = c .before .before .before .before .before in
     let q = a .before .before .before .before .before .before .before in
     let s = q .before .before in
-    let n = s .args .parts .line + 5 in
+    let n = s .args .parts .schedule in
     let l : List ℕ = now (s .args .input) in
     put-as
     (reduced-lines (a .reduce-form .ensures) _ _ (q .quad .ensures) (take-all (length l - n) (drop n l) (omega (arith, length-drop n l)))
@@ -33,6 +33,6 @@ returns c =
 pub run-page-spec : {M : Type 1} → statement M
 run-page-spec =
     tie.close
-    (tie.spec (λ c. search needs) (λ c. search needs) (λ c. search needs) (λ c κs. search needs) (λ c. search needs) (λ c. search needs)
+    (tie.spec (λ c. search needs) (λ c. search needs) (λ c κs. search needs) (λ c. search needs) (λ c. search needs)
     (λ c. search needs) (λ c. search needs) (λ c. search needs) (λ c. search needs) (λ c. search needs) (λ c. search needs) (λ c. search needs)
     (λ c. search needs) (λ c. search needs) (λ c. search needs) (λ c κs. search needs) (λ c. search needs) answer-requires returns)

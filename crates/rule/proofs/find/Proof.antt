@@ -14,7 +14,7 @@ use Rattle.rule.proofs.find.Tie as tie
 
 abbrev Inv-loop : tie.InvT-loop
 Inv-loop book operators rules symbols len offset bound₀ o k₀ due x bound k =
-    (k < 256) × Under-root operators (take len symbols) offset x due × Reached operators (take len symbols) offset (book-of book .rules) k
+    (k < 256) × Under-root operators (take len symbols) offset x due × Reached operators (take len symbols) offset (book-of book rules .rules) k
 
 abbrev μ-loop : tie.MeasureT-loop
 μ-loop book operators rules symbols len offset bound₀ o k₀ due x bound k = ahead k
@@ -37,7 +37,7 @@ root f = let s = f .before .before .before in sym (getD-take (s .args .len) (s .
 
 first : (f : tie.After-first-rule Inv-loop μ-loop) →
     let a = f .before .before .before .args in
-    Reached (a .operators .now) (take (a .len) (a .symbols .now)) (a .offset) (book-of (a .book .now) .rules) (f .first-rule .result)
+    Reached (a .operators .now) (take (a .len) (a .symbols .now)) (a .offset) (book-of (a .book .now) (a .rules .now) .rules) (f .first-rule .result)
 first f =
     let p = f .before .before .before .pre in
     reached-first (p .tables .tables) _ _ (p .known) (inside f) _ _ (root f) (f .first-rule .ensures .0)
@@ -82,7 +82,7 @@ returns-2 c =
 next : (c : tie.After-next-rule Inv-loop μ-loop) →
     let l = c .before .before .before .before .before .before .before in
     let a = start l .args in
-    Reached (a .operators .now) (take (a .len) (a .symbols .now)) (a .offset) (book-of (a .book .now) .rules) (c .next-rule .result)
+    Reached (a .operators .now) (take (a .len) (a .symbols .now)) (a .offset) (book-of (a .book .now) (a .rules .now) .rules) (c .next-rule .result)
     × (ahead (c .next-rule .result) < ahead (l .loop .k))
 next c =
     let t = c .before .before .before in

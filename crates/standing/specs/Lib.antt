@@ -1,0 +1,3 @@
+pub mod Keys
+pub mod Dates
+pub mod Contracts
