@@ -138,10 +138,10 @@ typedef int reader_of_books(const uint8_t *, size_t, void *);
 
 // Nanoseconds for one reading.
 static double timed(reader_of_books *read, const packer *p, void *t) {
-    double start = now();
+    double start = spent();
     for (int i = 0; i < INNER; i++)
         if (read(p->bytes, packed_length(p), t)) abort();
-    return (now() - start) / INNER;
+    return (spent() - start) / INNER;
 }
 
 static void make_books(void) {

@@ -180,12 +180,12 @@ typedef size_t rewriter(const uint8_t *, size_t, void *, uint8_t *, size_t, size
 static double timed(rewriter *rewrite, void *of_book, const uint8_t *term, uint8_t *symbols) {
     static uint8_t scratch[1024];
     size_t len = packed_length(&book);
-    double start = now();
+    double start = spent();
     for (int i = 0; i < INNER; i++) {
         memcpy(symbols, term, 1024);
         if (!rewrite(book.bytes, len, of_book, symbols, TERM, OFFSET, scratch)) abort();
     }
-    return (now() - start) / INNER;
+    return (spent() - start) / INNER;
 }
 
 int main(void) {

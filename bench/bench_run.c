@@ -1,29 +1,14 @@
 // kurvneist_reduce against the unverified engines of engine.c and, where it is installed, Maude: whole runs, what a run costs at least, its stack.
 // Prints a line for each measurement and writes the same to a file of tab-separated fields, for bench/report.
-#include "../library/include/kurvneist.h"
-#include "engine.h"
-#include "timing.h"
-#include "workload.h"
+#include "jobs.h"
 #include <pthread.h>
 
-enum { MOST_TURNS = 401, LONGEST = 1 << 24, STACK = 1 << 20 };
+enum { MOST_TURNS = 401, STACK = 1 << 20 };
 
-// How long a timing takes at least, how long all of a row take together, in nanoseconds, and Maude's turns.
-static double least_timing = 1e6, row_time = 6e8;
+// How long all timings of a row take together, in nanoseconds, and Maude's turns.
+static double row_time = 6e8;
 static int maude_turns = 9;
 static FILE *fields;
-
-typedef struct {
-    const workload *w;
-    uint8_t units;
-    const uint8_t *schedule;
-    size_t entries;
-} job;
-
-typedef struct {
-    uint8_t refusal, work[KURVNEIST_WORK_LENGTH], output[KURVNEIST_OUTPUT_LENGTH];
-    uint64_t answer[KURVNEIST_ANSWER_LENGTH];
-} result;
 
 typedef struct {
     double low, median, high;
@@ -42,54 +27,15 @@ static spread ratio_of(const double *upper, const double *lower, int count) {
     return spread_of(ratios, count);
 }
 
+static spread difference_of(const double *more, const double *less, int count) {
+    static double differences[MOST_TURNS];
+    for (int i = 0; i < count; i++) differences[i] = more[i] - less[i];
+    return spread_of(differences, count);
+}
+
 static void put_spread(spread s) { fprintf(fields, "\t%.6g\t%.6g\t%.6g", s.low, s.median, s.high); }
 
-// The thread's own time, so that what else the machine does weighs less; Maude tells its own time too.
-static double spent(void) {
-    struct timespec t;
-    clock_gettime(CLOCK_THREAD_CPUTIME_ID, &t);
-    return 1e9 * (double)t.tv_sec + (double)t.tv_nsec;
-}
-
 // Runs.
-
-static void run(reducer *reduce, const job *j, result *r) {
-    r->refusal = reduce(j->w->packed.bytes, packed_length(&j->w->packed), j->w->line, j->w->length, j->units, UINT32_MAX, 0, j->schedule, j->entries,
-        r->work, sizeof r->work, r->output, sizeof r->output, r->answer);
-}
-
-// Nanoseconds for one run.
-static double timed(reducer *reduce, const job *j, int inner) {
-    static result r;
-    double start = spent();
-    for (int i = 0; i < inner; i++) run(reduce, j, &r);
-    return (spent() - start) / inner;
-}
-
-// How many runs a timing needs.
-static int inner_of(reducer *reduce, const job *j) {
-    double once = timed(reduce, j, 1);
-    for (int inner = 1;; inner *= 2) {
-        once = timed(reduce, j, inner);
-        if (once * inner >= least_timing / 2 || inner >= 1 << 16) return once * inner >= least_timing ? inner : 1 + (int)(least_timing / once);
-    }
-}
-
-// A schedule of units in turn, as long as the run, which has to finish.
-static job job_of(const workload *w, uint8_t units) {
-    static uint8_t turns[9][LONGEST];
-    static result r;
-    job j = {w, units, turns[units], LONGEST};
-    if (units > 1 && !turns[units][1])
-        for (size_t i = 0; i < LONGEST; i++) turns[units][i] = (uint8_t)(i % units);
-    run(c_reduce, &j, &r);
-    if (r.refusal || r.answer[KURVNEIST_ENDING] != KURVNEIST_FINISHED) {
-        printf("%s: refusal %u, ending %u\n", w->name, r.refusal, (unsigned)r.answer[KURVNEIST_ENDING]);
-        exit(1);
-    }
-    j.entries = r.answer[KURVNEIST_ENTRIES];
-    return j;
-}
 
 // The answer that all three give.
 static void same_answer(const job *j, result *r) {
@@ -107,15 +53,17 @@ static void same_answer(const job *j, result *r) {
     }
 }
 
-static double library[MOST_TURNS], decoded[MOST_TURNS], packed[MOST_TURNS];
+static double library[MOST_TURNS], decoded[MOST_TURNS], packed[MOST_TURNS], library_base[MOST_TURNS], decoded_base[MOST_TURNS];
 
-// Timings in turn; how many turns.
-static int time_in_turn(const job *j) {
+// Timings in turn, also of a base to take off, where there is one; how many turns.
+static int time_in_turn(const job *j, const job *base) {
     int a = inner_of(kurvneist_reduce, j), b = inner_of(c_reduce, j), c = inner_of(c_reduce_packed, j), turns = 0;
     double start = now();
     while (turns < MOST_TURNS && (turns < 11 || now() - start < row_time)) {
         library[turns] = timed(kurvneist_reduce, j, a);
+        if (base) library_base[turns] = timed(kurvneist_reduce, base, a);
         decoded[turns] = timed(c_reduce, j, b);
+        if (base) decoded_base[turns] = timed(c_reduce, base, b);
         packed[turns] = timed(c_reduce_packed, j, c);
         turns++;
     }
@@ -153,13 +101,21 @@ static void print_row(const row_head *h, spread ns, spread by_c, spread by_packe
     fflush(stdout);
 }
 
-// One row: a workload on so many units.
-static void row(const char *kind, const workload *w, unsigned parameter, uint8_t units) {
+// What is above the base, of the library and of C.
+static void put_above(int turns) {
+    spread ours = difference_of(library, library_base, turns), c = difference_of(decoded, decoded_base, turns);
+    printf("%-9s above its base: %.0f ns [%.0f %.0f], C %.0f [%.0f %.0f]\n", "", ours.median, ours.low, ours.high, c.median, c.low, c.high);
+    put_spread(ours);
+    put_spread(c);
+}
+
+// One row: a workload on so many units, and what it takes above a base, where there is one.
+static void row(const char *kind, const workload *w, const workload *base, unsigned parameter, uint8_t units) {
     static result r;
-    job j = job_of(w, units);
+    job j = job_of(c_reduce, w, units), least = base ? job_of(c_reduce, base, units) : j;
     same_answer(&j, &r);
     row_head h = head_of(kind, &j, parameter, &r);
-    h.turns = time_in_turn(&j);
+    h.turns = time_in_turn(&j, base ? &least : NULL);
     spread ns = spread_of(library, h.turns), by_c = ratio_of(library, decoded, h.turns), by_packed = ratio_of(library, packed, h.turns);
     print_row(&h, ns, by_c, by_packed);
     put_head(&h);
@@ -167,6 +123,7 @@ static void row(const char *kind, const workload *w, unsigned parameter, uint8_t
     put_spread(spread_of(decoded, h.turns));
     put_spread(by_c);
     put_spread(by_packed);
+    if (base) put_above(h.turns);
     fprintf(fields, "\n");
 }
 
@@ -251,7 +208,7 @@ static unsigned long time_with_maude(const job *j, const char *path, unsigned li
 static void maude_row(const workload *w) {
     static result r;
     const char *path = "target/bench/book.maude";
-    job j = job_of(w, 1);
+    job j = job_of(c_reduce, w, 1);
     same_answer(&j, &r);
     unsigned lines = lines_for(w, &r, path);
     if (!lines) {
@@ -306,7 +263,7 @@ static void least_cost(void) {
     static double clear[MOST_TURNS];
     enum { TURNS = 201, INNER = 500 };
     make_least(&w);
-    job j = job_of(&w, 1);
+    job j = job_of(c_reduce, &w, 1);
     same_answer(&j, &r);
     for (int i = 0; i < TURNS; i++) {
         library[i] = timed(kurvneist_reduce, &j, INNER);
@@ -354,7 +311,7 @@ static size_t stack_of(reducer *reduce, const job *j) {
 }
 
 static void stack_row(const workload *w) {
-    job j = job_of(w, 8);
+    job j = job_of(c_reduce, w, 8);
     size_t ours = stack_of(kurvneist_reduce, &j), c = stack_of(c_reduce, &j);
     printf("stack: %zu bytes (C %zu)\n", ours, c);
     fprintf(fields, "stack\t%zu\t%zu\n", ours, c);
@@ -362,29 +319,7 @@ static void stack_row(const workload *w) {
 
 // Everything.
 
-static workload *ready(workload *w) {
-    pack(&w->book, &w->packed);
-    return w;
-}
-
-static workload main_workloads[6];
-
-static int make_workloads(void) {
-    workload *w = main_workloads;
-    make_fib(&w[0]);
-    make_fact(&w[1]);
-    make_sort(&w[2]);
-    make_payee(&w[3], 200, 5);
-    make_payee(&w[4], 1000, 5);
-    make_payee(&w[5], 200, 203);
-    w[3].title = "payee line of 200 symbols, 57 rules";
-    w[4].name = "payee1000";
-    w[4].title = "payee line of 1,000 symbols, 57 rules";
-    w[5].name = "rules255";
-    w[5].title = "payee line of 200 symbols, 255 rules";
-    for (int i = 0; i < 6; i++) ready(&w[i]);
-    return 6;
-}
+static workload main_workloads[MAIN_WORKLOADS];
 
 static void growth(void) {
     static const unsigned symbols[] = {16, 32, 64, 128, 256, 512, 1000}, rules[] = {1, 2, 4, 8, 16, 32, 64, 128, 255};
@@ -392,39 +327,57 @@ static void growth(void) {
     for (unsigned i = 0; i < sizeof symbols / sizeof *symbols; i++) {
         memset(&w, 0, sizeof w);
         make_payee(&w, symbols[i], 5);
-        row("length", ready(&w), symbols[i], 1);
+        row("length", ready(&w), NULL, symbols[i], 1);
     }
     for (unsigned i = 0; i < sizeof rules / sizeof *rules; i++) {
         memset(&w, 0, sizeof w);
         make_rules(&w, rules[i]);
-        row("rules", ready(&w), rules[i], 1);
+        row("rules", ready(&w), NULL, rules[i], 1);
+    }
+}
+
+// Two payees that differ in the first letter, in another, in none. The first is the base of the others.
+static void equal_parts(void) {
+    static const unsigned letters[] = {4, 16, 64, 125, 250, 500};
+    static workload base, w;
+    for (unsigned i = 0; i < sizeof letters / sizeof *letters; i++) {
+        unsigned n = letters[i], others[] = {n / 2, n, 0};
+        memset(&base, 0, sizeof base);
+        make_both(&base, n, 1);
+        row("equal", ready(&base), NULL, n, 1);
+        for (unsigned k = n == 500 ? 0 : 2; k < 3; k++) {
+            memset(&w, 0, sizeof w);
+            make_both(&w, n, others[k]);
+            row("equal", ready(&w), &base, n, 1);
+        }
     }
 }
 
 // A single workload over and over, for a profiler.
-static void repeat(const char *name, uint8_t units, double seconds, int count) {
+static void repeat(const char *name, uint8_t units, double seconds) {
     static result r;
-    for (int i = 0; i < count; i++) {
+    for (int i = 0; i < MAIN_WORKLOADS; i++) {
         if (strcmp(main_workloads[i].name, name)) continue;
-        job j = job_of(&main_workloads[i], units);
+        job j = job_of(c_reduce, &main_workloads[i], units);
         for (double start = now(); now() - start < 1e9 * seconds;) run(kurvneist_reduce, &j, &r);
     }
 }
 
 // bench_run FILE [quick] writes the fields to FILE; bench_run - WORKLOAD UNITS SECONDS repeats a workload.
 int main(int argc, char **argv) {
-    int count = make_workloads();
+    make_workloads(main_workloads);
     if (argc == 5) {
-        repeat(argv[2], (uint8_t)atoi(argv[3]), atof(argv[4]), count);
+        repeat(argv[2], (uint8_t)atoi(argv[3]), atof(argv[4]));
         return 0;
     }
     if (argc < 2 || !(fields = fopen(argv[1], "w"))) return 2;
     if (argc == 3) least_timing = 2e5, row_time = 5e7, maude_turns = 3;
     least_cost();
     stack_row(&main_workloads[0]);
-    for (int i = 0; i < count; i++)
-        for (uint8_t units = 1; units <= 8; units += 7) row("run", &main_workloads[i], 0, units);
-    for (int i = 0; i < count; i++) maude_row(&main_workloads[i]);
+    for (int i = 0; i < MAIN_WORKLOADS; i++)
+        for (uint8_t units = 1; units <= 8; units += 7) row("run", &main_workloads[i], NULL, 0, units);
+    for (int i = 0; i < MAIN_WORKLOADS; i++) maude_row(&main_workloads[i]);
     growth();
+    equal_parts();
     return fclose(fields) != 0;
 }

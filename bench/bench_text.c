@@ -81,10 +81,10 @@ static size_t make_words(uint8_t *text) {
 typedef size_t reader(const uint8_t *, size_t, size_t, const uint8_t *, uint8_t *);
 
 static double timed(reader *read, const uint8_t *text, size_t len, const uint8_t *operators, uint8_t *symbols) {
-    double start = now();
+    double start = spent();
     for (int i = 0; i < INNER; i++)
         if (!read(text, len, OPERATORS, operators, symbols)) abort();
-    return (now() - start) / INNER;
+    return (spent() - start) / INNER;
 }
 
 static int row(const char *what, const uint8_t *text, size_t len, const uint8_t *operators) {

@@ -1,15 +1,20 @@
-// Times in nanoseconds: the clock, and the median and quartiles of many.
+// Times in nanoseconds: the clock's, the thread's own, and the median and quartiles of many.
 #ifndef TIMING_H
 #define TIMING_H
 #include <stdio.h>
 #include <stdlib.h>
 #include <time.h>
 
-static double now(void) {
+static double clock_of(clockid_t id) {
     struct timespec t;
-    clock_gettime(CLOCK_MONOTONIC, &t);
+    clock_gettime(id, &t);
     return 1e9 * (double)t.tv_sec + (double)t.tv_nsec;
 }
+
+static inline double now(void) { return clock_of(CLOCK_MONOTONIC); }
+
+// The thread's own time, so that what else the machine does weighs less.
+static double spent(void) { return clock_of(CLOCK_THREAD_CPUTIME_ID); }
 
 static int by_size(const void *a, const void *b) {
     double x = *(const double *)a, y = *(const double *)b;

@@ -251,7 +251,7 @@ static void make_payee(workload *w, size_t symbols, unsigned words) {
 }
 
 // So many rules, of which a line of 256 symbols needs only the last, capital A.
-static void make_rules(workload *w, unsigned rules) {
+static inline void make_rules(workload *w, unsigned rules) {
     w->name = "rules";
     w->title = "one rule used of many";
     add_letters(&w->book);
@@ -265,6 +265,49 @@ static void make_rules(workload *w, unsigned rules) {
         append(w, END);
     }
     append(w, END);
+}
+
+// Equal parts: both(X, X) gives match. Only the whole of both is tried, so that the payees under it are compared and not visited.
+
+// Two payees of so many letters, which differ in the one that is named, counted from 1, or in none for 0.
+static void make_both(workload *w, unsigned letters, unsigned differing) {
+    draft *d = &w->book;
+    char name[NAMED];
+    uint16_t end = DEFAULT(d, "end", 0), both = GIVEN(d, "both", 2, 0), match = DEFAULT(d, "match", 0);
+    unsigned first = d->operators;
+    for (unsigned i = 0; i < 26; i++) snprintf(name, NAMED, "%c", 'a' + i), DEFAULT(d, name, 1);
+    add_rule(d, ROW(both, VAR(0), VAR(0)), ROW(match));
+    append(w, both);
+    for (unsigned payee = 0; payee < 2; payee++) {
+        for (unsigned i = 1; i <= letters; i++) append(w, first + (7 * i + (payee && i == differing)) % 26);
+        append(w, end);
+    }
+    w->name = "both";
+    w->title = !differing ? "no letter" : differing == 1 ? "the first letter" : differing == letters ? "the last letter" : "the middle letter";
+}
+
+// The workloads of whole runs.
+
+static workload *ready(workload *w) {
+    pack(&w->book, &w->packed);
+    return w;
+}
+
+enum { MAIN_WORKLOADS = 6 };
+
+static void make_workloads(workload *w) {
+    make_fib(&w[0]);
+    make_fact(&w[1]);
+    make_sort(&w[2]);
+    make_payee(&w[3], 200, 5);
+    make_payee(&w[4], 1000, 5);
+    make_payee(&w[5], 200, 203);
+    w[3].title = "payee line of 200 symbols, 57 rules";
+    w[4].name = "payee1000";
+    w[4].title = "payee line of 1,000 symbols, 57 rules";
+    w[5].name = "rules255";
+    w[5].title = "payee line of 200 symbols, 255 rules";
+    for (int i = 0; i < MAIN_WORKLOADS; i++) ready(&w[i]);
 }
 
 // Maude.
@@ -310,7 +353,7 @@ static void print_operator(const draft_operator *o, FILE *out) {
 
 // The same rules and strategies as a module. `line` is the line; `several` of n reduces it n times, which takes it and two rewrites more for each,
 // and one at the end.
-static void print_module(const workload *w, FILE *out) {
+static inline void print_module(const workload *w, FILE *out) {
     const draft *d = &w->book;
     fputs("set show advisories off .\nfmod BOOK is\nsort T .\n", out);
     for (unsigned o = 0; o < d->operators; o++) print_operator(&d->operator[o], out);

@@ -48,19 +48,15 @@ pub fn same(symbols: &[u8; 1024], len: usize, a: usize, b: usize, n: usize) -> b
     if len - b < n {
         return false;
     }
-    let mut equal = true;
-    let mut p = a;
-    let mut q = b;
-    let mut left = n;
-    while 0 < left {
-        if symbols[p] != symbols[q] {
-            equal = false;
+    // All symbols before the one compared are equal.
+    let mut i = 0;
+    while i < n {
+        if symbols[a + i] != symbols[b + i] {
+            return false;
         }
-        p += 1;
-        q += 1;
-        left -= 1;
+        i += 1;
     }
-    equal
+    true
 }
 
 // The n symbols of part from offset `from` on, into symbols at offset at.
