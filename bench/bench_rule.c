@@ -8,9 +8,10 @@ enum { RULES = 32, TERM = 1000, TURNS = 301, INNER = 256 };
 enum { END, TICK, BOTH, PAIR, OPERATORS };
 
 uint8_t bench_book_read(const uint8_t *book, size_t len, uint16_t day, uint8_t *operators, uint32_t *rules);
-void bench_rule_start(uint8_t *work, size_t work_length, uint16_t *units);
-size_t bench_rule_rewrite(const uint8_t *book, size_t len, const uint8_t *operators, const uint32_t *rules, uint8_t *symbols, size_t size, size_t offset,
-    uint8_t *scratch, uint8_t *work, size_t work_length, const uint16_t *units);
+void bench_rule_start(uint8_t *work, size_t work_length, uint32_t *units);
+void bench_rule_load(uint32_t *symbols, const uint8_t *operators, const uint8_t *line, size_t n);
+size_t bench_rule_rewrite(const uint8_t *book, size_t len, const uint8_t *operators, const uint32_t *rules, uint32_t *symbols, size_t offset,
+    uint32_t *scratch, uint8_t *work, size_t work_length, const uint32_t *units);
 
 // The unverified rewrite.
 
@@ -31,45 +32,49 @@ static inline unsigned field(side *s, unsigned n) {
     return v;
 }
 
-// The size of the term at an offset.
-static size_t term_size(const uint8_t *symbols, const uint8_t *arities, size_t at) {
-    size_t p = at, due = 1;
-    while (due) due = due - 1 + arities[symbols[p++]];
-    return p - at;
+// A symbol's record: its operator, and the size of the term that it begins.
+static inline uint32_t make(unsigned o, size_t size) { return o + 512 * (uint32_t)size; }
+static inline unsigned operator_of(uint32_t x) { return x & 255; }
+static inline size_t size_of(uint32_t x) { return x >> 9; }
+
+static int same(const uint32_t *a, const uint32_t *b, size_t n) {
+    for (size_t i = 0; i < n; i++)
+        if ((a[i] ^ b[i]) & 255) return 0;
+    return 1;
 }
 
-// The offset behind the term that a left side agrees with, or 0. The root, of nine bits, agrees already.
-static size_t match(side s, const tables *t, const uint8_t *symbols, size_t size, size_t offset, uint16_t *starts, uint16_t *sizes) {
-    size_t q = offset + 1, due = t->arities[symbols[offset]];
+// Does a left side agree with the term at an offset? The root, of nine bits, agrees already.
+static int match(side s, const tables *t, const uint32_t *symbols, size_t offset, uint16_t *starts) {
+    size_t q = offset + 1, due = t->arities[operator_of(symbols[offset])];
     unsigned bound = 0;
     s.at += 9;
     while (due) {
         due--;
         if (field(&s, 1)) {
             unsigned v = field(&s, 4);
+            size_t n = size_of(symbols[q]);
             if (bound >> v & 1) {
-                if (q + sizes[v] > size || memcmp(symbols + q, symbols + starts[v], sizes[v])) return 0;
+                if (size_of(symbols[starts[v]]) != n || !same(symbols + q, symbols + starts[v], n)) return 0;
             } else {
                 bound |= 1u << v;
                 starts[v] = (uint16_t)q;
-                sizes[v] = (uint16_t)term_size(symbols, t->arities, q);
             }
-            q += sizes[v];
+            q += n;
         } else {
             unsigned o = field(&s, 8);
-            if (q >= size || symbols[q] != o) return 0;
+            if (operator_of(symbols[q]) != o) return 0;
             due += t->arities[o];
             q++;
         }
     }
-    return q;
+    return 1;
 }
 
-static size_t filled_size(side s, const tables *t, const uint16_t *sizes) {
+static size_t filled_size(side s, const tables *t, const uint32_t *symbols, const uint16_t *starts) {
     size_t size = 0, due = 1;
     while (due) {
         due--;
-        if (field(&s, 1)) size += sizes[field(&s, 4)];
+        if (field(&s, 1)) size += size_of(symbols[starts[field(&s, 4)]]);
         else {
             due += t->arities[field(&s, 8)];
             size++;
@@ -78,36 +83,53 @@ static size_t filled_size(side s, const tables *t, const uint16_t *sizes) {
     return size;
 }
 
-static size_t fill(side s, const tables *t, const uint8_t *symbols, const uint16_t *starts, const uint16_t *sizes, uint8_t *out) {
+// The operators' sizes are put behind the pass, from the last one to the first.
+static size_t fill(side s, const tables *t, const uint32_t *symbols, const uint16_t *starts, uint32_t *out) {
     size_t k = 0, due = 1;
+    uint16_t places[64];
+    unsigned count = 0;
     while (due) {
         due--;
         if (field(&s, 1)) {
-            unsigned v = field(&s, 4);
-            memcpy(out + k, symbols + starts[v], sizes[v]);
-            k += sizes[v];
+            const uint32_t *from = symbols + starts[field(&s, 4)];
+            memcpy(out + k, from, 4 * size_of(*from));
+            k += size_of(*from);
         } else {
             unsigned o = field(&s, 8);
-            out[k++] = (uint8_t)o;
+            places[count++] = (uint16_t)k;
+            out[k++] = o;
             due += t->arities[o];
         }
+    }
+    while (count) {
+        size_t p = places[--count], q = p + 1;
+        for (unsigned n = t->arities[out[p]]; n; n--) q += size_of(out[q]);
+        out[p] = make(out[p], q - p);
     }
     return k;
 }
 
-static size_t c_rewrite(const uint8_t *book, size_t len, void *of_book, uint8_t *symbols, size_t size, size_t offset, uint8_t *scratch) {
+// The sizes of the symbols above.
+static void grow(uint32_t *symbols, size_t offset, uint32_t by) {
+    for (size_t i = 0; i < offset; i++) symbols[i] += i + size_of(symbols[i]) > offset ? 512 * by : 0;
+}
+
+static size_t c_rewrite(const uint8_t *book, size_t len, void *of_book, uint32_t *symbols, size_t offset, uint32_t *scratch) {
     const tables *t = of_book;
-    uint16_t starts[16], sizes[16];
-    for (unsigned k = offset < size ? t->chain[symbols[offset]] : 0; k; k = t->chain[255 + k]) {
+    uint16_t starts[16];
+    size_t size = size_of(symbols[0]), end = offset + size_of(symbols[offset]);
+    for (unsigned k = t->chain[operator_of(symbols[offset])]; k; k = t->chain[255 + k]) {
         unsigned i = k - 1;
-        size_t end = match((side){book, 8 * len, t->lefts[i]}, t, symbols, size, offset, starts, sizes);
-        if (!end) continue;
+        if (!match((side){book, 8 * len, t->lefts[i]}, t, symbols, offset, starts)) continue;
         side right = {book, 8 * len, t->rights[i]};
-        if (offset + filled_size(right, t, sizes) + (size - end) > 1024) return 0;
-        size_t k = fill(right, t, symbols, starts, sizes, scratch);
-        memmove(symbols + offset + k, symbols + end, size - end);
-        memcpy(symbols + offset, scratch, k);
-        return offset + k + (size - end);
+        if (offset + filled_size(right, t, symbols, starts) + (size - end) > 1024) return 0;
+        size_t n = fill(right, t, symbols, starts, scratch);
+        if (offset + n != end) {
+            grow(symbols, offset, (uint32_t)(offset + n - end));
+            memmove(symbols + offset + n, symbols + end, 4 * (size - end));
+        }
+        memcpy(symbols + offset, scratch, 4 * n);
+        return size_of(symbols[0]);
     }
     return 0;
 }
@@ -166,24 +188,24 @@ typedef struct {
     uint8_t operators[4352];
     uint32_t rules[1024];
     uint8_t work[24624];
-    uint16_t units[8];
+    uint32_t units[8];
 } library;
 
-static size_t rattle_rewrite(const uint8_t *bytes, size_t len, void *of_book, uint8_t *symbols, size_t size, size_t offset, uint8_t *scratch) {
+static size_t rattle_rewrite(const uint8_t *bytes, size_t len, void *of_book, uint32_t *symbols, size_t offset, uint32_t *scratch) {
     library *l = of_book;
-    return bench_rule_rewrite(bytes, len, l->operators, l->rules, symbols, size, offset, scratch, l->work, sizeof l->work, l->units);
+    return bench_rule_rewrite(bytes, len, l->operators, l->rules, symbols, offset, scratch, l->work, sizeof l->work, l->units);
 }
 
-typedef size_t rewriter(const uint8_t *, size_t, void *, uint8_t *, size_t, size_t, uint8_t *);
+typedef size_t rewriter(const uint8_t *, size_t, void *, uint32_t *, size_t, uint32_t *);
 
 // Nanoseconds for one rewrite. The term is set back each time, for both alike.
-static double timed(rewriter *rewrite, void *of_book, const uint8_t *term, uint8_t *symbols) {
-    static uint8_t scratch[1024];
+static double timed(rewriter *rewrite, void *of_book, const uint32_t *term, uint32_t *symbols) {
+    static uint32_t scratch[1024];
     size_t len = packed_length(&book);
     double start = spent();
     for (int i = 0; i < INNER; i++) {
-        memcpy(symbols, term, 1024);
-        if (!rewrite(book.bytes, len, of_book, symbols, TERM, OFFSET, scratch)) abort();
+        memcpy(symbols, term, 4 * 1024);
+        if (!rewrite(book.bytes, len, of_book, symbols, OFFSET, scratch)) abort();
     }
     return (spent() - start) / INNER;
 }
@@ -191,16 +213,18 @@ static double timed(rewriter *rewrite, void *of_book, const uint8_t *term, uint8
 int main(void) {
     static library l;
     static tables t;
-    static uint8_t term[1024], ours[1024], theirs[1024];
+    static uint8_t line[1024];
+    static uint32_t term[1024], ours[1024], theirs[1024];
     static double rattle[TURNS], c[TURNS];
     make_book();
     size_t len = packed_length(&book);
-    if (bench_book_read(book.bytes, len, 0, l.operators, l.rules) || c_read_book(book.bytes, len, 0, &t) || make_term(term) != TERM) return 1;
+    if (bench_book_read(book.bytes, len, 0, l.operators, l.rules) || c_read_book(book.bytes, len, 0, &t) || make_term(line) != TERM) return 1;
     bench_rule_start(l.work, sizeof l.work, l.units);
+    bench_rule_load(term, l.operators, line, TERM);
     for (int i = 0; i < TURNS; i++) {
         rattle[i] = timed(rattle_rewrite, &l, term, ours);
         c[i] = timed(c_rewrite, &t, term, theirs);
-        if (memcmp(ours, theirs, TERM) || !memcmp(ours, term, TERM)) {
+        if (memcmp(ours, theirs, 4 * TERM) || !memcmp(ours, term, 4 * TERM)) {
             printf("the rewrites differ\n");
             return 1;
         }

@@ -1,11 +1,14 @@
 // An unverified engine: the orders of document 01 entry by entry, over the library's representation of a run. The present term is its symbols in
-// preorder, a unit's orders are a stack of frames of three bytes in the work area, an operator's orders are a row of steps.
+// preorder, each with the number of symbols under and including it; a unit's orders are a stack of frames of three bytes in the work area, an
+// operator's orders are a row of steps.
 //
 // It is compiled twice. With PACKED it also makes the library's choices for rules and frames (engine.h).
 #include "engine.h"
 #include "../library/include/kurvneist.h"
 #include "reader.h"
 #include <string.h>
+
+#define INLINE static inline __attribute__((always_inline))
 
 enum { MOST = 1024, HEIGHT = 1026, UNITS = 8, WORK = 3 * HEIGHT * UNITS, SIDE = 64, VARIABLE = 0x100 };
 enum { FINISHED, SPENT, FULL, CUT, GOING };
@@ -14,7 +17,7 @@ enum { FINISHED, SPENT, FULL, CUT, GOING };
 enum { EXIT = 32, SLEEP = 40, BINGO = 41 };
 
 // Steps as reader.c lays them out, a number added for the argument or the count.
-enum { NONE = 0, WHOLE = 1, VISIT = 8, FORK = 16, JOIN = 24 };
+enum { NONE = 0, WHOLE = 1, PASS = 2, VISIT = 8, FORK = 16, JOIN = 24 };
 
 typedef struct {
     uint16_t left[SIDE], right[SIDE];
@@ -26,20 +29,19 @@ typedef struct {
     size_t bytes;
     unsigned rules;
     tables read;
-    int8_t more[256];        // arity - 1
+    uint8_t arity[256];
     uint8_t joins[256 * 16]; // the count of the next JOIN from a step on
 #ifndef PACKED
     uint8_t decoded[256];
     rule sides[256];
 #endif
-    uint8_t symbols[MOST], scratch[MOST];
-    size_t length;
+    uint32_t cells[MOST], scratch[MOST];
     uint8_t *work;
     unsigned units, busy; // a bit for each busy unit
-    uint16_t heights[UNITS];
+    uint8_t *tops[UNITS]; // the frame on top
     uint32_t budget, rewrites;
     size_t granted, kept;
-    uint16_t starts[16], sizes[16];
+    uint16_t starts[16];
 } engine;
 
 // Frames: a kind, then a job's offset and count (the six high bits) or an EXIT's stack index.
@@ -54,17 +56,41 @@ static inline void set(uint8_t *frame, unsigned value) {
 }
 
 static inline void push(engine *e, unsigned unit, unsigned kind, unsigned value) {
-    uint8_t *f = frame(e, unit, e->heights[unit]++);
+    uint8_t *f = e->tops[unit] += 3;
     f[0] = (uint8_t)kind;
     set(f, value);
 }
 
 // Terms.
 
+// A symbol's record: its operator, and the size of the term that it begins.
+enum { ONE_SIZE = 512 };
+
+static inline uint32_t make(unsigned o, unsigned size) { return o + size * ONE_SIZE; }
+
+static inline unsigned operator_of(uint32_t cell) { return cell & 255; }
+
+static inline unsigned size_of(uint32_t cell) { return cell >> 9; }
+
+static inline unsigned operator_at(const engine *e, unsigned at) { return operator_of(e->cells[at]); }
+
 // The offset behind so many terms.
-static inline unsigned skip(const engine *e, unsigned at, unsigned terms) {
-    for (int due = (int)terms; due > 0; at++) due += e->more[e->symbols[at]];
+static inline unsigned skip(const uint32_t *cells, unsigned at, unsigned terms) {
+    for (; terms; terms--) at += size_of(cells[at]);
     return at;
+}
+
+static inline void copy(uint32_t *to, const uint32_t *from, unsigned n) {
+    if (n < 8) for (unsigned i = 0; i < n; i++) to[i] = from[i];
+    else memcpy(to, from, n * sizeof *to);
+}
+
+static inline int equal_parts(const engine *e, unsigned x, unsigned y) {
+    unsigned n = size_of(e->cells[x]);
+    if (n != size_of(e->cells[y])) return 0;
+    for (unsigned i = 0; i < n; i++)
+        if ((e->cells[x + i] ^ e->cells[y + i]) & 255) return 0;
+    return 1;
 }
 
 // Rules.
@@ -78,72 +104,67 @@ static inline unsigned symbol(const engine *e, size_t *at) {
     return x & VARIABLE ? VARIABLE | x >> 4 : x;
 }
 
-// Are these as many symbols the same? It stops at the first that differs. A function of its own, so that its loop doesn't lie across two cache lines, which
-// may double its time.
-__attribute__((noinline)) static int same(const uint8_t *a, const uint8_t *b, unsigned count) {
-    for (unsigned i = 0; i < count; i++)
-        if (a[i] != b[i]) return 0;
+// Variable v stands at an offset; not if it stood before at another part.
+static inline int bind(engine *e, unsigned v, unsigned *bound, unsigned at) {
+    if (*bound >> v & 1) return equal_parts(e, e->starts[v], at);
+    *bound |= 1u << v;
+    e->starts[v] = (uint16_t)at;
     return 1;
 }
 
-// The offset behind the part at an offset, where variable v stands, or 0 if v stood before and that part is another. A part that begins with the
-// symbols of another has no more.
-static inline unsigned bind(engine *e, unsigned v, unsigned *bound, unsigned from) {
-    if (*bound >> v & 1) {
-        unsigned to = from + e->sizes[v];
-        return to <= e->length && same(e->symbols + from, e->symbols + e->starts[v], e->sizes[v]) ? to : 0;
+// The sizes of the operators at these places, each behind the one before.
+static inline void settle(engine *e, const uint16_t *places, unsigned count) {
+    while (count-- > 0) {
+        unsigned p = places[count], o = e->scratch[p];
+        e->scratch[p] = make(o, skip(e->scratch, p + 1, e->arity[o]) - p);
     }
-    unsigned to = skip(e, from, 1);
-    *bound |= 1u << v;
-    e->starts[v] = (uint16_t)from;
-    e->sizes[v] = (uint16_t)(to - from);
-    return to;
 }
 
 #ifdef PACKED
 
-// The offset behind the term at an offset if the rule's left side matches it, or 0. The root, of nine bits, agrees already.
-static unsigned match(engine *e, unsigned i, unsigned offset) {
+// Does the rule's left side match the term at an offset? The root, of nine bits, agrees already.
+static int match(engine *e, unsigned i, unsigned offset) {
     size_t at = e->read.lefts[i] + 9;
-    unsigned q = offset + 1, bound = 0;
-    for (int due = 1 + e->more[e->symbols[offset]]; due > 0;) {
+    unsigned q = offset + 1, end = offset + size_of(e->cells[offset]), bound = 0;
+    while (q < end) {
         unsigned s = symbol(e, &at);
         if (s & VARIABLE) {
-            if (!(q = bind(e, s & 15, &bound, q))) return 0;
-            due--;
-        } else {
-            if (e->symbols[q] != s) return 0;
-            due += e->more[s];
-            q++;
-        }
+            if (!bind(e, s & 15, &bound, q)) return 0;
+            q += size_of(e->cells[q]);
+        } else if (operator_at(e, q++) != s) return 0;
     }
-    return q;
+    return 1;
 }
 
-static size_t filled_size(const engine *e, unsigned i) {
-    size_t at = e->read.rights[i], size = 0;
-    for (int due = 1; due > 0;) {
+static unsigned filled_size(const engine *e, unsigned i) {
+    size_t at = e->read.rights[i];
+    unsigned size = 0;
+    for (unsigned due = 1; due > 0; due--) {
         unsigned s = symbol(e, &at);
-        size += s & VARIABLE ? e->sizes[s & 15] : 1;
-        due += s & VARIABLE ? -1 : e->more[s];
+        if (s & VARIABLE) size += size_of(e->cells[e->starts[s & 15]]);
+        else size++, due += e->arity[s];
     }
     return size;
 }
 
+// The filled right side; its operators' sizes are put from the last to the first.
 static void fill(engine *e, unsigned i) {
     size_t at = e->read.rights[i];
-    uint8_t *out = e->scratch;
-    for (int due = 1; due > 0;) {
+    uint16_t places[SIDE];
+    unsigned out = 0, operators = 0;
+    for (unsigned due = 1; due > 0; due--) {
         unsigned s = symbol(e, &at);
         if (s & VARIABLE) {
-            memcpy(out, e->symbols + e->starts[s & 15], e->sizes[s & 15]);
-            out += e->sizes[s & 15];
-            due--;
+            unsigned from = e->starts[s & 15], size = size_of(e->cells[from]);
+            copy(e->scratch + out, e->cells + from, size);
+            out += size;
         } else {
-            *out++ = (uint8_t)s;
-            due += e->more[s];
+            due += e->arity[s];
+            places[operators++] = (uint16_t)out;
+            e->scratch[out++] = s;
         }
     }
+    settle(e, places, operators);
 }
 
 #else
@@ -153,7 +174,7 @@ static unsigned decode_side(const engine *e, size_t at, uint16_t *side) {
     for (int due = 1; due > 0; k++) {
         unsigned s = symbol(e, &at);
         side[k] = (uint16_t)s;
-        due += s & VARIABLE ? -1 : e->more[s];
+        due += s & VARIABLE ? -1 : e->arity[s] - 1;
     }
     return k;
 }
@@ -167,89 +188,100 @@ static void decode(engine *e, unsigned i) {
 }
 
 // As above.
-static unsigned match(engine *e, unsigned i, unsigned offset) {
+static int match(engine *e, unsigned i, unsigned offset) {
     if (!e->decoded[i]) decode(e, i);
     const rule *r = &e->sides[i];
     unsigned q = offset + 1, bound = 0;
     for (unsigned k = 1; k < r->left_size; k++) {
         unsigned s = r->left[k];
         if (s & VARIABLE) {
-            if (!(q = bind(e, s & 15, &bound, q))) return 0;
-        } else if (e->symbols[q++] != s) return 0;
+            if (!bind(e, s & 15, &bound, q)) return 0;
+            q += size_of(e->cells[q]);
+        } else if (operator_at(e, q++) != s) return 0;
     }
-    return q;
+    return 1;
 }
 
-static size_t filled_size(const engine *e, unsigned i) {
+static unsigned filled_size(const engine *e, unsigned i) {
     const rule *r = &e->sides[i];
-    size_t size = 0;
-    for (unsigned k = 0; k < r->right_size; k++) size += r->right[k] & VARIABLE ? e->sizes[r->right[k] & 15] : 1;
+    unsigned size = 0;
+    for (unsigned k = 0; k < r->right_size; k++) size += r->right[k] & VARIABLE ? size_of(e->cells[e->starts[r->right[k] & 15]]) : 1;
     return size;
 }
 
 static void fill(engine *e, unsigned i) {
     const rule *r = &e->sides[i];
-    uint8_t *out = e->scratch;
+    uint16_t places[SIDE];
+    unsigned out = 0, operators = 0;
     for (unsigned k = 0; k < r->right_size; k++) {
         unsigned s = r->right[k];
         if (s & VARIABLE) {
-            memcpy(out, e->symbols + e->starts[s & 15], e->sizes[s & 15]);
-            out += e->sizes[s & 15];
-        } else *out++ = (uint8_t)s;
+            unsigned from = e->starts[s & 15], size = size_of(e->cells[from]);
+            copy(e->scratch + out, e->cells + from, size);
+            out += size;
+        } else {
+            places[operators++] = (uint16_t)out;
+            e->scratch[out++] = s;
+        }
     }
+    settle(e, places, operators);
 }
 
 #endif
 
-// The first rule that matches at an offset, one added, or 0; and the offset behind the term.
-static unsigned find(engine *e, unsigned offset, unsigned *end) {
-    for (unsigned k = e->read.chain[e->symbols[offset]]; k; k = e->read.chain[255 + k])
-        if ((*end = match(e, k - 1, offset))) return k;
+// The first rule that matches at an offset, one added, or 0.
+static unsigned find(engine *e, unsigned offset) {
+    for (unsigned k = e->read.chain[operator_at(e, offset)]; k; k = e->read.chain[255 + k])
+        if (match(e, k - 1, offset)) return k;
     return 0;
 }
 
 // Rewrites.
 
-static void shift_stack(engine *e, unsigned unit, unsigned height, unsigned from, int by) {
-    uint8_t *f = frame(e, unit, 0);
-    for (unsigned j = 0; j < height; j++, f += 3) {
-        unsigned value = get(f);
-        if (f[0] < EXIT && (value & 1023) >= from) set(f, (unsigned)((int)value + by));
+// Every term that holds the one on top of the unit's stack is a job: the own ones down to an EXIT, then those of the unit that lent it.
+static inline void grow(engine *e, unsigned unit, int by) {
+    for (const uint8_t *f = e->tops[unit] - 3; f[0] != BINGO; f -= 3) {
+        if (f[0] < EXIT) e->cells[get(f) & 1023] += (uint32_t)by * ONE_SIZE;
+        else f = frame(e, f[0] - EXIT, get(f) + 1);
     }
 }
 
-// The jobs behind the offset go along. On the acting unit's own stack the frames above its topmost EXIT are of terms that hold the rewritten one.
-static void shift(engine *e, unsigned acting, unsigned from, int by) {
+// The jobs behind the offset go along. A unit alone has none: all its jobs are of terms that hold the rewritten one.
+static void shift(engine *e, unsigned from, int by) {
+    if (e->units == 1) return;
     for (unsigned u = 0; u < e->units; u++) {
-        unsigned height = e->heights[u];
-#ifndef PACKED
-        if (u == acting) while (height > 0 && *frame(e, u, height - 1) < EXIT) height--;
-#else
-        (void)acting;
-#endif
-        shift_stack(e, u, height, from, by);
+        const uint8_t *top = e->tops[u];
+        for (uint8_t *f = frame(e, u, 1); f <= top; f += 3) {
+            unsigned value = get(f);
+            if (f[0] < EXIT && (value & 1023) >= from) set(f, (unsigned)((int)value + by));
+        }
     }
 }
 
-// The filled right side takes the place of the symbols from offset to end.
-static void replace(engine *e, unsigned unit, unsigned offset, unsigned end, unsigned size) {
-    int by = (int)size - (int)(end - offset);
-    if (by) {
-        memmove(e->symbols + offset + size, e->symbols + end, e->length - end);
-        e->length = e->length + (size_t)by;
-    }
-    memcpy(e->symbols + offset, e->scratch, size);
-    uint8_t *top = frame(e, unit, e->heights[unit] - 1u);
+static inline void move_tail(engine *e, size_t to, size_t from, size_t n) {
+    memmove(e->cells + to, e->cells + from, n * sizeof *e->cells);
+}
+
+// The filled right side takes the place of the term at an offset.
+static void replace(engine *e, unsigned unit, unsigned offset, unsigned size) {
+    unsigned old = size_of(e->cells[offset]), end = offset + old;
+    int by = (int)size - (int)old;
+    if (by) move_tail(e, offset + size, end, size_of(e->cells[0]) - end);
+    copy(e->cells + offset, e->scratch, size);
+    uint8_t *top = e->tops[unit];
     top[0] = 0;
     set(top, offset);
-    if (by) shift(e, unit, end, by);
+    if (by) {
+        grow(e, unit, by);
+        shift(e, end, by);
+    }
 }
 
 // Orders.
 
 // The top job, of operator o, goes on with step k and a count.
-static inline void proceed(engine *e, unsigned unit, uint8_t *top, unsigned o, unsigned offset, unsigned k, unsigned count) {
-    if (e->read.laid[16 * o + k] == NONE) e->heights[unit]--;
+INLINE void proceed(engine *e, unsigned unit, uint8_t *top, unsigned o, unsigned offset, unsigned k, unsigned count) {
+    if (e->read.laid[16 * o + k] == NONE) e->tops[unit] -= 3;
     else {
         top[0] = (uint8_t)(k + 1);
         set(top, offset | count << 10);
@@ -257,28 +289,28 @@ static inline void proceed(engine *e, unsigned unit, uint8_t *top, unsigned o, u
 }
 
 // The orders of the term at an offset.
-static inline void enter(engine *e, unsigned unit, unsigned offset) {
-    unsigned o = e->symbols[offset];
+INLINE void enter(engine *e, unsigned unit, unsigned offset) {
+    unsigned o = operator_at(e, offset);
     if (e->read.laid[16 * o] != NONE) push(e, unit, 1, offset | (unsigned)e->joins[16 * o] << 10);
 }
 
 static int whole(engine *e, unsigned unit, uint8_t *top, unsigned o, unsigned offset, unsigned k, unsigned count) {
-    unsigned end = 0, i = find(e, offset, &end);
+    unsigned i = find(e, offset);
     if (!i) {
         proceed(e, unit, top, o, offset, k, count);
         return GOING;
     }
     if (e->rewrites == e->budget) return SPENT;
-    size_t size = filled_size(e, i - 1);
-    if (e->length - (end - offset) + size > MOST) return FULL;
+    unsigned size = filled_size(e, i - 1);
+    if (size_of(e->cells[0]) - size_of(e->cells[offset]) + size > MOST) return FULL;
     fill(e, i - 1);
-    replace(e, unit, offset, end, (unsigned)size);
+    replace(e, unit, offset, size);
     e->rewrites++;
     return GOING;
 }
 
 static void fork_part(engine *e, unsigned unit, uint8_t *top, unsigned o, unsigned offset, unsigned k, unsigned count, unsigned argument) {
-    unsigned part = skip(e, offset + 1, argument), idle = ~e->busy & ((1u << e->units) - 1);
+    unsigned part = skip(e->cells, offset + 1, argument), idle = ~e->busy & ((1u << e->units) - 1);
     if (!idle) {
         e->kept++;
         proceed(e, unit, top, o, offset, k, count - 1);
@@ -286,7 +318,7 @@ static void fork_part(engine *e, unsigned unit, uint8_t *top, unsigned o, unsign
         return;
     }
     unsigned v = (unsigned)__builtin_ctz(idle);
-    push(e, v, EXIT + unit, e->heights[unit] - 1u);
+    push(e, v, EXIT + unit, (unsigned)(top - frame(e, unit, 0)) / 3);
     push(e, v, 0, part);
     e->busy |= 1u << v;
     e->granted++;
@@ -296,23 +328,27 @@ static void fork_part(engine *e, unsigned unit, uint8_t *top, unsigned o, unsign
 static void leave(engine *e, unsigned unit, const uint8_t *top) {
     unsigned v = top[0] - EXIT;
     uint8_t *job = frame(e, v, get(top));
-    e->heights[unit]--;
+    e->tops[unit] -= 3;
     unsigned value = get(job) - 1024;
     set(job, value);
     if (value < 1024) e->busy |= 1u << v;
 }
 
 // A job's next order, the one of step k - 1; for k = 0 VISIT.
-static inline int job(engine *e, unsigned unit, uint8_t *top) {
-    unsigned k = top[0], value = get(top), offset = value & 1023, count = value >> 10, o = e->symbols[offset];
+INLINE int job(engine *e, unsigned unit, uint8_t *top) {
+    unsigned k = top[0], value = get(top), offset = value & 1023, count = value >> 10, o = operator_at(e, offset);
     if (k == 0) {
         proceed(e, unit, top, o, offset, 0, e->joins[16 * o]);
         return GOING;
     }
     unsigned step = e->read.laid[16 * o + k - 1];
     if (step == WHOLE) return whole(e, unit, top, o, offset, k, count);
+    if (step == PASS) {
+        proceed(e, unit, top, o, offset, k, count);
+        return GOING;
+    }
     if (step < FORK) {
-        unsigned part = skip(e, offset + 1, step - VISIT);
+        unsigned part = skip(e->cells, offset + 1, step - VISIT);
         proceed(e, unit, top, o, offset, k, count);
         enter(e, unit, part);
     } else if (step < JOIN) fork_part(e, unit, top, o, offset, k, count, step - FORK);
@@ -322,8 +358,8 @@ static inline int job(engine *e, unsigned unit, uint8_t *top) {
 }
 
 // One entry of a busy unit.
-static inline int act(engine *e, unsigned unit) {
-    uint8_t *top = frame(e, unit, e->heights[unit] - 1u);
+INLINE int act(engine *e, unsigned unit) {
+    uint8_t *top = e->tops[unit];
     if (top[0] < EXIT) return job(e, unit, top);
     if (top[0] == BINGO) return FINISHED;
     if (top[0] == SLEEP) e->busy &= ~(1u << unit);
@@ -335,16 +371,30 @@ static inline int act(engine *e, unsigned unit) {
 
 static void count_joins(engine *e, unsigned operators) {
     for (unsigned o = 0; o < operators; o++) {
-        const uint8_t *row = e->read.laid + 16 * o;
+        uint8_t *row = e->read.laid + 16 * o;
         uint8_t count = 0;
+        if (!e->read.chain[o])
+            for (unsigned k = 0; row[k]; k++)
+                if (row[k] == WHOLE) row[k] = PASS;
         for (unsigned k = 16; k-- > 0; e->joins[16 * o + k] = count)
             if (row[k] >= JOIN) count = (uint8_t)(row[k] - JOIN);
     }
 }
 
+static int run_all(engine *e, const uint8_t *schedule, size_t entries, size_t *used) {
+    int ending = GOING;
+    size_t i = 0;
+    while (i < entries && ending == GOING) {
+        unsigned unit = schedule[i++];
+        if (e->busy >> unit & 1) ending = act(e, unit);
+    }
+    *used = i;
+    return ending;
+}
+
 static void start(engine *e) {
     for (unsigned u = 0; u < e->units; u++) {
-        e->heights[u] = 0;
+        e->tops[u] = frame(e, u, 0) - 3;
         push(e, u, u ? SLEEP : BINGO, 0);
     }
     push(e, 0, 0, 0);
@@ -359,9 +409,14 @@ static int check_line(const engine *e, unsigned operators, const uint8_t *line, 
     for (size_t i = 0; i < length; i++) {
         if (due == 0) return 10;
         if (line[i] >= operators) return 11;
-        due += e->more[line[i]];
+        due += e->read.arities[line[i]] - 1;
     }
     return due ? 10 : 0;
+}
+
+// The line's symbols, the last one first, since a size is told by those behind it.
+static void load(engine *e, const uint8_t *line, unsigned length) {
+    while (length-- > 0) e->cells[length] = make(line[length], skip(e->cells, length + 1, e->arity[line[length]]) - length);
 }
 
 // Does every entry name a unit? Eight at a time: adding 128 - units to a byte below 128 sets its high bit if it is units or above.
@@ -386,13 +441,12 @@ static uint8_t prepare(engine *e, const uint8_t *book, size_t book_length, uint1
     if (fault) return (uint8_t)fault;
     unsigned operators = e->read.operators;
     e->rules = e->read.rules;
-    for (unsigned o = 0; o < operators; o++) e->more[o] = (int8_t)(e->read.arities[o] - 1);
+    memcpy(e->arity, e->read.arities, operators);
     if ((fault = check_line(e, operators, line, line_length))) return (uint8_t)fault;
     if (!names_units(schedule, schedule_length, e->units)) return 14;
     e->book = book;
     e->bytes = book_length;
-    e->length = line_length;
-    memcpy(e->symbols, line, line_length);
+    load(e, line, (unsigned)line_length);
     count_joins(e, operators);
 #ifndef PACKED
     memset(e->decoded, 0, e->rules);
@@ -415,17 +469,15 @@ uint8_t REDUCE(const uint8_t *book, size_t book_length, const uint8_t *line, siz
     start(&e);
     int ending = GOING;
     size_t i = 0;
-    while (i < schedule_length && ending == GOING) {
-        unsigned unit = schedule[i++];
-        if (e.busy >> unit & 1) ending = act(&e, unit);
-    }
-    memcpy(output, e.symbols, e.length);
+    ending = run_all(&e, schedule, schedule_length, &i);
+    unsigned length = size_of(e.cells[0]);
+    for (unsigned x = 0; x < length; x++) output[x] = (uint8_t)e.cells[x];
     memset(work, 0, work_length);
     answer[KURVNEIST_ENDING] = (uint64_t)(ending == GOING ? CUT : ending);
     answer[KURVNEIST_REWRITES] = e.rewrites;
     answer[KURVNEIST_ENTRIES] = i;
     answer[KURVNEIST_GRANTED] = e.granted;
     answer[KURVNEIST_KEPT] = e.kept;
-    answer[KURVNEIST_LENGTH] = e.length;
+    answer[KURVNEIST_LENGTH] = length;
     return 0;
 }

@@ -152,13 +152,13 @@ fn on_terminal(arguments: &[&str], term: &str, columns: &str) -> String {
     String::from_utf8(done.stdout).unwrap()
 }
 
-/// The batch takes over a tenth of a second.
+/// The batch takes over half a second, and progress is drawn each tenth.
 #[test]
 fn a_terminal_is_shown_progress_in_its_width() {
     let book = file("slow.book", include_str!("../examples/ticks.book"));
     let (open, close) = ("tick(".repeat(300), ")".repeat(300));
     let line = format!("both({open}end{close}, end)\n");
-    let lines = file("slow.lines", line.repeat(300));
+    let lines = file("slow.lines", line.repeat(1500));
     let output = file("slow.postings", "");
     let batch = ["batch", &book, &lines, "-o", &output];
     for columns in [80, 30] {
@@ -170,7 +170,7 @@ fn a_terminal_is_shown_progress_in_its_width() {
             assert!(line.chars().count() < columns, "{line:?}");
             assert!(line.is_empty() || line.contains(" left"), "{line:?}");
         }
-        assert!(drawn.last().unwrap().contains("300 lines: 300 posted"));
+        assert!(drawn.last().unwrap().contains("1500 lines: 1500 posted"));
     }
     for (term, more) in [("dumb", "--counts"), ("", "--counts"), ("xterm", "--quiet")] {
         let shown = on_terminal(&[&batch[..], &[more]].concat(), term, "80");

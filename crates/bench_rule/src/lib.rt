@@ -3,8 +3,13 @@ use whole::Limits;
 use whole::Place;
 use whole::Progress;
 use whole::Whole;
+ghost use mathlib.Core.Bool.{true};
 ghost use mathlib.Core.Path.{_≡_};
-ghost use lib.ListN.{length};
+ghost use Prim.Native.Nat.{_≤_};
+ghost use lib.ListN.{length, take};
+ghost use Rattle.flat.specs.Rules.{spells};
+ghost use Rattle.tables.specs.Layout.{arity-in};
+ghost use Rattle.term.specs.Present.{length-in};
 ghost use Rattle.rule.specs.Contracts.{Present};
 ghost use Rattle.units.specs.Stacks.{store};
 ghost use Rattle.units.specs.Contracts.{Eight-regions};
@@ -12,27 +17,39 @@ ghost use Rattle.whole.specs.Contracts.{Units-due};
 
 // The units of a run's start.
 #[no_mangle]
-pub extern "C" fn bench_rule_start(work: &mut [u8], units: &mut [u16; 8])
+pub extern "C" fn bench_rule_start(work: &mut [u8], units: &mut [u32; 8])
     requires { ⌜ Eight-regions (store (now work) (now units)) ⌝ }
 {
     units::start(work, units);
 }
 
-// WHOLE of the term at an offset, by the only unit: the new term's length, or 0. A caller has the tables from bench_book_read of the same bytes, and
-// the units from bench_rule_start.
+// The term of the line's first n bytes, each symbol with its size.
+#[no_mangle]
+pub extern "C" fn bench_rule_load(
+    symbols: &mut [u32; 1024],
+    operators: &[u8; 4352],
+    line: &[u8; 1024],
+    n: usize,
+)
+    requires { ⌜ (length (now symbols) ≡ 1024) × (length (now line) ≡ 1024) × (n ≤ 1024) × (spells (arity-in (now operators)) 1 (take n (now line)) ≡ true) ⌝ }
+{
+    term::load(symbols, operators, line, n);
+}
+
+// WHOLE of the term at an offset, by the only unit: the new term's length, or 0. A caller has the tables from bench_book_read of the same bytes, the
+// symbols from bench_rule_load, and the units from bench_rule_start.
 #[no_mangle]
 pub extern "C" fn bench_rule_rewrite(
     bytes: &[u8],
     operators: &[u8; 4352],
     rules: &[u32; 1024],
-    symbols: &mut [u8; 1024],
-    len: usize,
+    symbols: &mut [u32; 1024],
     offset: usize,
-    scratch: &mut [u8; 1024],
+    scratch: &mut [u32; 1024],
     work: &mut [u8],
-    units: &[u16; 8],
+    units: &[u32; 8],
 ) -> usize
-    requires { ⌜ Present (now bytes) (now operators) (now rules) (now symbols) len offset × (length (now scratch) ≡ 1024) × Units-due (store (now work) (now units)) 1 (record { unit = 0; offset = offset }) len ⌝ }
+    requires { ⌜ Present (now bytes) (now operators) (now rules) (now symbols) offset × (length (now scratch) ≡ 1024) × Units-due (store (now work) (now units)) 1 (record { unit = 0; offset = offset }) (length-in (now symbols)) ⌝ }
 {
     match whole::rewrite(
         bytes,
@@ -47,7 +64,6 @@ pub extern "C" fn bench_rule_rewrite(
             offset: offset,
         },
         Progress {
-            length: len,
             rewrites: 0,
             granted: 0,
             kept: 0,
@@ -57,7 +73,7 @@ pub extern "C" fn bench_rule_rewrite(
             budget: 1,
         },
     ) {
-        Whole::Rewrote(after) => after,
+        Whole::Rewrote => term::length(symbols),
         Whole::Missed => 0,
         Whole::Spent => 0,
         Whole::Full => 0,

@@ -5,7 +5,6 @@ use mathlib.Core.Path.{_≡_, refl, sym, ap, ap₂, _∙_, subst, subst₂}
 use Prim.Native.Nat.{ℕ, _+_, _^_, _≤_, _<_}
 use native.Mathlib.Omega.{arith}
 use lib.ListN.{length, take, drop, replicate}
-use lib.Seq.{length-take-le}
 use borrow.Author.Tests.{le-ltb}
 use Rattle.paper.specs.Result.{accepted}
 use Rattle.paper.specs.Tree.{Correct, size, preorder}
@@ -21,16 +20,24 @@ use Rattle.paper.proofs.Trees.{size-preorder}
 use Rattle.paper.proofs.Above.{helps}
 use Rattle.paper.proofs.Demand3.{demand-3, forks-within}
 use Rattle.paper.proofs.OneUnit.{grants, accounted}
-use Rattle.flat.specs.Machine.{FlatState, flat-start, with-units}
+use Rattle.flat.specs.Machine.{FlatState, flat-start}
+use Rattle.flat.specs.Rules.{spells}
 use Rattle.flat.specs.Run.{FlatAnswer, flat-run, flat-run-from, Reached, flatten}
+use Rattle.flat.specs.Sizes as flat
 use Rattle.flat.proofs.Run.{same-run-read}
-use Rattle.tables.specs.Layout.{day-in}
+use Rattle.flat.proofs.Sizes.{correct-spells}
+use Rattle.symbol.specs.Record.{operator, operators}
+use Rattle.symbol.proofs.Record.{front-length}
+use Rattle.tables.specs.Layout.{arity-in, day-in}
 use Rattle.tables.specs.Tables.{any-book, book-of}
+use Rattle.term.specs.Present.{operators-in, sizes-in}
+use Rattle.term.specs.Contracts as T
+use Rattle.term.proofs.Skipping.{sizes-book, spells-book}
+use Rattle.term.proofs.Sized.{loaded-length, loaded-operators, loaded-sized}
 use Rattle.units.specs.Stacks.{store, units-in}
 use Rattle.units.specs.Contracts.{Started}
 use Rattle.whole.specs.declared.Limits.{Limits}
 use Rattle.entry.specs.State.{limited, state, Arrays}
-use Rattle.entry.specs.Contracts.{Running}
 use Rattle.run.specs.Contracts as Run
 use Rattle.run.specs.Contracts.{beginning, Runnable, Bounded}
 use Rattle.run.specs.declared.Run as R
@@ -41,14 +48,14 @@ use Rattle.engine.proofs.Schedule.{named}
 use Rattle.engine.proofs.Frame.{Frame, framed, frame-of}
 use Rattle.engine.proofs.Answers.{by-run}
 
-module _ (budget : ℕ) (schedule : List ℕ) {book operators rules symbols work output : List ℕ} {n units : ℕ} (f : Framed book units work output)
-    (s : Loaded book operators rules symbols n) (names : all-below units schedule ≡ true) where
+module _ (budget : ℕ) (schedule : List ℕ) {book table rules bytes work output : List ℕ} {n units : ℕ} (f : Framed book units work output)
+    (s : Loaded book table rules bytes n) (names : all-below units schedule ≡ true) where
   abbrev B : Book
   B = book-of book rules
 
-  -- the symbols in front, which are a line
+  -- the bytes in front, which are a line
   abbrev line : List ℕ
-  line = take n symbols
+  line = take n bytes
 
   abbrev fits : Frame units (length work) (length output)
   fits = frame-of (f .faultless)
@@ -57,32 +64,52 @@ module _ (budget : ℕ) (schedule : List ℕ) {book operators rules symbols work
   of-line : Correct (arity B) (s .term) × (preorder (s .term) ≡ line) × (length line ≤ 1024) × All (λ o. o < length (B .operators)) line
   of-line = line-correct B line (s .term) (s .term-read)
 
+  -- one term, by the table's arities
+  pub one-term : spells (arity-in table) 1 line ≡ true
+  one-term =
+      let (c, e, l, a) = of-line in
+      spells-book B (s .tables .tables .operators-in) 1 line a ∙ subst (λ (xs : List ℕ). spells (arity B) 1 xs ≡ true) e (correct-spells (arity B) (s .term) c)
+
   -- the machine's first state, by the book's tables
-  reached-first : Reached B (limited budget) (flat-start units line)
+  reached-first : Reached B (limited budget) (flat-start (arity B) units line)
   reached-first =
       let (c, e, l, a) = of-line in
       let z = size-preorder (s .term) in
       let h : size (s .term) ≤ 1024 = omega (arith, ap length e) in
-      subst (λ (xs : List ℕ). Reached B (limited budget) (flat-start units xs)) e (Reached.first units (s .term) c (le-ltb 1024 (size (s .term)) h))
+      subst (λ (xs : List ℕ). Reached B (limited budget) (flat-start (arity B) units xs)) e (Reached.first units (s .term) c (le-ltb 1024 (size (s .term)) h))
 
-  known-first : All (λ o. o < length (B .operators)) (flat-start units line .symbols)
+  known-first : All (λ o. o < length (B .operators)) (flat-start (arity B) units line .symbols)
   unfolding flat-start
   known-first = of-line .3
 
-  -- behind start: the units of the start, as many as there are
-  module _ {w cells : List ℕ} {l : Limits} (started : Started (store w cells)) (same : l .units ≡ units) (limit : l .budget ≡ budget)
-      (small : budget < 2 ^ 32) where
+  -- behind load and start: the line's symbols with their sizes, and the units of the start, as many as there are
+  module _ {symbols w cells : List ℕ} {l : Limits} (loaded : T.Loaded (arity-in table) line n symbols) (started : Started (store w cells))
+      (same : l .units ≡ units) (limit : l .budget ≡ budget) (small : budget < 2 ^ 32) where
     abbrev first : FlatState
-    first = state symbols w cells (beginning n) l
+    first = state symbols w cells beginning l
 
-    first-is : first ≡ flat-start units line
+    operators-are : operators-in symbols ≡ line
+    operators-are = loaded-operators (arity-in table) line n symbols (s .most) one-term loaded
+
+    sizes-are : sizes-in symbols ≡ flat.sizes (arity B) line
+    sizes-are =
+        loaded-sized (arity-in table) line n symbols (s .most) one-term loaded .true-sizes ∙ ap (flat.sizes (arity-in table)) operators-are
+        ∙ sizes-book B (s .tables .tables .operators-in) line (of-line .3)
+
+    first-is : first ≡ flat-start (arity B) units line
     unfolding flat-start
-    first-is = rw (ap (units-in (store w cells)) same ∙ started .units units line (fits .some-units) (fits .few))
+    first-is = rw (operators-are, sizes-are, ap (units-in (store w cells)) same ∙ started .units units (fits .some-units) (fits .few))
 
-    pub arrays : (scratch : List ℕ) → length scratch ≡ 1024 → Arrays symbols scratch w cells (beginning n) l
-    arrays scratch k = record { symbols-long = s .long; scratch-long = k; most = s .most; fit = started .fit; few = omega (arith, same, fits .few) }
+    arrays : (scratch : List ℕ) → length scratch ≡ 1024 → Arrays symbols scratch w cells l
+    arrays scratch k = record {
+      symbols-long = loaded .long;
+      scratch-long = k;
+      most = omega (arith, loaded-length (arity-in table) line n symbols (s .most) one-term loaded, s .most);
+      fit = started .fit;
+      few = omega (arith, same, fits .few);
+    }
 
-    pub runnable : Runnable book operators rules l schedule first
+    runnable : Runnable book table rules l schedule first
     runnable = record {
       running = record {
         tables = s .tables;
@@ -93,6 +120,9 @@ module _ (budget : ℕ) (schedule : List ℕ) {book operators rules symbols work
       named = rw same (named units schedule names);
       small = rw limit small;
     }
+
+    pub ready : (scratch : List ℕ) → length scratch ≡ 1024 → Arrays symbols scratch w cells l × Runnable book table rules l schedule first
+    ready scratch k = (arrays scratch k, runnable)
 
     module _ {symbols′ : List ℕ} {r : R.Run} (is : Run.answer r symbols′ ≡ flat-run-from B (limited (l .budget)) 0 schedule first)
         (bounded : Bounded l schedule symbols′ r) where
@@ -106,12 +136,12 @@ module _ (budget : ℕ) (schedule : List ℕ) {book operators rules symbols work
           is ∙ ap₂ (λ (b : ℕ) (x : FlatState). flat-run-from B (limited b) 0 schedule x) limit first-is
           ∙ same-run-read book line (any-book book) (day-in rules) (s .term) (s .tables .read) (s .term-read) (limited budget) units schedule
 
-      term-is : take (r .length) symbols′ ≡ preorder (A .term)
+      term-is : operators (take (r .length) symbols′) ≡ preorder (A .term)
       unfolding flatten
-      term-is = ap (λ (a : FlatAnswer). a .symbols) answer-is
+      term-is = ap (λ (k : ℕ). operators (take k symbols′)) (bounded .root) ∙ ap (λ (a : FlatAnswer). a .symbols) answer-is
 
       length-is : r .length ≡ length (preorder (A .term))
-      length-is = sym (length-take-le (r .length) symbols′ (omega (arith, bounded .most, bounded .long))) ∙ ap length term-is
+      length-is = sym (front-length operator (r .length) symbols′ (omega (arith, bounded .most, bounded .long))) ∙ ap length term-is
 
       rewrites-are : r .rewrites ≡ A .rewrites
       unfolding flatten
@@ -155,7 +185,7 @@ module _ (budget : ℕ) (schedule : List ℕ) {book operators rules symbols work
             };
           }
 
-      pub reduced : {work′ output′ : List ℕ} → work′ ≡ replicate (length work) 0 → output′ ≡ take (r .length) symbols′ ++ drop (r .length) output →
+      pub reduced : {work′ output′ : List ℕ} → work′ ≡ replicate (length work) 0 → output′ ≡ operators (take (r .length) symbols′) ++ drop (r .length) output →
           Reduced book line units budget (day-in rules) schedule work output work′ output′ (D.Answer.Ran r)
       reduced {output′ = output′} e o = record {
         answer = values-are ∙ ap values-of (sym told);

@@ -11,6 +11,7 @@ ghost use mathlib.Core.Path.{_≡_};
 ghost use Prim.Native.Nat.{ℕ, _≤_, _<_};
 ghost use lib.ListN.{length, take, drop};
 ghost use Rattle.paper.specs.Page.{all-below};
+ghost use Rattle.symbol.specs.Record as S;
 ghost use Rattle.tables.specs.Layout.{day-in};
 ghost use Rattle.engine.specs.Spec as R;
 ghost use Rattle.engine.specs.Contracts as C;
@@ -53,7 +54,7 @@ fn names_units(schedule: &[u8], units: u8) -> bool
     most < units
 }
 
-// The line's symbols, into the working record.
+// The line's symbols, to the front of the array.
 fn load(symbols: &mut [u8; 1024], line: &[u8])
     requires { ⌜ (length (now symbols) ≡ 1024) × (length (now line) ≤ 1024) ⌝ }
     ensures { λ _. ⌜ now (symbols .exit) ≡ now (line .entry) ++ drop (length (now (line .entry))) (now (symbols .entry)) ⌝ }
@@ -65,24 +66,24 @@ fn load(symbols: &mut [u8; 1024], line: &[u8])
     }
 }
 
-// The first n symbols, to the front of the output.
-fn hand_out(symbols: &[u8; 1024], n: usize, output: &mut [u8])
+// The operators of the first n symbols, to the front of the output.
+fn hand_out(symbols: &[u32; 1024], n: usize, output: &mut [u8])
     requires { ⌜ (length (now symbols) ≡ 1024) × (n ≤ 1024) × (1024 ≤ length (now output)) ⌝ }
-    ensures { λ _. ⌜ now (output .exit) ≡ take n (now (symbols .entry)) ++ drop n (now (output .entry)) ⌝ }
+    ensures { λ _. ⌜ now (output .exit) ≡ S.operators (take n (now (symbols .entry))) ++ drop n (now (output .entry)) ⌝ }
 {
     let mut i = 0;
     while i < n {
-        output[i] = symbols[i];
+        output[i] = symbol::operator(symbols[i]);
         i += 1;
     }
 }
 
-// The run of the term in front of the symbols. The work area is cleared whole behind it.
+// The run of the term in front of the line, whose symbols get their sizes here. The work area is cleared whole behind it.
 fn post(
     book: &[u8],
     operators: &[u8; 4352],
     rules: &[u32; 1024],
-    symbols: &mut [u8; 1024],
+    line: &[u8; 1024],
     length: usize,
     units: u8,
     budget: u32,
@@ -91,12 +92,14 @@ fn post(
     output: &mut [u8],
 ) -> Run
     requires { ⌜ C.Framed (now book) units (now work) (now output) ⌝ }
-    requires { ⌜ C.Loaded (now book) (now operators) (now rules) (now symbols) length ⌝ }
+    requires { ⌜ C.Loaded (now book) (now operators) (now rules) (now line) length ⌝ }
     requires { ⌜ all-below units (now schedule) ≡ true ⌝ }
-    ensures { λ r. ⌜ R.Reduced (now (book .entry)) (take length (now (symbols .entry))) units budget (day-in (now (rules .entry)))
+    ensures { λ r. ⌜ R.Reduced (now (book .entry)) (take length (now (line .entry))) units budget (day-in (now (rules .entry)))
         (now (schedule .entry)) (now (work .entry)) (now (output .entry)) (now (work .exit)) (now (output .exit)) (D.Answer.Ran r) ⌝ }
 {
-    let mut scratch = [0; 1024];
+    let mut symbols = [0u32; 1024];
+    term::load(&mut symbols, operators, line, length);
+    let mut scratch = [0u32; 1024];
     let mut cells = [0; 8];
     units::start(work, &mut cells);
     let limits = Limits {
@@ -107,15 +110,14 @@ fn post(
         book,
         operators,
         rules,
-        symbols,
+        &mut symbols,
         &mut scratch,
         work,
         &mut cells,
-        length,
         limits,
         schedule,
     );
-    hand_out(symbols, run.length, output);
+    hand_out(&symbols, run.length, output);
     units::clear(work);
     run
 }
@@ -125,7 +127,7 @@ fn run_checked(
     book: &[u8],
     operators: &[u8; 4352],
     rules: &[u32; 1024],
-    symbols: &mut [u8; 1024],
+    line: &[u8; 1024],
     length: usize,
     units: u8,
     budget: u32,
@@ -134,8 +136,8 @@ fn run_checked(
     output: &mut [u8],
 ) -> Answer
     requires { ⌜ C.Framed (now book) units (now work) (now output) ⌝ }
-    requires { ⌜ C.Loaded (now book) (now operators) (now rules) (now symbols) length ⌝ }
-    ensures { λ r. ⌜ R.Reduced (now (book .entry)) (take length (now (symbols .entry))) units budget (day-in (now (rules .entry)))
+    requires { ⌜ C.Loaded (now book) (now operators) (now rules) (now line) length ⌝ }
+    ensures { λ r. ⌜ R.Reduced (now (book .entry)) (take length (now (line .entry))) units budget (day-in (now (rules .entry)))
         (now (schedule .entry)) (now (work .entry)) (now (output .entry)) (now (work .exit)) (now (output .exit)) r ⌝ }
 {
     if !names_units(schedule, units) {
@@ -145,7 +147,7 @@ fn run_checked(
         book,
         operators,
         rules,
-        symbols,
+        line,
         length,
         units,
         budget,
@@ -178,11 +180,11 @@ fn read_term(
     }
 }
 
-// A book of at most 65,536 bytes.
+// A book of at most 65,536 bytes. The line or text that is given is read into a line of its own.
 fn reduce_book(
     form: Form,
     book: &[u8],
-    line: &[u8],
+    given: &[u8],
     units: u8,
     budget: u32,
     day: u16,
@@ -191,21 +193,21 @@ fn reduce_book(
     output: &mut [u8],
 ) -> Answer
     requires { ⌜ C.Framed (now book) units (now work) (now output) ⌝ }
-    ensures { λ r. ⌜ R.ReducedBy (R.reader form) (now (book .entry)) (now (line .entry)) units budget day (now (schedule .entry)) (now (work .entry))
+    ensures { λ r. ⌜ R.ReducedBy (R.reader form) (now (book .entry)) (now (given .entry)) units budget day (now (schedule .entry)) (now (work .entry))
         (now (output .entry)) (now (work .exit)) (now (output .exit)) r ⌝ }
 {
     let mut operators = [0u8; tables::OPERATORS];
     let mut rules = [0u32; tables::RULES];
-    let mut symbols = [0u8; 1024];
+    let mut line = [0u8; 1024];
     match book::read_book(book, day, &mut operators, &mut rules) {
         Book::Refused(k) => Answer::Refused(k),
-        Book::Read(n) => match read_term(form, line, n, &operators, &mut symbols) {
+        Book::Read(n) => match read_term(form, given, n, &operators, &mut line) {
             Text::Refused(k) => Answer::Refused(k),
             Text::Read(length) => run_checked(
                 book,
                 &operators,
                 &rules,
-                &mut symbols,
+                &line,
                 length,
                 units,
                 budget,

@@ -7,10 +7,9 @@ use mathlib.Core.Logic.{inl, inr}
 use mathlib.Core.Option.{none, some}
 use Prim.Native.Nat.{ℕ, zero, suc, _+_, _*_, _-_, _≤_, _<_}
 use native.Mathlib.Omega.{arith}
-use lib.ListN.{length, getD, take, drop, length-drop}
+use lib.ListN.{length, getD, drop, length-drop}
 use types.Run.{OneOf}
 use denote.Enum.Declared.{tagOf}
-use lib.Seq.{length-take-le, getD-take}
 use Rattle.paper.specs.Strategy.{Step}
 use Rattle.paper.specs.Book.{Book, arity, steps}
 use Rattle.paper.specs.Machine as paper
@@ -24,12 +23,16 @@ use Rattle.flat.proofs.Rules as reached
 use Rattle.flat.proofs.Inside.{room-next}
 use Rattle.flat.proofs.Run.{reached-inv}
 use Rattle.flat.proofs.Tops.{stack-some}
-use Rattle.tables.specs.Layout.{step, step-of, code-in, steps-in, Rowed}
+use Rattle.symbol.specs.Record.{operator}
+use Rattle.symbol.proofs.Record.{front-length, operator-front}
+use Rattle.tables.specs.Layout.{step, step-of, code-in, arity-in, steps-in, Rowed}
 use Rattle.tables.specs.Tables.{book-of}
 use Rattle.tables.specs.declared.Step as D
 use Rattle.tables.proofs.Step.{the-type}
 use Rattle.tables.proofs.Rows.{here-is}
 use Rattle.tables.proofs.Laws.{all-at, steps-at, rowed-at}
+use Rattle.term.specs.Present.{length-in, Sized}
+use Rattle.term.proofs.Skipping.{sizes-book, spells-book}
 use Rattle.units.specs.Stacks.{store, height-in, busy-in, unit-in}
 use Rattle.units.specs.Contracts.{Top-is, Has-frame}
 use Rattle.units.specs.declared.frames.Job.{Job}
@@ -41,7 +44,7 @@ use Rattle.entry.specs.State.{limited, state, Arrays}
 use Rattle.entry.specs.Contracts.{Running, Turn, Working}
 
 -- a state of a run, and unit u whose turn it is
-module _ {bytes operators rules symbols scratch work units : List ℕ} {u : ℕ} {p : Progress} {l : Limits} (z : Arrays symbols scratch work units p l)
+module _ {bytes operators rules symbols scratch work units : List ℕ} {u : ℕ} {p : Progress} {l : Limits} (z : Arrays symbols scratch work units l)
     (r : Running bytes operators rules l (state symbols work units p l)) (t : Turn l u (state symbols work units p l)) where
   abbrev pub B : Book
   B = book-of bytes rules
@@ -66,8 +69,19 @@ module _ {bytes operators rules symbols scratch work units : List ℕ} {u : ℕ}
   pub numbers-hold : Numbers s
   numbers-hold = reached.numbers B (r .tables .tables .good) L s rules-hold
 
-  pub length-is : length (s .symbols) ≡ p .length
-  length-is = length-take-le (p .length) symbols (omega (arith, z .most, z .symbols-long))
+  pub length-is : length (s .symbols) ≡ length-in symbols
+  length-is = front-length operator (length-in symbols) symbols (omega (arith, z .most, z .symbols-long))
+
+  -- the present term has true sizes by the table's arities too
+  pub sized : Sized (arity-in operators) symbols
+  sized =
+      let t = r .tables .tables .operators-in in
+      record {
+        long = z .symbols-long;
+        most = z .most;
+        term = spells-book B t 1 (s .symbols) (r .known) ∙ rules-hold .term;
+        true-sizes = rules-hold .sizes ∙ sym (sizes-book B t (s .symbols) (r .known));
+      }
 
   pub unit-small : u < 8
   unit-small = omega (arith, z .few, t .one)
@@ -81,9 +95,6 @@ module _ {bytes operators rules symbols scratch work units : List ℕ} {u : ℕ}
 
   pub stack-kept : (v : ℕ) → v < l .units → unit-in (store work units) v .stack ≡ stack s v
   stack-kept v h = sym (ap (λ (x : FlatUnit). x .stack) (unit-at work units (l .units) v h))
-
-  pub symbol-at : (a : ℕ) → a < p .length → getD (s .symbols) a 0 ≡ getD symbols a 0
-  symbol-at a h = getD-take (p .length) symbols a 0 h
 
   pub stack-there : (v : ℕ) → 0 < length (stack s v)
   stack-there v = stack-some (reached-inv B L is-sound is-settled (r .reached)) v
@@ -127,12 +138,12 @@ module _ {bytes operators rules symbols scratch work units : List ℕ} {u : ℕ}
 
   module _ {x : Job} (w : Working work units u x) where
     abbrev pub o : ℕ
-    o = getD symbols (x .offset) 0
+    o = operator (getD symbols (x .offset) 0)
 
     pub job-in : In (Frame.job (x .offset) (x .next) (x .count)) (stack s u)
     job-in = top-in (w .busy) (w .top)
 
-    pub offset-inside : x .offset < p .length
+    pub offset-inside : x .offset < length-in symbols
     offset-inside = omega (arith, rules-hold .offsets u (x .offset) (x .next) (x .count) job-in, length-is)
 
     pub next-most : x .next ≤ 15
@@ -142,7 +153,7 @@ module _ {bytes operators rules symbols scratch work units : List ℕ} {u : ℕ}
     count-most = numbers-hold .count-most u (x .offset) (x .next) (x .count) job-in
 
     pub operator-is : getD (s .symbols) (x .offset) 0 ≡ o
-    operator-is = symbol-at (x .offset) offset-inside
+    operator-is = operator-front (length-in symbols) symbols (x .offset) offset-inside
 
     pub operator-known : o < length (B .operators)
     operator-known =

@@ -28,7 +28,7 @@ use Rattle.entry.specs.Contracts.{Running, Turn, Working, forked}
 use Rattle.entry.proofs.Facts as F
 use Rattle.entry.proofs.Orders as orders
 
-module _ {bytes operators rules symbols scratch work units : List ℕ} {u : ℕ} {p : Progress} {l : Limits} (z : Arrays symbols scratch work units p l)
+module _ {bytes operators rules symbols scratch work units : List ℕ} {u : ℕ} {p : Progress} {l : Limits} (z : Arrays symbols scratch work units l)
     (r : Running bytes operators rules l (state symbols work units p l)) (t : Turn l u (state symbols work units p l)) {x : Job}
     (w : Working work units u x) (one : 1 ≤ x .next) {i : ℕ} (e : some (Step.fork i) ≡ step-of (code-in operators (F.o z r t w) (x .next - 1))) where
   abbrev s : FlatState
@@ -48,11 +48,11 @@ module _ {bytes operators rules symbols scratch work units : List ℕ} {u : ℕ}
       fork-within (F.B z r t) (r .tables .tables .good) (F.o z r t w) (x .next - 1) i (drop (x .next) (steps (F.B z r t) (F.o z r t w)))
       (F.operator-known z r t w) (F.step-is z r t w one e)
 
-  pub fork-place : O.Argument-rowed operators symbols (p .length) x i
+  pub fork-place : O.Argument-rowed operators symbols x i
   fork-place = orders.argument-asks z r t w one fork-there
 
   there : argument-by (F.B z r t) (s .symbols) x i .offset < length (s .symbols)
-  there = omega (arith, orders.argument-there z r t w one fork-there, F.length-is z r t)
+  there = orders.argument-there z r t w one fork-there
 
   said : a ≡ argument-by (F.B z r t) (s .symbols) x i
   said = argument-said (r .tables .tables) (s .symbols) (r .known) x i there
@@ -102,14 +102,10 @@ module _ {bytes operators rules symbols scratch work units : List ℕ} {u : ℕ}
   counted work′ units′ true = refl
   counted work′ units′ false = refl
 
-  forked-arrays : {work′ units′ : List ℕ} (g : Bool) → Arrays symbols scratch work′ units′ p l → Arrays symbols scratch work′ units′ (forked p g) l
-  forked-arrays true h = record { symbols-long = h .symbols-long; scratch-long = h .scratch-long; most = h .most; fit = h .fit; few = h .few }
-  forked-arrays false h = record { symbols-long = h .symbols-long; scratch-long = h .scratch-long; most = h .most; fit = h .fit; few = h .few }
-
   pub fork-entered : {work′ units′ : List ℕ} {g : Bool} → O.Forked ss x a (l .units) u (store work units) (store work′ units′) g → (p′ : Progress) → p′ ≡ forked p g →
-      (going (state symbols work′ units′ p′ l) ≡ flat-entry (F.B z r t) (F.L z r t) u s) × Arrays symbols scratch work′ units′ p′ l
+      (going (state symbols work′ units′ p′ l) ≡ flat-entry (F.B z r t) (F.L z r t) u s) × Arrays symbols scratch work′ units′ l
   fork-entered {work′} {units′} {g} d p′ h =
-      subst (λ (q : Progress). (going (state symbols work′ units′ q l) ≡ flat-entry (F.B z r t) (F.L z r t) u s) × Arrays symbols scratch work′ units′ q l) (sym h) (
+      subst (λ (q : Progress). (going (state symbols work′ units′ q l) ≡ flat-entry (F.B z r t) (F.L z r t) u s) × Arrays symbols scratch work′ units′ l) (sym h) (
         sym (
             F.entry-is z r t (w .busy) (w .top)
             ∙ entries.fork-entry (F.B z r t) (F.L z r t) u (l .units) s (store work units) refl (t .one) _ fs (F.unit-is z r t (w .busy) (w .top)) (r .tables .tables)
@@ -118,5 +114,5 @@ module _ {bytes operators rules symbols scratch work units : List ℕ} {u : ℕ}
             (subst (λ (q : ℕ). O.Forked (steps-in operators q) x a (l .units) u (store work units) (store work′ units′) g) (sym (F.operator-is z r t w)) d)
             ∙ ap (λ (y : FlatState). going y) (counted work′ units′ g)
             ),
-        forked-arrays g (record { symbols-long = z .symbols-long; scratch-long = z .scratch-long; most = z .most; fit = d .fit; few = z .few }),
+        record { symbols-long = z .symbols-long; scratch-long = z .scratch-long; most = z .most; fit = d .fit; few = z .few },
       )

@@ -6,7 +6,7 @@ use mathlib.Core.List.{List, _∷_}
 use mathlib.Core.Option.{some}
 use Prim.Native.Nat.{ℕ, zero, suc, _-_, _≤_, _<_}
 use native.Mathlib.Omega.{arith}
-use lib.ListN.{length, getD, take, drop}
+use lib.ListN.{length, getD, drop}
 use lib.Seq.{getD-set-same}
 use Rattle.paper.specs.Strategy.{Step}
 use Rattle.paper.specs.Book.{arity, steps}
@@ -14,7 +14,8 @@ use Rattle.paper.specs.Machine.{Ending}
 use Rattle.flat.specs.Symbols.{Hit, argument, rewrite}
 use Rattle.flat.specs.Machine.{Frame, FlatUnit, flat-unit, asleep, unit, FlatState, going, ended, with-unit, with-units, carry-out, flat-entry, do-step, visit}
 use Rattle.flat.specs.Rules.{stack}
-use Rattle.flat.proofs.Inside.{argument-inside, visit-within, exit-unit}
+use Rattle.flat.proofs.Inside.{visit-within, exit-unit}
+use Rattle.flat.proofs.Sizes.{arguments-inside}
 use Rattle.tables.specs.Layout.{step-of, code-in, steps-in, Rowed}
 use Rattle.units.specs.Stacks.{store, busy-in, units-in, unit-in}
 use Rattle.units.specs.Contracts.{Top-is, Stacks-fit, Has-frame, Cell-changed, idled}
@@ -29,14 +30,14 @@ use Rattle.entry.specs.State.{state, Arrays}
 use Rattle.entry.specs.Contracts.{Running, Turn, Working}
 use Rattle.entry.proofs.Facts as F
 
-module _ {bytes operators rules symbols scratch work units : List ℕ} {u : ℕ} {p : Progress} {l : Limits} (z : Arrays symbols scratch work units p l)
+module _ {bytes operators rules symbols scratch work units : List ℕ} {u : ℕ} {p : Progress} {l : Limits} (z : Arrays symbols scratch work units l)
     (r : Running bytes operators rules l (state symbols work units p l)) (t : Turn l u (state symbols work units p l)) where
   abbrev s : FlatState
   s = state symbols work units p l
 
   -- the run goes on from other units
   abbrev pub GoesOn : List ℕ → List ℕ → Type 0
-  GoesOn work′ units′ = (going (state symbols work′ units′ p l) ≡ flat-entry (F.B z r t) (F.L z r t) u s) × Arrays symbols scratch work′ units′ p l
+  GoesOn work′ units′ = (going (state symbols work′ units′ p l) ≡ flat-entry (F.B z r t) (F.L z r t) u s) × Arrays symbols scratch work′ units′ l
 
   pub went-on : {work′ units′ : List ℕ} → Stacks-fit (store work′ units′) →
       flat-entry (F.B z r t) (F.L z r t) u s ≡ going (with-units s (units-in (store work′ units′) (l .units))) → GoesOn work′ units′
@@ -49,7 +50,7 @@ module _ {bytes operators rules symbols scratch work units : List ℕ} {u : ℕ}
 
   -- BINGO
   pub finished : busy-in units u ≡ true → Top-is u Frame.bingo (store work units) →
-      (ended Ending.finished s ≡ flat-entry (F.B z r t) (F.L z r t) u s) × Arrays symbols scratch work units p l
+      (ended Ending.finished s ≡ flat-entry (F.B z r t) (F.L z r t) u s) × Arrays symbols scratch work units l
   unfolding carry-out
   finished b top = (sym (F.entry-is z r t b top), z)
 
@@ -134,17 +135,14 @@ module _ {bytes operators rules symbols scratch work units : List ℕ} {u : ℕ}
 
       -- argument i of its term, if it has one
       module _ {i : ℕ} (there : i < arity (F.B z r t) o) where
-        pub argument-there : argument-by (F.B z r t) (s .symbols) x i .offset < p .length
+        pub argument-there : argument-by (F.B z r t) (s .symbols) x i .offset < length (s .symbols)
         argument-there =
-            omega (
-              arith,
-              F.length-is z r t,
-              argument-inside (arity (F.B z r t)) (s .symbols) (x .offset) i (F.rules-hold z r t .term) inside (by-operator (λ (q : ℕ). i < arity (F.B z r t) q) there),
-            )
+            arguments-inside (arity (F.B z r t)) (s .symbols) (x .offset) i (F.rules-hold z r t .term) inside (by-operator (λ (q : ℕ). i < arity (F.B z r t) q) there)
 
-        pub argument-asks : O.Argument-rowed operators symbols (p .length) x i
+        pub argument-asks : O.Argument-rowed operators symbols x i
         argument-asks =
-            argument-place (r .tables .tables) symbols (p .length) x i (r .known) (z .symbols-long) (z .most) (F.offset-inside z r t w) argument-there
+            argument-place (r .tables .tables) symbols x i (r .known) (F.sized z r t) (F.offset-inside z r t w)
+            (by-operator (λ (q : ℕ). i < arity (F.B z r t) q) there)
 
       -- VISIT of argument i
       module _ {i : ℕ} (e : some (Step.visit i) ≡ step-of (code-in operators o (x .next - 1))) where
@@ -153,7 +151,7 @@ module _ {bytes operators rules symbols scratch work units : List ℕ} {u : ℕ}
             visit-within (F.B z r t) (r .tables .tables .good) o (x .next - 1) i (drop (x .next) (steps (F.B z r t) o)) (F.operator-known z r t w)
             (F.step-is z r t w one e)
 
-        pub visit-place : O.Argument-rowed operators symbols (p .length) x i
+        pub visit-place : O.Argument-rowed operators symbols x i
         visit-place = argument-asks visit-there
 
         abbrev a : O.Argument
@@ -163,7 +161,7 @@ module _ {bytes operators rules symbols scratch work units : List ℕ} {u : ℕ}
         visit-fits : O.Room-for (O.visits (steps-in operators o) x a) u (store work units)
         unfolding do-step visit
         visit-fits =
-            let said = argument-said (r .tables .tables) (s .symbols) (r .known) x i (omega (arith, argument-there visit-there, F.length-is z r t)) in
+            let said = argument-said (r .tables .tables) (s .symbols) (r .known) x i (argument-there visit-there) in
             subst₂ (λ (b : O.Argument) (gs : List Frame). length (O.visits (steps-in operators o) x b gs) ≤ 1026) (sym said)
             (sym (F.stack-kept z r t u (t .one)))
             (next-fits true (O.visits (steps-in operators o) x (argument-by (F.B z r t) (s .symbols) x i) (stack s u)) (step-entry e))
@@ -178,7 +176,7 @@ module _ {bytes operators rules symbols scratch work units : List ℕ} {u : ℕ}
             ∙ entries.visit-argument-entry (F.B z r t) (F.L z r t) u (l .units) s (store work units) refl (t .one) _ fs (F.unit-is z r t (w .busy) (w .top))
             (r .tables .tables) (r .known) x inside one (omega (arith, F.next-most z r t w)) i
             (by-operator (λ (q : ℕ). some (Step.visit i) ≡ step-of (code-in operators q (x .next - 1))) e)
-            (omega (arith, argument-there visit-there, F.length-is z r t))
+            (argument-there visit-there)
             (by-operator (λ (q : ℕ). O.Argument-visited (steps-in operators q) x a u (store work units) (store work′ units′)) d))
 
       -- JOIN

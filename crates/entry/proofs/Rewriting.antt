@@ -8,7 +8,7 @@ use mathlib.Core.Bool.{true, false}
 use Prim.Native.Nat.{ℕ, suc, _+_, _-_, _^_, _≤_, _<_}
 use native.Mathlib.Nat.{le-trans}
 use native.Mathlib.Omega.{arith}
-use lib.ListN.{length, getD, take, drop}
+use lib.ListN.{length, drop}
 use Rattle.paper.specs.Strategy.{Step}
 use Rattle.paper.specs.Book.{Book, arity}
 use Rattle.paper.specs.Machine as paper
@@ -20,6 +20,7 @@ use Rattle.flat.specs.Machine.{Frame, FlatUnit, unit, FlatState, FlatOutcome, g
 use Rattle.flat.specs.Rules.{stack, Rules}
 use Rattle.flat.proofs.Tallies.{Tallied, tallied-next}
 use Rattle.tables.specs.Layout.{step-of, code-in, steps-in, Rowed}
+use Rattle.term.specs.Present.{length-in}
 use Rattle.units.specs.Stacks.{store, Below, Offsets, units-in}
 use Rattle.units.proofs.Units.{at-is}
 use Rattle.units.specs.declared.frames.Job.{Job}
@@ -41,17 +42,21 @@ all-units : (P : FlatUnit → Type 0) (us : List FlatUnit) → ((v : ℕ) → P 
 all-units P [] p = tt
 all-units P (x ∷ us) p = (p 0, all-units P us (λ v. p (suc v)))
 
+-- offsets of a stack, by those of its jobs
+offsets-of : (m : ℕ) (fs : List Frame) → ((a k c : ℕ) → In (Frame.job a k c) fs → a < m) → Offsets m fs
+offsets-of m fs h = all-of _ fs below
+  where
+    below : (f : Frame) → In f fs → Below m f
+    below (Frame.job a k c) i = h a k c i
+    below (Frame.exit w i) _ = tt
+    below Frame.sleep _ = tt
+    below Frame.bingo _ = tt
+
 -- the jobs of all units are inside the term
 offsets-inside : {B : Book} {L : paper.Limits} {s : FlatState} → Rules B L s → All (λ (x : FlatUnit). Offsets (length (s .symbols)) (x .stack)) (s .units)
-offsets-inside {s = s} r = all-units _ (s .units) (λ v. all-of _ (stack s v) (inside v))
-  where
-    inside : (v : ℕ) (f : Frame) → In f (stack s v) → Below (length (s .symbols)) f
-    inside v (Frame.job a k c) i = r .offsets v a k c i
-    inside v (Frame.exit w i) _ = tt
-    inside v Frame.sleep _ = tt
-    inside v Frame.bingo _ = tt
+offsets-inside {s = s} r = all-units _ (s .units) (λ v. offsets-of (length (s .symbols)) (stack s v) (r .offsets v))
 
-module _ {bytes operators rules symbols scratch work units : List ℕ} {u : ℕ} {p : Progress} {l : Limits} (z : Arrays symbols scratch work units p l)
+module _ {bytes operators rules symbols scratch work units : List ℕ} {u : ℕ} {p : Progress} {l : Limits} (z : Arrays symbols scratch work units l)
     (r : Running bytes operators rules l (state symbols work units p l)) (t : Turn l u (state symbols work units p l)) {x : Job}
     (w : Working work units u x) (n : Next operators symbols x Step.whole) {y : Place} (at : y .unit ≡ u) (off : y .offset ≡ x .offset) where
   abbrev s : FlatState
@@ -59,22 +64,30 @@ module _ {bytes operators rules symbols scratch work units : List ℕ} {u : ℕ}
 
   -- WHAT IS ASKED
 
-  pub whole-present : Present bytes operators rules symbols (p .length) (y .offset)
+  pub whole-present : Present bytes operators rules symbols (y .offset)
   whole-present = record {
     tables = r .tables;
     short = le-trans (r .short) (omega arith);
-    long = z .symbols-long;
-    most = z .most;
+    sized = F.sized z r t;
     inside = omega (arith, off, F.offset-inside z r t w);
     known = r .known;
   }
 
-  pub units-due : W.Units-due (store work units) (l .units) y (p .length)
+  -- with one unit the jobs below stand before the one on top
+  before : l .units ≡ 1 → Offsets (y .offset) (drop 1 (stack s (y .unit)))
+  before one =
+      let e : u ≡ 0 = omega (arith, t .one) in
+      let top = subst (λ (v : ℕ). stack s v ≡ Frame.job (x .offset) (x .next) (x .count) ∷ drop 1 (stack s v)) e (F.stack-is z r t (w .busy) (w .top)) in
+      subst₂ (λ (a v : ℕ). Offsets a (drop 1 (stack s v))) (sym off) (sym (at ∙ e))
+      (offsets-of (x .offset) (drop 1 (stack s 0)) (F.rules-hold z r t .alone (F.units-count z r t ∙ one) (x .offset) (x .next) (x .count) (drop 1 (stack s 0)) top))
+
+  pub units-due : W.Units-due (store work units) (l .units) y (length-in symbols)
   units-due = record {
     few = z .few;
     one = omega (arith, at, t .one);
     top = rw at (F.has-frame z r t);
     offsets = subst (λ (k : ℕ). All (λ (q : FlatUnit). Offsets k (q .stack)) (s .units)) (F.length-is z r t) (offsets-inside (F.rules-hold z r t));
+    alone = before;
   }
 
   -- WHAT IS ANSWERED
@@ -99,33 +112,33 @@ module _ {bytes operators rules symbols scratch work units : List ℕ} {u : ℕ}
     -- the budget is used up; the term would be too long: nothing has changed
     module _ (scratch′ : List ℕ) (long : length scratch′ ≡ 1024) where
       pub whole-spent : W.Carried-out (F.B z r t) y p l (whole.arrays symbols work units) (whole.arrays symbols′ work′ units) D.Whole.Spent →
-          (ended Ending.spent (state symbols′ work′ units p l) ≡ flat-entry (F.B z r t) (F.L z r t) u s) × Arrays symbols′ scratch′ work′ units p l
+          (ended Ending.spent (state symbols′ work′ units p l) ≡ flat-entry (F.B z r t) (F.L z r t) u s) × Arrays symbols′ scratch′ work′ units l
       whole-spent d = (
         ap (λ (q : whole.Arrays). ended Ending.spent (whole.state q p l)) (d .stays) ∙ sym (outcome-is D.Whole.Spent d),
-        record { symbols-long = d .long; scratch-long = long; most = z .most; fit = d .fit; few = z .few },
+        record { symbols-long = d .long; scratch-long = long; most = d .most; fit = d .fit; few = z .few },
       )
 
       pub whole-full : W.Carried-out (F.B z r t) y p l (whole.arrays symbols work units) (whole.arrays symbols′ work′ units) D.Whole.Full →
-          (ended Ending.full (state symbols′ work′ units p l) ≡ flat-entry (F.B z r t) (F.L z r t) u s) × Arrays symbols′ scratch′ work′ units p l
+          (ended Ending.full (state symbols′ work′ units p l) ≡ flat-entry (F.B z r t) (F.L z r t) u s) × Arrays symbols′ scratch′ work′ units l
       whole-full d = (
         ap (λ (q : whole.Arrays). ended Ending.full (whole.state q p l)) (d .stays) ∙ sym (outcome-is D.Whole.Full d),
-        record { symbols-long = d .long; scratch-long = long; most = z .most; fit = d .fit; few = z .few },
+        record { symbols-long = d .long; scratch-long = long; most = d .most; fit = d .fit; few = z .few },
       )
 
     -- a rule rewrote the term
-    module _ {k : ℕ} (d : W.Carried-out (F.B z r t) y p l (whole.arrays symbols work units) (whole.arrays symbols′ work′ units) (D.Whole.Rewrote k)) where
+    module _ (d : W.Carried-out (F.B z r t) y p l (whole.arrays symbols work units) (whole.arrays symbols′ work′ units) D.Whole.Rewrote) where
       -- the budget was not used up
       pub rewrites-left : p .rewrites < l .budget
       rewrites-left =
           tallied-next (F.B z r t) (F.L z r t) u s {n = s .granted + s .kept} (record { allowed = t .allowed; forks = omega arith })
-          (outcome-is (D.Whole.Rewrote k) d) .allowed
+          (outcome-is D.Whole.Rewrote d) .allowed
 
-      pub whole-rewrote : (scratch′ : List ℕ) → length scratch′ ≡ 1024 → (p′ : Progress) → p′ ≡ whole.progress p (D.Whole.Rewrote k) →
-          (going (state symbols′ work′ units p′ l) ≡ flat-entry (F.B z r t) (F.L z r t) u s) × Arrays symbols′ scratch′ work′ units p′ l
+      pub whole-rewrote : (scratch′ : List ℕ) → length scratch′ ≡ 1024 → (p′ : Progress) → p′ ≡ whole.progress p D.Whole.Rewrote →
+          (going (state symbols′ work′ units p′ l) ≡ flat-entry (F.B z r t) (F.L z r t) u s) × Arrays symbols′ scratch′ work′ units l
       whole-rewrote scratch′ long p′ e =
-          subst (λ (q : Progress). (going (state symbols′ work′ units q l) ≡ flat-entry (F.B z r t) (F.L z r t) u s) × Arrays symbols′ scratch′ work′ units q l) (sym e) (
-            sym (outcome-is (D.Whole.Rewrote k) d),
-            record { symbols-long = d .long; scratch-long = long; most = d .stays; fit = d .fit; few = z .few },
+          subst (λ (q : Progress). (going (state symbols′ work′ units q l) ≡ flat-entry (F.B z r t) (F.L z r t) u s) × Arrays symbols′ scratch′ work′ units l) (sym e) (
+            sym (outcome-is D.Whole.Rewrote d),
+            record { symbols-long = d .long; scratch-long = long; most = d .most; fit = d .fit; few = z .few },
           )
 
     -- no rule matches: nothing has changed yet, and the job goes on
@@ -141,7 +154,7 @@ module _ {bytes operators rules symbols scratch work units : List ℕ} {u : ℕ}
 
       pub whole-missed : (scratch′ : List ℕ) → length scratch′ ≡ 1024 → {work″ units″ : List ℕ} →
           O.Proceeded (steps-in operators (F.o z r t w)) x u (store work′ units) (store work″ units″) →
-          (going (state symbols′ work″ units″ p l) ≡ flat-entry (F.B z r t) (F.L z r t) u s) × Arrays symbols′ scratch′ work″ units″ p l
+          (going (state symbols′ work″ units″ p l) ≡ flat-entry (F.B z r t) (F.L z r t) u s) × Arrays symbols′ scratch′ work″ units″ l
       whole-missed scratch′ long {work″} {units″} q =
           let ss = steps-in operators (F.o z r t w) in
           let fs = F.below z r t (w .busy) (w .top) in
@@ -152,5 +165,5 @@ module _ {bytes operators rules symbols scratch work units : List ℕ} {u : ℕ}
           ∙ ap (λ (us : List FlatUnit). going (with-units s us))
           (sym (at-is u (s .units) (O.restack (O.goes-on ss x (x .count))) _ (F.unit-is z r t (w .busy) (w .top))) ∙ sym (c .change .units (l .units))) in (
             ap (λ (xs : List ℕ). going (state xs work″ units″ p l)) same-symbols ∙ sym e,
-            record { symbols-long = d .long; scratch-long = long; most = z .most; fit = c .change .fit; few = z .few },
+            record { symbols-long = d .long; scratch-long = long; most = d .most; fit = c .change .fit; few = z .few },
           )

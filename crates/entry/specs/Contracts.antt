@@ -10,6 +10,7 @@ use Rattle.paper.specs.Sound.{All}
 use Rattle.paper.specs.Strategy.{Step}
 use Rattle.flat.specs.Machine.{Frame, FlatState, FlatOutcome, going, ended, flat-entry}
 use Rattle.flat.specs.Run.{Reached}
+use Rattle.symbol.specs.Record.{operator}
 use Rattle.tables.specs.Layout.{step-of, code-in}
 use Rattle.tables.specs.Tables.{book-of, TablesOf}
 use Rattle.units.specs.Stacks.{busy-in, store}
@@ -50,8 +51,8 @@ outcome Entry.Full s = ended Ending.full s
 
 -- the progress behind a FORK that was granted or kept
 abbrev pub forked : Progress → Bool → Progress
-forked p true = record { length = p .length; rewrites = p .rewrites; granted = suc (p .granted); kept = p .kept }
-forked p false = record { length = p .length; rewrites = p .rewrites; granted = p .granted; kept = suc (p .kept) }
+forked p true = record { rewrites = p .rewrites; granted = suc (p .granted); kept = p .kept }
+forked p false = record { rewrites = p .rewrites; granted = p .granted; kept = suc (p .kept) }
 
 -- the unit u is busy with the job x on top of its stack
 pub record Working (work units : List ℕ) (u : ℕ) (x : Job) : Type 0 where
@@ -61,7 +62,7 @@ pub record Working (work units : List ℕ) (u : ℕ) (x : Job) : Type 0 where
 -- the job's next order is the step y of its operator, as the table has it
 pub record Next (operators symbols : List ℕ) (x : Job) (y : Step) : Type 0 where
   pub one : 1 ≤ x .next
-  pub is : some y ≡ step-of (code-in operators (getD symbols (x .offset) 0) (x .next - 1))
+  pub is : some y ≡ step-of (code-in operators (operator (getD symbols (x .offset) 0)) (x .next - 1))
 
 -- what the machine on lists does for unit u in the state s
 abbrev pub entered : List ℕ → List ℕ → Limits → ℕ → FlatState → FlatOutcome

@@ -8,6 +8,7 @@ use lib.ListN.{length}
 use Rattle.paper.specs.Line.{symbol-limit}
 use Rattle.paper.specs.Machine as paper
 use Rattle.flat.specs.Machine.{FlatState}
+use Rattle.term.specs.Present.{length-in}
 use Rattle.units.specs.Stacks.{store}
 use Rattle.units.specs.Contracts.{Stacks-fit}
 use Rattle.whole.specs.State as whole
@@ -22,9 +23,9 @@ abbrev pub state : List ℕ → List ℕ → List ℕ → Progress → Limits �
 state symbols work units p l = whole.state (whole.arrays symbols work units) p l
 
 -- the arrays' lengths, and that what is kept lies within them; scratch is room for a filled right side
-pub record Arrays (symbols scratch work units : List ℕ) (p : Progress) (l : Limits) : Type 0 where
+pub record Arrays (symbols scratch work units : List ℕ) (l : Limits) : Type 0 where
   pub symbols-long : length symbols ≡ 1024
   pub scratch-long : length scratch ≡ 1024
-  pub most : p .length ≤ 1024
+  pub most : length-in symbols ≤ 1024
   pub fit : Stacks-fit (store work units)
   pub few : l .units ≤ 8

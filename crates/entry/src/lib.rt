@@ -12,6 +12,7 @@ ghost use Prim.Native.Nat.{_+_, _-_, _^_, _≤_, _<_};
 ghost use lib.ListN.{getD};
 ghost use Rattle.paper.specs.Strategy as P;
 ghost use Rattle.flat.specs.Machine.{FlatState, flat-entry};
+ghost use Rattle.symbol.specs.Record.{operator};
 ghost use Rattle.tables.specs.Layout.{step-of, code-in};
 ghost use Rattle.tables.specs.Tables.{book-of};
 ghost use Rattle.whole.specs.State.{progress};
@@ -27,10 +28,11 @@ pub enum Entry {
     Full,
 }
 
-// The unit whose turn it is, and the job on top of its stack.
+// The unit whose turn it is, the job on top of its stack, and the operator of the job's term, which is read once.
 struct Task {
     unit: usize,
     job: Job,
+    operator: u8,
 }
 
 // A FORK has been carried out.
@@ -47,13 +49,12 @@ fn forked(p: Progress, granted: bool) -> Progress
     next
 }
 
-// A rewrite has been made, and so many symbols are present now.
-fn rewritten(p: Progress, length: usize) -> Progress
+// A rewrite has been made.
+fn rewritten(p: Progress) -> Progress
     requires { ⌜ p .rewrites + 1 < 2 ^ 32 ⌝ }
-    ensures { λ r. ⌜ r ≡ progress p (W.Whole.Rewrote length) ⌝ }
+    ensures { λ r. ⌜ r ≡ progress p W.Whole.Rewrote ⌝ }
 {
     Progress {
-        length,
         rewrites: p.rewrites + 1,
         granted: p.granted,
         kept: p.kept,
@@ -65,26 +66,26 @@ fn rewrite(
     book: &[u8],
     operators: &[u8; 4352],
     rules: &[u32; 1024],
-    symbols: &mut [u8; 1024],
-    scratch: &mut [u8; 1024],
+    symbols: &mut [u32; 1024],
+    scratch: &mut [u32; 1024],
     work: &mut [u8],
-    units: &mut [u16; 8],
+    units: &mut [u32; 8],
     task: Task,
     p: Progress,
     l: Limits,
 ) -> Entry
     ghost { FlatState }
     requires { λ s. ⌜ S.state (now symbols) (now work) (now units) p l ≡ s ⌝ }
-    requires { λ s. ⌜ S.Arrays (now symbols) (now scratch) (now work) (now units) p l ⌝ }
-    requires { λ s. ⌜ E.Running (now book) (now operators) (now rules) l s × E.Turn l (task .unit) s × E.Working (now work) (now units) (task .unit) (task .job) ⌝ }
+    requires { λ s. ⌜ S.Arrays (now symbols) (now scratch) (now work) (now units) l ⌝ }
+    requires { λ s. ⌜ E.Running (now book) (now operators) (now rules) l s × E.Turn l (task .unit) s × E.Working (now work) (now units) (task .unit) (task .job) × (task .operator ≡ operator (getD (now symbols) (task .job .offset) 0)) ⌝ }
     requires { λ s. ⌜ E.Next (now operators) (now symbols) (task .job) P.Step.whole ⌝ }
     ensures { λ s r. ⌜ E.outcome r (S.state (now (symbols .exit)) (now (work .exit)) (now (units .exit)) (E.after p r) l) ≡ E.entered (now (book .entry)) (now (rules .entry)) l (task .unit) s ⌝ }
-    ensures { λ s r. ⌜ S.Arrays (now (symbols .exit)) (now (scratch .exit)) (now (work .exit)) (now (units .exit)) (E.after p r) l ⌝ }
+    ensures { λ s r. ⌜ S.Arrays (now (symbols .exit)) (now (scratch .exit)) (now (work .exit)) (now (units .exit)) l ⌝ }
 {
     let u = task.unit;
     let job = task.job;
     let a = casts::offset(job.offset);
-    let o = symbols[a];
+    let o = task.operator;
     let place = Place { unit: u, offset: a };
     match whole::rewrite(
         book,
@@ -102,7 +103,7 @@ fn rewrite(
             orders::proceed(operators, work, units, u, o, job);
             Entry::Going(p)
         }
-        Whole::Rewrote(length) => Entry::Going(rewritten(p, length)),
+        Whole::Rewrote => Entry::Going(rewritten(p)),
         Whole::Spent => Entry::Spent,
         Whole::Full => Entry::Full,
     }
@@ -113,43 +114,32 @@ fn step(
     book: &[u8],
     operators: &[u8; 4352],
     rules: &[u32; 1024],
-    symbols: &mut [u8; 1024],
-    scratch: &mut [u8; 1024],
+    symbols: &mut [u32; 1024],
+    scratch: &mut [u32; 1024],
     work: &mut [u8],
-    units: &mut [u16; 8],
+    units: &mut [u32; 8],
     task: Task,
     p: Progress,
     l: Limits,
 ) -> Entry
     ghost { FlatState }
     requires { λ s. ⌜ S.state (now symbols) (now work) (now units) p l ≡ s ⌝ }
-    requires { λ s. ⌜ S.Arrays (now symbols) (now scratch) (now work) (now units) p l ⌝ }
-    requires { λ s. ⌜ E.Running (now book) (now operators) (now rules) l s × E.Turn l (task .unit) s × E.Working (now work) (now units) (task .unit) (task .job) ⌝ }
+    requires { λ s. ⌜ S.Arrays (now symbols) (now scratch) (now work) (now units) l ⌝ }
+    requires { λ s. ⌜ E.Running (now book) (now operators) (now rules) l s × E.Turn l (task .unit) s × E.Working (now work) (now units) (task .unit) (task .job) × (task .operator ≡ operator (getD (now symbols) (task .job .offset) 0)) ⌝ }
     requires { λ s. ⌜ 1 ≤ task .job .next ⌝ }
     ensures { λ s r. ⌜ E.outcome r (S.state (now (symbols .exit)) (now (work .exit)) (now (units .exit)) (E.after p r) l) ≡ E.entered (now (book .entry)) (now (rules .entry)) l (task .unit) s ⌝ }
-    ensures { λ s r. ⌜ S.Arrays (now (symbols .exit)) (now (scratch .exit)) (now (work .exit)) (now (units .exit)) (E.after p r) l ⌝ }
+    ensures { λ s r. ⌜ S.Arrays (now (symbols .exit)) (now (scratch .exit)) (now (work .exit)) (now (units .exit)) l ⌝ }
 {
     let u = task.unit;
     let job = task.job;
-    let o = symbols[casts::offset(job.offset)];
+    let o = task.operator;
     match tables::step_at(operators, o, job.next - 1) {
         Step::Visit(i) => {
-            orders::visit_argument(operators, symbols, p.length, work, units, u, o, job, i);
+            orders::visit_argument(operators, symbols, work, units, u, o, job, i);
             Entry::Going(p)
         }
         Step::Fork(i) => {
-            let granted = orders::fork(
-                operators,
-                symbols,
-                p.length,
-                work,
-                units,
-                l.units,
-                u,
-                o,
-                job,
-                i,
-            );
+            let granted = orders::fork(operators, symbols, work, units, l.units, u, o, job, i);
             Entry::Going(forked(p, granted))
         }
         Step::Join(_) => {
@@ -177,26 +167,25 @@ fn carry_out(
     book: &[u8],
     operators: &[u8; 4352],
     rules: &[u32; 1024],
-    symbols: &mut [u8; 1024],
-    scratch: &mut [u8; 1024],
+    symbols: &mut [u32; 1024],
+    scratch: &mut [u32; 1024],
     work: &mut [u8],
-    units: &mut [u16; 8],
+    units: &mut [u32; 8],
     task: Task,
     p: Progress,
     l: Limits,
 ) -> Entry
     ghost { FlatState }
     requires { λ s. ⌜ S.state (now symbols) (now work) (now units) p l ≡ s ⌝ }
-    requires { λ s. ⌜ S.Arrays (now symbols) (now scratch) (now work) (now units) p l ⌝ }
-    requires { λ s. ⌜ E.Running (now book) (now operators) (now rules) l s × E.Turn l (task .unit) s × E.Working (now work) (now units) (task .unit) (task .job) ⌝ }
+    requires { λ s. ⌜ S.Arrays (now symbols) (now scratch) (now work) (now units) l ⌝ }
+    requires { λ s. ⌜ E.Running (now book) (now operators) (now rules) l s × E.Turn l (task .unit) s × E.Working (now work) (now units) (task .unit) (task .job) × (task .operator ≡ operator (getD (now symbols) (task .job .offset) 0)) ⌝ }
     ensures { λ s r. ⌜ E.outcome r (S.state (now (symbols .exit)) (now (work .exit)) (now (units .exit)) (E.after p r) l) ≡ E.entered (now (book .entry)) (now (rules .entry)) l (task .unit) s ⌝ }
-    ensures { λ s r. ⌜ S.Arrays (now (symbols .exit)) (now (scratch .exit)) (now (work .exit)) (now (units .exit)) (E.after p r) l ⌝ }
+    ensures { λ s r. ⌜ S.Arrays (now (symbols .exit)) (now (scratch .exit)) (now (work .exit)) (now (units .exit)) l ⌝ }
 {
     let u = task.unit;
     let job = task.job;
     if job.next == 0 {
-        let o = symbols[casts::offset(job.offset)];
-        orders::visit(operators, work, units, u, o, job.offset);
+        orders::visit(operators, work, units, u, task.operator, job.offset);
         return Entry::Going(p);
     }
     step(
@@ -218,37 +207,44 @@ pub fn enter(
     book: &[u8],
     operators: &[u8; 4352],
     rules: &[u32; 1024],
-    symbols: &mut [u8; 1024],
-    scratch: &mut [u8; 1024],
+    symbols: &mut [u32; 1024],
+    scratch: &mut [u32; 1024],
     work: &mut [u8],
-    units: &mut [u16; 8],
+    units: &mut [u32; 8],
     u: usize,
     p: Progress,
     l: Limits,
 ) -> Entry
     ghost { FlatState }
     requires { λ s. ⌜ S.state (now symbols) (now work) (now units) p l ≡ s ⌝ }
-    requires { λ s. ⌜ S.Arrays (now symbols) (now scratch) (now work) (now units) p l ⌝ }
+    requires { λ s. ⌜ S.Arrays (now symbols) (now scratch) (now work) (now units) l ⌝ }
     requires { λ s. ⌜ E.Running (now book) (now operators) (now rules) l s × E.Turn l u s ⌝ }
     ensures { λ s r. ⌜ E.outcome r (S.state (now (symbols .exit)) (now (work .exit)) (now (units .exit)) (E.after p r) l) ≡ E.entered (now (book .entry)) (now (rules .entry)) l u s ⌝ }
-    ensures { λ s r. ⌜ S.Arrays (now (symbols .exit)) (now (scratch .exit)) (now (work .exit)) (now (units .exit)) (E.after p r) l ⌝ }
+    ensures { λ s r. ⌜ S.Arrays (now (symbols .exit)) (now (scratch .exit)) (now (work .exit)) (now (units .exit)) l ⌝ }
 {
     if !units::is_busy(units, u) {
         return Entry::Going(p);
     }
     match units::top(work, units, u) {
-        Frame::Job(job) => carry_out(
-            book,
-            operators,
-            rules,
-            symbols,
-            scratch,
-            work,
-            units,
-            Task { unit: u, job },
-            p,
-            l,
-        ),
+        Frame::Job(job) => {
+            let operator = term::operator_at(symbols, casts::offset(job.offset));
+            carry_out(
+                book,
+                operators,
+                rules,
+                symbols,
+                scratch,
+                work,
+                units,
+                Task {
+                    unit: u,
+                    job,
+                    operator,
+                },
+                p,
+                l,
+            )
+        }
         Frame::Exit(exit) => {
             orders::exit(work, units, u, exit);
             Entry::Going(p)

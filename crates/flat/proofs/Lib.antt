@@ -1,5 +1,6 @@
 pub mod Starred
 pub mod Offsets
+pub mod Sizes
 pub mod Matching
 pub mod Steps
 pub mod Stacks
@@ -15,6 +16,7 @@ pub mod Heights
 pub mod Lengths
 pub mod Lenders
 pub mod Placing
+pub mod Alone
 pub mod Rules
 pub mod Indices
 pub mod Inside

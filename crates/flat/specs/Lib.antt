@@ -1,4 +1,5 @@
 pub mod Symbols
+pub mod Sizes
 pub mod Machine
 pub mod Run
 pub mod Rules

@@ -3,16 +3,18 @@ use mathlib.Core.Path.{_≡_, refl, sym, ap, ap₂, subst, _∙_}
 use mathlib.Core.Bool.{true, false}
 use mathlib.Core.List.{List, _∷_}
 use mathlib.Core.Logic.{_≢_}
-use Prim.Native.Nat.{ℕ, zero, suc, _+_, _*_, _≤_, _<_}
+use Prim.Native.Nat.{ℕ, zero, suc, _+_, _<_}
 use native.Mathlib.Omega.{arith}
 use native.Mathlib.Numerals.{add-one}
-use lib.ListN.{length, getD, take, drop}
-use lib.Seq.{getD-take}
+use lib.ListN.{length, getD, drop}
 use Rattle.paper.specs.Strategy.{Step}
-use Rattle.flat.specs.Symbols.{argument}
+use Rattle.flat.specs.Sizes.{hop}
 use Rattle.flat.specs.Machine.{Frame, FlatUnit, flat-unit, next-count, proceed, arrive}
 use Rattle.tables.specs.Layout.{arity-in, steps-in, Rowed}
-use Rattle.units.specs.Stacks.{height, height-in, Store, store, units-in, unit-in}
+use Rattle.symbol.specs.Record.{operator, sizes}
+use Rattle.term.specs.Present.{length-in, operators-in, Hops}
+use Rattle.term.proofs.Sized.{operator-is, argument-hops, argument-is, argument-inside}
+use Rattle.units.specs.Stacks.{height-in, Store, store, units-in, unit-in}
 use Rattle.units.specs.Contracts.{Stacks-fit, Has-frame, Has-room, dropped, idled, pushed, topped, at, Changed, Cell-changed}
 use Rattle.units.specs.declared.frames.Job.{Job}
 use Rattle.units.specs.declared.frames.Exit.{Exit}
@@ -20,14 +22,9 @@ use Rattle.units.proofs.Units.{changed-none, changed-then, changed-as, height-i
 use Rattle.orders.specs.Contracts.{
   is-some,
   Counted,
-  Argument,
-  argument-at,
   argument-of,
   Argument-inside,
-  Argument-rowed,
-  restack,
   Restacked,
-  Room-for,
   goes-on,
   Proceeded,
   enters,
@@ -109,27 +106,40 @@ join-waits {ss} {x} {u} {w} {c} {c′} f n t = record { change = go (x .count) n
     go (suc k) z = t .change w f
 
 -- VISIT of the argument at offset b, of operator o: the job goes on first
-module _ {operators symbols : List ℕ} {len : ℕ} {x : Job} {i : ℕ} (q : Argument-inside operators symbols len x i) where
+module _ {operators symbols : List ℕ} {x : Job} {i : ℕ} (q : Argument-inside operators symbols x i) where
   abbrev xs : List ℕ
-  xs = take len symbols
+  xs = operators-in symbols
 
-  -- an argument's offset is small
-  pub argument-small : (b a j : ℕ) → b ≡ argument (arity-in operators) xs a j → a ≡ x .offset → j ≡ i →
-      (b ≡ argument-of operators xs x i .offset) × (b < 1024)
-  argument-small b a j e ea ei =
-      let f : b ≡ argument-of operators xs x i .offset = e ∙ ap₂ (λ (y z : ℕ). argument (arity-in operators) xs y z) ea ei in
-      (f, omega (arith, f, q .inside, q .most))
+  -- hopping by the sizes leads to it, inside
+  hop-is : hop (sizes symbols) i (x .offset + 1) ≡ argument-of operators xs x i .offset
+  hop-is = argument-is (arity-in operators) symbols (q .sized) (x .offset) i (q .offset) (omega (arith, q .few))
 
-  module _ (b o : ℕ) (eb : b ≡ argument-of operators xs x i .offset) (eo : o ≡ getD symbols b 0) where
-    operator-is : o ≡ getD xs (argument-of operators xs x i .offset) 0
-    operator-is = eo ∙ sym (getD-take len symbols b 0 (omega (arith, eb, q .inside))) ∙ ap (λ (j : ℕ). getD xs j 0) eb
+  inside : argument-of operators xs x i .offset < length-in symbols
+  inside = argument-inside (arity-in operators) symbols (q .sized) (x .offset) i (q .offset) (q .few)
+
+  pub argument-asks : (length symbols ≡ 1024) × (x .offset < 1024) × Hops (sizes symbols) i (x .offset + 1)
+      × (hop (sizes symbols) i (x .offset + 1) < 1024)
+  argument-asks = (
+    q .sized .long,
+    omega (arith, q .offset, q .sized .most),
+    argument-hops (arity-in operators) symbols (q .sized) (x .offset) i (q .offset) (omega (arith, q .few)),
+    omega (arith, hop-is, inside, q .sized .most),
+  )
+
+  pub argument-found : {b : ℕ} → b ≡ hop (sizes symbols) i (x .offset + 1) → b ≡ argument-of operators xs x i .offset
+  argument-found e = e ∙ hop-is
+
+  module _ {b k o : ℕ} (eb : b ≡ hop (sizes symbols) i (x .offset + 1)) (ek : k ≡ b) (eo : o ≡ operator (getD symbols k 0)) where
+    operator-found : o ≡ getD xs (argument-of operators xs x i .offset) 0
+    operator-found =
+        eo ∙ ap (λ (j : ℕ). operator (getD symbols j 0)) (ek ∙ argument-found eb) ∙ operator-is (arity-in operators) symbols (q .sized) _ inside
 
     pub argument-row : Rowed operators (getD xs (argument-of operators xs x i .offset) 0) → Rowed operators o
-    argument-row r = rw operator-is r
+    argument-row r = rw operator-found r
 
     argument-enters : (fs : List Frame) → enters (steps-in operators o) b fs
         ≡ enters (argument-of operators xs x i .steps) (argument-of operators xs x i .offset) fs
-    argument-enters fs = ap₂ (λ (j a : ℕ). enters (steps-in operators j) a fs) operator-is eb
+    argument-enters fs = ap₂ (λ (j a : ℕ). enters (steps-in operators j) a fs) operator-found (argument-found eb)
 
     pub can-enter : {ss : List Step} {u : ℕ} {s s₁ : Store} → Can-visit ss x (argument-of operators xs x i) u s → Proceeded ss x u s s₁ → b < 1024 →
         Can-enter (steps-in operators o) b u s₁

@@ -1,39 +1,20 @@
 -- The orders as entries of the machine on lists: what each function ensures is the state that the machine goes on with, by the book whose tables the
 -- code has. Assumes nothing.
-use mathlib.Core.Path.{_≡_, refl, sym, ap, ap₂, subst, _∙_}
+use mathlib.Core.Path.{_≡_, refl, sym, ap, ap₂, _∙_}
 use mathlib.Core.Bool.{Bool, true, false}
 use mathlib.Core.List.{List, _∷_}
 use mathlib.Core.Logic.{_≢_}
 use mathlib.Core.Option.{Option, none, some}
-use Prim.Native.Nat.{ℕ, zero, suc, _+_, _-_, _≤_, _<_}
+use Prim.Native.Nat.{ℕ, zero, suc, _-_, _≤_, _<_}
 use native.Mathlib.Omega.{arith}
 use lib.ListN.{length, getD, drop}
 use lib.ListN.{set as put}
 use Rattle.paper.specs.Strategy.{Step}
-use Rattle.paper.specs.Book.{Book, arity, steps}
+use Rattle.paper.specs.Book.{Book, arity}
 use Rattle.paper.specs.Machine.{Limits}
 use Rattle.paper.specs.Sound.{All}
 use Rattle.flat.specs.Symbols.{Hit, rewrite}
-use Rattle.flat.specs.Machine.{
-  Frame,
-  FlatUnit,
-  flat-unit,
-  unit,
-  FlatState,
-  FlatOutcome,
-  going,
-  with-units,
-  next-count,
-  proceed,
-  visit,
-  arrive,
-  idle,
-  do-fork,
-  do-join,
-  do-whole,
-  do-step,
-  carry-out,
-}
+use Rattle.flat.specs.Machine.{Frame, FlatUnit, flat-unit, unit, FlatState, FlatOutcome, going, with-units, next-count, visit, arrive, idle, do-fork, do-join, do-whole, do-step, carry-out}
 use Rattle.tables.specs.Layout.{step-of, code-in, steps-in}
 use Rattle.tables.specs.Tables.{Tables}
 use Rattle.tables.proofs.Rows.{here-is}
@@ -67,9 +48,9 @@ use Rattle.orders.proofs.Tables.{rowed-said, steps-said, argument-by, a
 -- the state with other units, after a FORK that was granted or kept
 abbrev pub counted-fork : FlatState → List FlatUnit → Bool → FlatState
 counted-fork s us true =
-    record { symbols = s .symbols; units = us; rewrites = s .rewrites; granted = suc (s .granted); kept = s .kept }
+    record { symbols = s .symbols; sizes = s .sizes; units = us; rewrites = s .rewrites; granted = suc (s .granted); kept = s .kept }
 counted-fork s us false =
-    record { symbols = s .symbols; units = us; rewrites = s .rewrites; granted = s .granted; kept = suc (s .kept) }
+    record { symbols = s .symbols; sizes = s .sizes; units = us; rewrites = s .rewrites; granted = s .granted; kept = suc (s .kept) }
 
 -- unit u, one of n, is busy with the frame f on top of fs; t is how the units are kept
 module _ (B : Book) (L : Limits) (u n : ℕ) (s : FlatState) (t : Store) (us : s .units ≡ units-in t n) (l : u < n) (f : Frame) (fs : List Frame)

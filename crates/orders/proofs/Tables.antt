@@ -1,20 +1,21 @@
 -- What the tables of a book say of symbols that are its operators: their steps, and where arguments stand. Assumes nothing.
-use mathlib.Core.Path.{_≡_, sym, ap, _∙_}
+use mathlib.Core.Path.{_≡_, ap, _∙_}
 use mathlib.Core.List.{List}
-use Prim.Native.Nat.{ℕ, _≤_, _<_}
+use Prim.Native.Nat.{ℕ, _<_}
 use native.Mathlib.Omega.{arith}
-use lib.ListN.{length, getD, take}
-use lib.Seq.{length-take-le}
+use lib.ListN.{length, getD}
 use Rattle.paper.specs.Book.{Book, arity, steps}
 use Rattle.paper.specs.Sound.{All}
 use Rattle.paper.specs.Strategy.{Step}
 use Rattle.flat.specs.Symbols.{argument as offset-of}
-use Rattle.tables.specs.Layout.{steps-in, Rowed}
+use Rattle.tables.specs.Layout.{arity-in, steps-in, Rowed}
 use Rattle.tables.specs.Tables.{Tables}
-use Rattle.tables.proofs.Laws.{all-at, steps-at, rowed-at}
+use Rattle.tables.proofs.Laws.{all-at, arity-at, steps-at, rowed-at}
+use Rattle.term.specs.Present.{length-in, operators-in, Sized}
+use Rattle.term.proofs.Sized.{operators-length, argument-inside}
 use Rattle.term.proofs.Skipping.{argument-book}
 use Rattle.units.specs.declared.frames.Job.{Job}
-use Rattle.orders.specs.Contracts.{Argument, argument-at, argument-of, Argument-inside, Argument-rowed}
+use Rattle.orders.specs.Contracts.{Argument, argument-at, argument-of, Argument-rowed}
 
 -- argument i of the job's term, by the book
 abbrev argument : ℕ → List Step → Argument
@@ -42,14 +43,16 @@ module _ {bytes operators rules : List ℕ} {B : Book} (T : Tables bytes operato
         ap (argument-at operators xs) (offset-said x i)
         ∙ ap (λ (ss : List Step). argument (argument-by B xs x i .offset) ss) (steps-said (argument-by B xs x i .offset) l)
 
-  -- an argument that is inside by the book
-  pub argument-place : (symbols : List ℕ) (len : ℕ) (x : Job) (i : ℕ) → All (λ o. o < length (B .operators)) (take len symbols) → length symbols ≡ 1024 →
-      len ≤ 1024 → x .offset < len → argument-by B (take len symbols) x i .offset < len → Argument-rowed operators symbols len x i
-  argument-place symbols len x i known long most l m =
-      let xs = take len symbols in
-      let e : argument-of operators xs x i .offset ≡ argument-by B xs x i .offset = offset-said xs known x i in
-      let n : length xs ≡ len = length-take-le len symbols (omega arith) in
+  -- an argument that the operator has by the book
+  pub argument-place : (symbols : List ℕ) (x : Job) (i : ℕ) → All (λ o. o < length (B .operators)) (operators-in symbols) → Sized (arity-in operators) symbols →
+      x .offset < length-in symbols → i < arity B (getD (operators-in symbols) (x .offset) 0) → Argument-rowed operators symbols x i
+  argument-place symbols x i known s l m =
+      let xs = operators-in symbols in
+      let n : length xs ≡ length-in symbols = operators-length (arity-in operators) symbols s in
+      let e = arity-at T (getD xs (x .offset) 0) (operator-known xs known (x .offset) (omega arith)) in
+      let h : i < arity-in operators (getD xs (x .offset) 0) = omega arith in
+      let k = argument-inside (arity-in operators) symbols s (x .offset) i l h in
       record {
-        place = record { long = long; most = most; offset = l; inside = omega arith };
+        place = record { sized = s; offset = l; few = h };
         rowed = rowed-said xs known (argument-of operators xs x i .offset) (omega arith);
       }

@@ -6,11 +6,12 @@ use mathlib.Core.List.{List, [], _∷_}
 use mathlib.Core.Logic.{_≢_}
 use mathlib.Core.Option.{Option, none, some}
 use Prim.Native.Nat.{ℕ, zero, suc, _+_, _-_, _≤_, _<_, pred}
-use lib.ListN.{length, getD, take, drop}
+use lib.ListN.{length, getD, drop}
 use Rattle.paper.specs.Strategy.{Step}
 use Rattle.flat.specs.Symbols.{argument}
 use Rattle.flat.specs.Machine.{Frame, FlatUnit, flat-unit, next-count, proceed, arrive, idle}
 use Rattle.tables.specs.Layout.{arity-in, steps-in, Rowed}
+use Rattle.term.specs.Present.{length-in, operators-in, Sized}
 use Rattle.units.specs.Stacks.{height, height-in, Store, units-in, unit-in}
 use Rattle.units.specs.Contracts.{Stacks-fit, Has-frame, dropped, idled, at, Changed}
 use Rattle.units.specs.declared.frames.Job.{Job}
@@ -42,17 +43,16 @@ argument-at operators xs b = record { offset = b; steps = steps-in operators (ge
 abbrev pub argument-of : List ℕ → List ℕ → Job → ℕ → Argument
 argument-of operators xs x i = argument-at operators xs (argument (arity-in operators) xs (x .offset) i)
 
--- it is inside of the first len symbols
-pub record Argument-inside (operators symbols : List ℕ) (len : ℕ) (x : Job) (i : ℕ) : Type 0 where
-  pub long : length symbols ≡ 1024
-  pub most : len ≤ 1024
-  pub offset : x .offset < len
-  pub inside : argument-of operators (take len symbols) x i .offset < len
+-- the job's term has such an argument, in a term with true sizes
+pub record Argument-inside (operators symbols : List ℕ) (x : Job) (i : ℕ) : Type 0 where
+  pub sized : Sized (arity-in operators) symbols
+  pub offset : x .offset < length-in symbols
+  pub few : i < arity-in operators (getD (operators-in symbols) (x .offset) 0)
 
 -- and its operator has a row
-pub record Argument-rowed (operators symbols : List ℕ) (len : ℕ) (x : Job) (i : ℕ) : Type 0 where
-  pub place : Argument-inside operators symbols len x i
-  pub rowed : Rowed operators (getD (take len symbols) (argument-of operators (take len symbols) x i .offset) 0)
+pub record Argument-rowed (operators symbols : List ℕ) (x : Job) (i : ℕ) : Type 0 where
+  pub place : Argument-inside operators symbols x i
+  pub rowed : Rowed operators (getD (operators-in symbols) (argument-of operators (operators-in symbols) x i .offset) 0)
 
 -- ONE STACK
 

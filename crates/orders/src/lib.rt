@@ -6,9 +6,12 @@ use units::Frame;
 use units::Idle;
 use units::Job;
 ghost use mathlib.Core.Path.{_≡_};
-ghost use Prim.Native.Nat.{_<_, _≤_, pred};
-ghost use lib.ListN.{getD, take, drop};
+ghost use Prim.Native.Nat.{_+_, _<_, _≤_, pred};
+ghost use lib.ListN.{length, drop};
+ghost use Rattle.flat.specs.Sizes.{hop};
+ghost use Rattle.symbol.specs.Record.{sizes};
 ghost use Rattle.tables.specs.Layout as L;
+ghost use Rattle.term.specs.Present.{operators-in, Hops};
 ghost use Rattle.units.specs.Stacks as K;
 ghost use Rattle.units.specs.Contracts as U;
 ghost use Rattle.orders.specs.Contracts as O;
@@ -50,7 +53,7 @@ fn next_count(operators: &[u8; 4352], o: u8, k: u8) -> u8
 pub fn proceed(
     operators: &[u8; 4352],
     work: &mut [u8],
-    units: &mut [u16; 8],
+    units: &mut [u32; 8],
     u: usize,
     o: u8,
     job: Job,
@@ -77,7 +80,7 @@ pub fn proceed(
 }
 
 // The orders of the term at offset a, of operator o, are put on top of unit u's stack.
-fn enter(operators: &[u8; 4352], work: &mut [u8], units: &mut [u16; 8], u: usize, o: u8, a: u16)
+fn enter(operators: &[u8; 4352], work: &mut [u8], units: &mut [u32; 8], u: usize, o: u8, a: u16)
     ghost { K.Store }
     requires { λ s. ⌜ K.store (now work) (now units) ≡ s ⌝ }
     requires { λ s. ⌜ L.Rowed (now operators) o × O.Can-enter (L.steps-in (now operators) o) a u s ⌝ }
@@ -99,7 +102,7 @@ fn enter(operators: &[u8; 4352], work: &mut [u8], units: &mut [u16; 8], u: usize
 }
 
 // VISIT of the term at offset a, of operator o, whose job is on top of unit u's stack.
-pub fn visit(operators: &[u8; 4352], work: &mut [u8], units: &mut [u16; 8], u: usize, o: u8, a: u16)
+pub fn visit(operators: &[u8; 4352], work: &mut [u8], units: &mut [u32; 8], u: usize, o: u8, a: u16)
     ghost { K.Store }
     requires { λ s. ⌜ K.store (now work) (now units) ≡ s ⌝ }
     requires { λ s. ⌜ L.Rowed (now operators) o × U.Has-frame s u 0 × (a < 1024) ⌝ }
@@ -120,35 +123,20 @@ pub fn visit(operators: &[u8; 4352], work: &mut [u8], units: &mut [u16; 8], u: u
     );
 }
 
-// The operator at offset a.
-fn operator_at(symbols: &[u8; 1024], a: u16) -> u8
-    requires { ⌜ a < 1024 ⌝ }
-    ensures { λ r. ⌜ r ≡ getD (now (symbols .entry)) a 0 ⌝ }
-{
-    symbols[casts::offset(a)]
-}
-
 // The offset of argument i of the job's term.
-fn argument(operators: &[u8; 4352], symbols: &[u8; 1024], len: usize, job: Job, i: u8) -> u16
-    requires { ⌜ O.Argument-inside (now operators) (now symbols) len job i ⌝ }
-    ensures { λ r. ⌜ (r ≡ O.argument-of (now (operators .entry)) (take len (now (symbols .entry))) job i .offset) × (r < 1024) ⌝ }
+fn argument(symbols: &[u32; 1024], job: Job, i: u8) -> u16
+    requires { ⌜ (length (now symbols) ≡ 1024) × (job .offset < 1024) × Hops (sizes (now symbols)) i (job .offset + 1) × (hop (sizes (now symbols)) i (job .offset + 1) < 1024) ⌝ }
+    ensures { λ r. ⌜ (r ≡ hop (sizes (now (symbols .entry))) i (job .offset + 1)) × (r < 1024) ⌝ }
 {
-    casts::short(term::argument(
-        symbols,
-        len,
-        operators,
-        casts::offset(job.offset),
-        casts::index(i),
-    ))
+    casts::short(term::argument(symbols, casts::offset(job.offset), casts::index(i)))
 }
 
 // VISIT of argument i: the job goes on, and the argument's orders are put on top of it.
 pub fn visit_argument(
     operators: &[u8; 4352],
-    symbols: &[u8; 1024],
-    len: usize,
+    symbols: &[u32; 1024],
     work: &mut [u8],
-    units: &mut [u16; 8],
+    units: &mut [u32; 8],
     u: usize,
     o: u8,
     job: Job,
@@ -156,12 +144,12 @@ pub fn visit_argument(
 )
     ghost { K.Store }
     requires { λ s. ⌜ K.store (now work) (now units) ≡ s ⌝ }
-    requires { λ s. ⌜ L.Rowed (now operators) o × O.Argument-rowed (now operators) (now symbols) len job i ⌝ }
-    requires { λ s. ⌜ O.Can-visit (L.steps-in (now operators) o) job (O.argument-of (now operators) (take len (now symbols)) job i) u s ⌝ }
-    ensures { λ s _. ⌜ O.Argument-visited (L.steps-in (now (operators .entry)) o) job (O.argument-of (now (operators .entry)) (take len (now (symbols .entry))) job i) u s (K.store (now (work .exit)) (now (units .exit))) ⌝ }
+    requires { λ s. ⌜ L.Rowed (now operators) o × O.Argument-rowed (now operators) (now symbols) job i ⌝ }
+    requires { λ s. ⌜ O.Can-visit (L.steps-in (now operators) o) job (O.argument-of (now operators) (operators-in (now symbols)) job i) u s ⌝ }
+    ensures { λ s _. ⌜ O.Argument-visited (L.steps-in (now (operators .entry)) o) job (O.argument-of (now (operators .entry)) (operators-in (now (symbols .entry))) job i) u s (K.store (now (work .exit)) (now (units .exit))) ⌝ }
 {
-    let b = argument(operators, symbols, len, job, i);
-    let p = operator_at(symbols, b);
+    let b = argument(symbols, job, i);
+    let p = term::operator_at(symbols, casts::offset(b));
     proceed(operators, work, units, u, o, job);
     enter(operators, work, units, u, p, b);
 }
@@ -170,7 +158,7 @@ pub fn visit_argument(
 pub fn join(
     operators: &[u8; 4352],
     work: &mut [u8],
-    units: &mut [u16; 8],
+    units: &mut [u32; 8],
     u: usize,
     o: u8,
     job: Job,
@@ -200,7 +188,7 @@ pub fn join(
 }
 
 // EXIT on top of unit u's stack.
-pub fn exit(work: &mut [u8], units: &mut [u16; 8], u: usize, exit: Exit)
+pub fn exit(work: &mut [u8], units: &mut [u32; 8], u: usize, exit: Exit)
     ghost { K.Store }
     requires { λ s. ⌜ K.store (now work) (now units) ≡ s ⌝ }
     requires { λ s. ⌜ O.Can-exit exit u s ⌝ }
@@ -228,7 +216,7 @@ fn lower(count: u8) -> u8
 fn keep(
     operators: &[u8; 4352],
     work: &mut [u8],
-    units: &mut [u16; 8],
+    units: &mut [u32; 8],
     u: usize,
     o: u8,
     job: Job,
@@ -265,7 +253,7 @@ fn keep(
 }
 
 // The term at offset b is put on unit v's stack, over an EXIT.
-fn give(work: &mut [u8], units: &mut [u16; 8], v: usize, exit: Exit, b: u16)
+fn give(work: &mut [u8], units: &mut [u32; 8], v: usize, exit: Exit, b: u16)
     ghost { K.Store }
     requires { λ s. ⌜ K.store (now work) (now units) ≡ s ⌝ }
     requires { λ s. ⌜ U.Has-room s v 2 × (exit .unit < 8) × (b < 1024) ⌝ }
@@ -289,7 +277,7 @@ fn give(work: &mut [u8], units: &mut [u16; 8], v: usize, exit: Exit, b: u16)
 fn grant(
     operators: &[u8; 4352],
     work: &mut [u8],
-    units: &mut [u16; 8],
+    units: &mut [u32; 8],
     u: usize,
     o: u8,
     job: Job,
@@ -318,10 +306,9 @@ fn grant(
 // FORK of argument i, by unit u of so many: the lowest-numbered idle unit gets it, or it is kept; whether it was granted.
 pub fn fork(
     operators: &[u8; 4352],
-    symbols: &[u8; 1024],
-    len: usize,
+    symbols: &[u32; 1024],
     work: &mut [u8],
-    units: &mut [u16; 8],
+    units: &mut [u32; 8],
     count: usize,
     u: usize,
     o: u8,
@@ -330,11 +317,11 @@ pub fn fork(
 ) -> bool
     ghost { K.Store }
     requires { λ s. ⌜ K.store (now work) (now units) ≡ s ⌝ }
-    requires { λ s. ⌜ L.Rowed (now operators) o × O.Argument-inside (now operators) (now symbols) len job i ⌝ }
-    requires { λ s. ⌜ O.Can-fork (L.steps-in (now operators) o) job (O.argument-of (now operators) (take len (now symbols)) job i) count u s ⌝ }
-    ensures { λ s r. ⌜ O.Forked (L.steps-in (now (operators .entry)) o) job (O.argument-of (now (operators .entry)) (take len (now (symbols .entry))) job i) count u s (K.store (now (work .exit)) (now (units .exit))) r ⌝ }
+    requires { λ s. ⌜ L.Rowed (now operators) o × O.Argument-inside (now operators) (now symbols) job i ⌝ }
+    requires { λ s. ⌜ O.Can-fork (L.steps-in (now operators) o) job (O.argument-of (now operators) (operators-in (now symbols)) job i) count u s ⌝ }
+    ensures { λ s r. ⌜ O.Forked (L.steps-in (now (operators .entry)) o) job (O.argument-of (now (operators .entry)) (operators-in (now (symbols .entry))) job i) count u s (K.store (now (work .exit)) (now (units .exit))) r ⌝ }
 {
-    let b = argument(operators, symbols, len, job, i);
+    let b = argument(symbols, job, i);
     match units::lowest_idle(units, count) {
         Idle::Unit(v) => {
             grant(operators, work, units, u, o, job, b, v);

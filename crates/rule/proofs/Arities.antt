@@ -1,7 +1,7 @@
 -- A match and a rewrite depend on the arities of the symbols only. Assumes nothing.
 use mathlib.Core.Bool.{true, false}
 use mathlib.Core.List.{List, [], _∷_}
-use mathlib.Core.Path.{_≡_, refl, ap, ap₂, _∙_}
+use mathlib.Core.Path.{_≡_, refl, ap, ap₂}
 use Prim.Native.Nat.{ℕ, zero, suc, _+_}
 use lib.Dec.{eqb}
 use lib.ListN.{take, drop, take-append-drop}
@@ -10,8 +10,8 @@ use Rattle.paper.specs.Book.{Symbol, Rule}
 use Rattle.paper.specs.Sound.{All}
 use Rattle.paper.proofs.Lists.{all-split}
 use Rattle.flat.specs.Symbols as flat
-use Rattle.flat.specs.Symbols.{segment, Binding, blank, bind, skip, meet, match, fill, rewrite}
-use Rattle.term.proofs.Skipping.{skip-same}
+use Rattle.flat.specs.Symbols.{segment, Binding, blank, bind, meet, match, fill, rewrite}
+use Rattle.flat.proofs.Sizes.{skip-same}
 
 pub all-drop : (P : ℕ → Type 0) (k : ℕ) (xs : List ℕ) → All P xs → All P (drop k xs)
 all-drop P k xs a = all-split P (take k xs) (drop k xs) (rw (take-append-drop k xs) a) .1

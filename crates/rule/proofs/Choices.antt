@@ -11,13 +11,14 @@ use lib.ListN.{length, getD, drop}
 use Rattle.paper.specs.Tree.{node, label, preorder, preorders}
 use Rattle.paper.specs.Book.{Symbol, Side, Rule, Book, arity}
 use Rattle.paper.specs.Sound.{All, IsOperator}
-use Rattle.paper.proofs.Lists.{all-map}
 use Rattle.paper.proofs.Tests.{ltb-cases}
 use Rattle.flat.specs.Symbols as flat
 use Rattle.flat.specs.Symbols.{Binding, blank, match, fill, rewrite}
+use Rattle.flat.specs.Rules.{spells}
 use Rattle.tables.specs.Layout.{arity-in, first-in, next-in, left-in}
 use Rattle.tables.specs.Tables.{ruleAt, NoneOf, FirstOf, Root, Tables}
-use Rattle.tables.proofs.Laws.{all-at, arity-at}
+use Rattle.tables.proofs.Laws.{all-at}
+use Rattle.term.proofs.Skipping.{known-arities}
 use Rattle.rule.specs.Packed.{Stands, SideAt}
 use Rattle.rule.specs.Contracts.{found, Agrees-within, Other-stands, Rest-matched, Lefts, Under-root, Left-tried, tries, Passed, None-found, Rule-found}
 use Rattle.rule.specs.declared.Found as F
@@ -25,6 +26,7 @@ use Rattle.rule.proofs.Sides.{under-root}
 use Rattle.rule.proofs.Matches.{match-same, match-other, head-at, other-differs, stopped}
 use Rattle.rule.proofs.Arities.{rewrite-same}
 use Rattle.rule.proofs.Tables.{lefts-stand}
+use Rattle.rule.proofs.Terms.{bound-terms}
 
 -- ONE RULE
 
@@ -107,27 +109,11 @@ module _ {bytes operators rules : List ℕ} {B : Book} (T : Tables bytes operato
   t = lefts-stand T
 
   by-book : rewrite (arity-in operators) rs a xs ≡ rewrite (arity B) rs a xs
-  by-book = rewrite-same (arity-in operators) (arity B) rs a xs (all-map _ _ (arity-at T) xs known)
+  by-book = rewrite-same (arity-in operators) (arity B) rs a xs (known-arities B (T .operators-in) xs known)
 
   pub missed : (k : ℕ) → k ≡ 0 → Reached operators xs a rs k → None-found B operators a xs
   missed zero e p = record { passed = p; is = sym by-book ∙ rewrite-miss operators xs a rs p }
   missed (suc k) e p = absurd (omega arith)
-
-  pub chosen : (k i left e len : ℕ) (b : Binding) → 0 < k → i ≡ k - 1 → left ≡ left-in rules i → Reached operators xs a rs k →
-      Left-tried bytes left operators xs a len b (F.Found.Agrees e) → Rule-found B operators a xs len b (record { rule = i; end = e })
-  chosen zero i left e len b s f z h d = absurd (omega arith)
-  chosen (suc j) i left e len b s f z (l, root, p) d =
-      let g : j ≡ i = omega arith in
-      let y = subst (λ (k : ℕ). Passed operators rs k a xs) g p in
-      let q = d .is (ruleAt rs i .left) (rw z (t .each i (omega arith) .stands)) (subst (Root rs (getD xs a 0)) g root) in
-      record {
-        below = omega arith;
-        passed = y;
-        agrees = q;
-        is = sym by-book ∙ rewrite-first operators xs a rs i e b (omega arith) y q;
-        within = d .within .0;
-        end = d .within .1;
-      }
 
   module _ (inside : a < length xs) where
     -- rules of other roots are passed
@@ -156,3 +142,20 @@ module _ {bytes operators rules : List ℕ} {B : Book} (T : Tables bytes operato
         d .is (ruleAt rs j .left) (rw (z, e) (t .each j l .stands)) root in
         let u : FirstOf (Root rs (getD xs a 0)) (j + 1) (length rs) r = rw (w, e) (t .chained .next j (getD xs a 0) (omega arith) l root) in
         (reached (j + 1) r (below-more _ j p y) u, ahead-less _ j (length rs) r (t .few) l u)
+
+    pub chosen : (k i left e len : ℕ) (b : Binding) → spells (arity-in operators) 1 xs ≡ true → 0 < k → i ≡ k - 1 → left ≡ left-in rules i → Reached operators xs a rs k →
+        Left-tried bytes left operators xs a len b (F.Found.Agrees e) → Rule-found B operators a xs len b (record { rule = i; end = e })
+    chosen zero i left e len b w s f z h d = absurd (omega arith)
+    chosen (suc j) i left e len b w s f z (l, root, p) d =
+        let g : j ≡ i = omega arith in
+        let y = subst (λ (k : ℕ). Passed operators rs k a xs) g p in
+        let q = d .is (ruleAt rs i .left) (rw z (t .each i (omega arith) .stands)) (subst (Root rs (getD xs a 0)) g root) in
+        record {
+          below = omega arith;
+          passed = y;
+          agrees = q;
+          is = sym by-book ∙ rewrite-first operators xs a rs i e b (omega arith) y q;
+          within = d .within .0;
+          end = d .within .1;
+          terms = bound-terms T xs known a i e b w inside (omega arith) q;
+        }

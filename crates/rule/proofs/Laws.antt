@@ -18,7 +18,8 @@ use Rattle.flat.specs.Symbols.{Binding, blank, match, fill, rewrite}
 use Rattle.flat.proofs.Matching.{Agree, a-no, a-yes, match-side, Hits, h-miss, h-hit, rewrite-hits}
 use Rattle.tables.specs.Layout.{arity-in}
 use Rattle.tables.specs.Tables.{ruleAt, Tables}
-use Rattle.tables.proofs.Laws.{arity-at, rule-good}
+use Rattle.tables.proofs.Laws.{rule-good}
+use Rattle.term.proofs.Skipping.{known-arities}
 use Rattle.rule.specs.Contracts as C
 use Rattle.rule.specs.Contracts.{tries, Passed}
 use Rattle.rule.specs.declared.Match as M
@@ -32,9 +33,6 @@ nothing f line a xs b = refl
 
 module _ {bytes operators rules : List ℕ} {B : Book} (T : Tables bytes operators rules B) (xs : List ℕ)
     (known : All (λ o. o < length (B .operators)) xs) (a : ℕ) (t : Term) (correct : Correct (arity B) t) (rest : List ℕ) (there : drop a xs ≡ preorder t ++ rest) where
-  same-arities : All (λ o. arity-in operators o ≡ arity B o) xs
-  same-arities = all-map _ _ (arity-at T) xs known
-
   sound : All (SoundRule B) (B .rules)
   sound = all-map _ _ (good-sound B) (B .rules) (T .good .rules)
 
@@ -45,11 +43,11 @@ module _ {bytes operators rules : List ℕ} {B : Book} (T : Tables bytes operato
   abbrev Tries : ℕ → Option (Bindings ℕ) → Type 0
   Tries i o = Agree (B .operators) xs (λ b. flat.Match.agrees b (a + size t)) (tries operators (B .rules) i a xs) o
 
-  tried : (i : ℕ) → i < length (B .rules) → Tries i (Match.match (left i) t Match.blank)
+  pub tried : (i : ℕ) → i < length (B .rules) → Tries i (Match.match (left i) t Match.blank)
   tried i l =
       let h = match-side (B .operators) (left i) (rule-good T i l .left .correct) t correct Match.blank blank [] a rest xs there (λ v. refl) in
       let e : match (arity B) xs (preorder (left i) ++ []) a (preorder t ++ rest) blank ≡ tries operators (B .rules) i a xs =
-      rw (append-nil (preorder (left i)), ← there) (sym (match-same (arity-in operators) (arity B) xs (preorder (left i)) a (drop a xs) blank (all-drop _ a xs same-arities))) in
+      rw (append-nil (preorder (left i)), ← there) (sym (match-same (arity-in operators) (arity B) xs (preorder (left i)) a (drop a xs) blank (all-drop _ a xs (known-arities B (T .operators-in) xs known)))) in
       ended e h
     where
       ended : {m′ : flat.Match} {o : Option (Bindings ℕ)} → m′ ≡ tries operators (B .rules) i a xs →

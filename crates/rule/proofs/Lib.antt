@@ -1,8 +1,9 @@
 pub mod Sides
 pub mod Bindings
+pub mod Parts
 pub mod Matches
-pub mod Fills
 pub mod Arities
 pub mod Tables
-pub mod Choices
 pub mod Laws
+pub mod Terms
+pub mod Choices

@@ -117,33 +117,33 @@ module _ (arity : ℕ → ℕ) (xs : List ℕ) (v a : ℕ) (b : Binding) where
   meet-again zero r d e = absurd (d refl)
   meet-again (suc n) r d e = rw (e, meet)
 
-module _ {operators xs bound : List ℕ} {v a len : ℕ} (w : Bound-within bound len) where
-  pub met-first : (n e : ℕ) (bound′ : List ℕ) → n ≡ getD bound (2 * v + 1) 0 → n ≡ 0 → e ≡ a + skip (arity-in operators) 1 (drop a xs) → e ≤ len →
-      Holds-binding bound′ (bind v (segment a (e - a)) (binding bound)) → Variable-met operators xs v a len (binding bound) bound′ (Me.Meeting.Part (e - a))
-  met-first n e bound′ size z f l g =
+module _ {xs bound : List ℕ} {m v a len : ℕ} (w : Bound-within bound len) where
+  pub met-first : (n k : ℕ) (bound′ : List ℕ) → n ≡ getD bound (2 * v + 1) 0 → n ≡ 0 → k ≡ m → a + m ≤ len →
+      Holds-binding bound′ (bind v (segment a k) (binding bound)) → Variable-met xs m v a len (binding bound) bound′ (Me.Meeting.Part k)
+  met-first n k bound′ size z f l g =
       record {
-        is = meet-first (arity-in operators) xs v a (binding bound) _ (e - a) (sym size ∙ z) (omega arith) ∙ ap (flat.Meeting.part (e - a)) (sym (g .is));
+        is = λ arity e. meet-first arity xs v a (binding bound) _ k (sym size ∙ z) (omega arith) ∙ ap (flat.Meeting.part k) (sym (g .is));
         within = (
           omega arith,
           record {
-            within = subst (λ (b : Binding). Binds-within b len) (sym (g .is)) (within-bind v a (e - a) len (binding bound) (omega arith) (w .within));
+            within = subst (λ (b : Binding). Binds-within b len) (sym (g .is)) (within-bind v a k len (binding bound) (omega arith) (w .within));
             long = g .long;
           },
         );
       }
 
   module _ {start n : ℕ} (starts : start ≡ getD bound (2 * v) 0) (size : n ≡ getD bound (2 * v + 1) 0) (some : n ≡ 0 → ⊥) where
-    pub met-same : length xs ≡ len → a ≤ len → Compared xs start a n true → Variable-met operators xs v a len (binding bound) bound (Me.Meeting.Part n)
+    pub met-same : length xs ≡ len → a ≤ len → Compared xs start a n true → Variable-met xs m v a len (binding bound) bound (Me.Meeting.Part n)
     met-same l h c =
         let k = w .within v in
         record {
-          is = rw (← size) (meet-again (arity-in operators) xs v a (binding bound) n true some (rw (← starts, ← size) (c .is)));
+          is = λ arity e. rw (← size) (meet-again arity xs v a (binding bound) n true some (rw (← starts, ← size) (c .is)));
           within = (rw (← l) (compared-within c (omega arith) (omega arith)), w);
         }
 
-    pub met-other : Compared xs start a n false → Variable-met operators xs v a len (binding bound) bound Me.Meeting.Other
+    pub met-other : Compared xs start a n false → Variable-met xs m v a len (binding bound) bound Me.Meeting.Other
     met-other c =
-        record { is = rw (← size) (meet-again (arity-in operators) xs v a (binding bound) n false some (rw (← starts, ← size) (c .is))); within = tt }
+        record { is = λ arity e. rw (← size) (meet-again arity xs v a (binding bound) n false some (rw (← starts, ← size) (c .is))); within = tt }
 
 -- ONE SYMBOL
 
@@ -159,21 +159,21 @@ module _ {bytes operators xs : List ℕ} {at a len : ℕ} {bound : List ℕ} (w 
         goes = goes-operator bytes operators _ at o next arity h f (λ ss. match-same (arity-in operators) o ss a xs (binding bound) e);
       }
 
-module _ {bytes operators xs : List ℕ} {at a len : ℕ} {bound : List ℕ} where
+module _ {bytes operators xs : List ℕ} {at a len k : ℕ} {bound : List ℕ} (size : k ≡ skip (arity-in operators) 1 (drop a xs)) where
   pub step-variable : (v next : ℕ) {b : Binding} {n : ℕ} → StandingAt bytes at (Sd.Standing.Variable v next) →
-      Variable-met operators xs v a len b bound (Me.Meeting.Part n) → Symbol-agrees bytes at operators xs a len b bound (taken 0 next n)
+      Variable-met xs k v a len b bound (Me.Meeting.Part n) → Symbol-agrees bytes at operators xs a len b bound (taken 0 next n)
   step-variable v next h m =
       record {
         arity = omega arith;
         end = m .within .0;
         bound-within = m .within .1;
-        goes = goes-variable bytes operators _ at v next h (λ ss. match-part (arity-in operators) v ss a xs _ _ _ (m .is));
+        goes = goes-variable bytes operators _ at v next h (λ ss. match-part (arity-in operators) v ss a xs _ _ _ (m .is (arity-in operators) size));
       }
 
   pub apart-at : (v next : ℕ) {b : Binding} → StandingAt bytes at (Sd.Standing.Variable v next) →
-      Variable-met operators xs v a len b bound Me.Meeting.Other →
+      Variable-met xs k v a len b bound Me.Meeting.Other →
       All-at bytes at operators (λ ss. match (arity-in operators) xs ss a (drop a xs) b ≡ flat.Match.differs)
-  apart-at v next h m = all-variable bytes operators _ at v next h (λ ss. match-apart (arity-in operators) v ss a xs _ (m .is))
+  apart-at v next h m = all-variable bytes operators _ at v next h (λ ss. match-apart (arity-in operators) v ss a xs _ (m .is (arity-in operators) size))
 
 -- THE REST OF A SIDE
 

@@ -1,6 +1,6 @@
 -- What the functions on packed rules ask and ensure, by the definitions on lists of symbols. Assumes nothing.
 use mathlib.Core.Bool.{Bool, true, false}
-use mathlib.Core.List.{List, [], _∷_, _++_}
+use mathlib.Core.List.{List, [], _∷_}
 use mathlib.Core.Path.{_≡_}
 use Prim.Native.Nat.{ℕ, _+_, _^_, _≤_, _<_}
 use lib.Dec.{eqb}
@@ -9,36 +9,48 @@ use Rattle.paper.specs.Tree.{label, preorder}
 use Rattle.paper.specs.Book.{Symbol, Side, Rule, Book, arity}
 use Rattle.paper.specs.Sound.{All, IsOperator}
 use Rattle.flat.specs.Symbols as flat
-use Rattle.flat.specs.Symbols.{Binding, blank, meet, match, fill, rewrite}
+use Rattle.flat.specs.Symbols.{Binding, blank, skip, meet, match, fill, rewrite}
+use Rattle.flat.specs.Sizes as flat-sizes
 use Rattle.side.specs.Contracts.{StandingAt}
 use Rattle.side.specs.declared.Standing as Sd
+use Rattle.symbol.specs.Record.{operators, sizes}
 use Rattle.tables.specs.Layout.{arity-in, left-in}
 use Rattle.tables.specs.Tables.{ruleAt, Chained, TablesOf, book-of}
-use Rattle.rule.specs.Packed.{Stands, SideAt, Goes, All-at, binding, Binds-within}
+use Rattle.term.specs.Present.{length-in, operators-in, Sized}
+use Rattle.rule.specs.Packed.{Stands, SideAt, Goes, All-at, binding, Binds-within, Bound-term}
 use Rattle.rule.specs.declared.Found as F
 use Rattle.rule.specs.declared.Match as M
 use Rattle.rule.specs.declared.Hit as H
-use Rattle.rule.specs.declared.Size as Z
 use Rattle.rule.specs.declared.Taken as T
 use Rattle.rule.specs.declared.Step as S
 use Rattle.rule.specs.declared.Meeting as Me
 
 -- WHAT IS THERE BEFORE
 
--- the first len of 1024 symbols are in use, and a is an offset in them or the one behind them
-pub record Offset-in (symbols : List ℕ) (len a : ℕ) : Type 0 where
+-- the first len of 1024 symbols are in use, with true sizes, and a is an offset in them or the one behind them
+pub record Offset-in (arity : ℕ → ℕ) (symbols : List ℕ) (len a : ℕ) : Type 0 where
   pub long : length symbols ≡ 1024
   pub most : len ≤ 1024
+  pub true-sizes : sizes (take len symbols) ≡ flat-sizes.sizes arity (operators (take len symbols))
   pub inside : a ≤ len
 
--- a book's tables, and the present term, whose symbols are its operators; a is an offset in it
-pub record Present (bytes operators rules symbols : List ℕ) (len a : ℕ) : Type 0 where
-  pub tables : TablesOf bytes operators rules
-  pub short : length bytes ≤ 2 ^ 60
+-- how many of the first len symbols the term has that begins at offset a
+abbrev pub part-size : List ℕ → ℕ → ℕ → ℕ
+part-size symbols len a = getD (sizes (take len symbols)) a 0
+
+-- that term is among them
+pub record Part-in (symbols : List ℕ) (len a : ℕ) : Type 0 where
   pub long : length symbols ≡ 1024
   pub most : len ≤ 1024
-  pub inside : a < len
-  pub known : All (λ o. o < length (book-of bytes rules .operators)) (take len symbols)
+  pub inside : a + part-size symbols len a ≤ len
+
+-- a book's tables, and the present term, whose symbols are its operators, with their sizes; a is an offset in it
+pub record Present (bytes operators rules symbols : List ℕ) (a : ℕ) : Type 0 where
+  pub tables : TablesOf bytes operators rules
+  pub short : length bytes ≤ 2 ^ 60
+  pub sized : Sized (arity-in operators) symbols
+  pub inside : a < length-in symbols
+  pub known : All (λ o. o < length (book-of bytes rules .operators)) (operators-in symbols)
 
 -- an array of 16 variables' starts and sizes holds the binding b
 pub record Holds-binding (bound : List ℕ) (b : Binding) : Type 0 where
@@ -85,9 +97,9 @@ abbrev pub Part-within : ℕ → ℕ → List ℕ → Me.Meeting → Type 0
 Part-within a len bound (Me.Meeting.Part n) = (a + n ≤ len) × Bound-within bound len
 Part-within a len bound Me.Meeting.Other = Unit
 
--- the variable v against the symbols of xs from offset a on, with the binding b so far
-pub record Variable-met (operators xs : List ℕ) (v a len : ℕ) (b : Binding) (bound : List ℕ) (r : Me.Meeting) : Type 0 where
-  pub is : meet (arity-in operators) xs (b v .size) v a (drop a xs) b ≡ meeting r (binding bound)
+-- the variable v against the symbols of xs from offset a on, where a term of n symbols begins, with the binding b so far
+pub record Variable-met (xs : List ℕ) (n v a len : ℕ) (b : Binding) (bound : List ℕ) (r : Me.Meeting) : Type 0 where
+  pub is : (arity : ℕ → ℕ) → n ≡ skip arity 1 (drop a xs) → meet arity xs (b v .size) v a (drop a xs) b ≡ meeting r (binding bound)
   pub within : Part-within a len bound r
 
 -- one symbol against those of xs from offset a on, with the binding b so far
@@ -107,33 +119,6 @@ Symbol-matched bytes at operators xs a len b bound S.Step.Stops =
 -- r and the binding b′ answer for the symbols at a position, against those of xs from offset a on, with the binding b so far
 pub record Rest-matched (bytes : List ℕ) (at : ℕ) (operators : List ℕ) (due room : ℕ) (xs : List ℕ) (a : ℕ) (b b′ : Binding) (r : F.Found) : Type 0 where
   pub is : (ss : List Symbol) → Stands bytes at operators due room ss → match (arity-in operators) xs ss a (drop a xs) b ≡ found r b′
-
--- FILLING
-
--- one symbol filled, from place k on, within the limit
-pub record Symbol-fits (bytes : List ℕ) (at : ℕ) (operators xs : List ℕ) (b : Binding) (limit k : ℕ) (scratch scratch′ : List ℕ) (t : T.Taken) : Type 0 where
-  pub arity : t .arity < 256
-  pub end : k + t .size ≤ limit
-  pub goes : Goes bytes at operators (λ ss ss′. take k scratch ++ fill ss b xs ≡ take (k + t .size) scratch′ ++ fill ss′ b xs) (t .arity) (t .next)
-
--- or the symbols at the position, filled, go past the limit
-abbrev pub Symbol-is : List ℕ → ℕ → List ℕ → List ℕ → Binding → ℕ → ℕ → List ℕ → List ℕ → S.Step → Type 0
-Symbol-is bytes at operators xs b limit k scratch scratch′ (S.Step.Took t) = Symbol-fits bytes at operators xs b limit k scratch scratch′ t
-Symbol-is bytes at operators xs b limit k scratch scratch′ S.Step.Stops = All-at bytes at operators (λ ss. limit < k + length (fill ss b xs))
-
-pub record Symbol-filled (bytes : List ℕ) (at : ℕ) (operators xs : List ℕ) (b : Binding) (limit k : ℕ) (scratch scratch′ : List ℕ) (r : S.Step) : Type 0 where
-  pub is : Symbol-is bytes at operators xs b limit k scratch scratch′ r
-  pub long : length scratch′ ≡ 1024
-
--- the filled side at a position is the first k symbols of scratch, or has more symbols than the limit
-abbrev pub Side-is : List ℕ → ℕ → List ℕ → List ℕ → Binding → ℕ → List ℕ → Z.Size → Type 0
-Side-is bytes at operators xs b limit scratch (Z.Size.Fits k) =
-    ((side : Side) → SideAt bytes at operators side → take k scratch ≡ fill (preorder side) b xs) × (k ≤ limit)
-Side-is bytes at operators xs b limit scratch Z.Size.Over = (side : Side) → SideAt bytes at operators side → limit < length (fill (preorder side) b xs)
-
-pub record Side-filled (bytes : List ℕ) (at : ℕ) (operators xs : List ℕ) (b : Binding) (limit : ℕ) (scratch : List ℕ) (r : Z.Size) : Type 0 where
-  pub is : Side-is bytes at operators xs b limit scratch r
-  pub long : length scratch ≡ 1024
 
 -- RULES
 
@@ -177,6 +162,8 @@ pub record Rule-found (B : Book) (operators : List ℕ) (a : ℕ) (xs : List ℕ
   pub is : rewrite (arity B) (B .rules) a xs ≡ flat.Hit.hit (fill (preorder (ruleAt (B .rules) (m .rule) .right)) b xs) (m .end)
   pub within : Binds-within b len
   pub end : m .end ≤ len
+  -- each variable of its right side is bound to a term
+  pub terms : All (Bound-term (arity-in operators) xs b) (preorder (ruleAt (B .rules) (m .rule) .right))
 
 -- none of its rules matches
 pub record None-found (B : Book) (operators : List ℕ) (a : ℕ) (xs : List ℕ) : Type 0 where

@@ -2,12 +2,12 @@
 use mathlib.Core.List.{List}
 use mathlib.Core.Path.{_≡_}
 use Prim.Native.Nat.{ℕ, _+_, _-_, _*_, _≤_, _<_}
-use lib.ListN.{length, getD}
+use lib.ListN.{length, getD, drop}
 use Rattle.paper.specs.Tree.{preorder}
 use Rattle.paper.specs.Book.{Symbol, Side}
 use Rattle.paper.specs.Sound.{All}
 use Rattle.paper.specs.Tree.{Complete}
-use Rattle.flat.specs.Symbols.{segment, Binding}
+use Rattle.flat.specs.Symbols.{segment, Binding, skip}
 use Rattle.side.specs.Contracts.{NumberFits}
 use Rattle.tables.specs.Layout.{arity-in}
 use Rattle.tables.specs.Tables.{Stand}
@@ -48,3 +48,8 @@ binding bound v = segment (getD bound (2 * v) 0) (getD bound (2 * v + 1) 0)
 -- each variable is bound within the first len symbols
 abbrev pub Binds-within : Binding → ℕ → Type 0
 Binds-within b len = (v : ℕ) → b v .start + b v .size ≤ len
+
+-- a variable of a side is bound to the term of the symbols xs that begins where its segment starts
+abbrev pub Bound-term : (ℕ → ℕ) → List ℕ → Binding → Symbol → Type 0
+Bound-term arity xs b (Symbol.operator o) = Unit {0}
+Bound-term arity xs b (Symbol.variable v) = (b v .start < length xs) × (b v .size ≡ skip arity 1 (drop (b v .start) xs))

@@ -1,12 +1,15 @@
-// A packed rule against the present term: its left side matched, its right side filled, and the first rule in book order that matches
+// A packed rule against the present term: its left side matched, and the first rule in book order that matches
 // (document 01, 'Reduction one after the other'; document 02, Change 4).
 use side::Standing;
 ghost use mathlib.Core.Path.{_≡_};
-ghost use Prim.Native.Nat.{_+_, _-_, _*_, _<_, _≤_, _^_};
+ghost use Prim.Native.Nat.{_+_, _*_, _<_, _≤_, _^_};
 ghost use lib.ListN.{length, getD, take, drop};
 ghost use Rattle.flat.specs.Symbols as flat;
+ghost use Rattle.symbol.specs.Record as S;
+ghost use Rattle.tables.specs.Layout.{arity-in};
 ghost use Rattle.tables.specs.Tables.{book-of};
-ghost use Rattle.rule.specs.Packed.{binding, Binds-within};
+ghost use Rattle.term.specs.Present.{length-in, operators-in};
+ghost use Rattle.rule.specs.Packed.{binding};
 ghost use Rattle.rule.specs.Contracts as R;
 
 // The offset behind the term that a left side agrees with.
@@ -27,13 +30,7 @@ pub enum Hit {
     None,
 }
 
-// How many symbols a filled right side has, or that they are more than the limit.
-pub enum Size {
-    Fits(usize),
-    Over,
-}
-
-// A symbol of a side that goes on: its arity, the position behind it, and how many symbols of the term it takes or gives.
+// A symbol of a side that goes on: its arity, the position behind it, and how many symbols of the term it takes.
 struct Taken {
     arity: usize,
     next: usize,
@@ -73,50 +70,51 @@ fn clear(bound: &mut [u16; 32])
     *bound = [0; 32];
 }
 
-// How many symbols stand from offset at up to offset end.
-fn span(at: usize, end: usize) -> u16
-    requires { ⌜ (at ≤ end) × (end ≤ 1024) ⌝ }
-    ensures { λ r. ⌜ r ≡ end - at ⌝ }
-{
-    casts::short(end - at)
-}
-
-// The variable v is bound to the symbols from offset at up to offset end.
-fn bind(bound: &mut [u16; 32], v: u8, at: usize, end: usize)
-    requires { ⌜ (length (now bound) ≡ 32) × (v < 16) × (at ≤ end) × (end ≤ 1024) ⌝ }
-    ensures { λ _. ⌜ R.Holds-binding (now (bound .exit)) (flat.bind v (flat.segment at (end - at)) (binding (now (bound .entry)))) ⌝ }
+// The variable v is bound to the n symbols from offset at on.
+fn bind(bound: &mut [u16; 32], v: u8, at: usize, n: usize)
+    requires { ⌜ (length (now bound) ≡ 32) × (v < 16) × (at + n ≤ 1024) ⌝ }
+    ensures { λ _. ⌜ R.Holds-binding (now (bound .exit)) (flat.bind v (flat.segment at n) (binding (now (bound .entry)))) ⌝ }
 {
     let i = 2 * casts::index(v);
     bound[i] = casts::short(at);
-    bound[i + 1] = span(at, end);
+    bound[i + 1] = casts::short(n);
 }
 
 // Is o the symbol at offset at?
-fn stands(symbols: &[u8; 1024], len: usize, at: usize, o: u8) -> bool
+fn stands(symbols: &[u32; 1024], len: usize, at: usize, o: u8) -> bool
     requires { ⌜ (length (now symbols) ≡ 1024) × (len ≤ 1024) ⌝ }
-    ensures { λ r. ⌜ r ≡ R.head-is o (drop at (take len (now (symbols .entry)))) ⌝ }
+    ensures { λ r. ⌜ r ≡ R.head-is o (drop at (S.operators (take len (now (symbols .entry))))) ⌝ }
 {
-    if at < len { o == symbols[at] } else { false }
+    if at < len {
+        o == term::operator_at(symbols, at)
+    } else {
+        false
+    }
+}
+
+// How many symbols the term has that begins at an offset; none behind the last symbol.
+fn part_size(symbols: &[u32; 1024], len: usize, offset: usize) -> usize
+    requires { ⌜ (length (now symbols) ≡ 1024) × (len ≤ 1024) ⌝ }
+    ensures { λ r. ⌜ r ≡ R.part-size (now (symbols .entry)) len offset ⌝ }
+{
+    if offset < len {
+        term::size_at(symbols, offset)
+    } else {
+        0
+    }
 }
 
 // The variable v against the term at an offset: met first it is bound to the term, met again as many symbols there must be those it is bound to. A bound
 // variable has at least one.
-fn meet(
-    v: u8,
-    operators: &[u8; 4352],
-    symbols: &[u8; 1024],
-    len: usize,
-    offset: usize,
-    bound: &mut [u16; 32],
-) -> Meeting
-    requires { ⌜ (v < 16) × R.Offset-in (now symbols) len offset × R.Bound-within (now bound) len ⌝ }
-    ensures { λ r. ⌜ R.Variable-met (now (operators .entry)) (take len (now (symbols .entry))) v offset len (binding (now (bound .entry))) (now (bound .exit)) r ⌝ }
+fn meet(v: u8, symbols: &[u32; 1024], len: usize, offset: usize, bound: &mut [u16; 32]) -> Meeting
+    requires { ⌜ (v < 16) × R.Part-in (now symbols) len offset × R.Bound-within (now bound) len ⌝ }
+    ensures { λ r. ⌜ R.Variable-met (S.operators (take len (now (symbols .entry)))) (R.part-size (now (symbols .entry)) len offset) v offset len (binding (now (bound .entry))) (now (bound .exit)) r ⌝ }
 {
     let size = size_of(bound, v);
     if size == 0 {
-        let end = term::skip(symbols, len, operators, offset, 1);
-        bind(bound, v, offset, end);
-        return Meeting::Part(end - offset);
+        let n = part_size(symbols, len, offset);
+        bind(bound, v, offset, n);
+        return Meeting::Part(n);
     }
     if term::same(symbols, len, start_of(bound, v), offset, size) {
         Meeting::Part(size)
@@ -130,13 +128,13 @@ fn match_one(
     book: &[u8],
     at: usize,
     operators: &[u8; 4352],
-    symbols: &[u8; 1024],
+    symbols: &[u32; 1024],
     len: usize,
     offset: usize,
     bound: &mut [u16; 32],
 ) -> Step
-    requires { ⌜ (length (now book) ≤ 2 ^ 60) × R.Offset-in (now symbols) len offset × R.Bound-within (now bound) len ⌝ }
-    ensures { λ r. ⌜ R.Symbol-matched (now (book .entry)) at (now (operators .entry)) (take len (now (symbols .entry))) offset len (binding (now (bound .entry))) (now (bound .exit)) r ⌝ }
+    requires { ⌜ (length (now book) ≤ 2 ^ 60) × R.Offset-in (arity-in (now operators)) (now symbols) len offset × R.Bound-within (now bound) len ⌝ }
+    ensures { λ r. ⌜ R.Symbol-matched (now (book .entry)) at (now (operators .entry)) (S.operators (take len (now (symbols .entry)))) offset len (binding (now (bound .entry))) (now (bound .exit)) r ⌝ }
 {
     match side::symbol_at(book, at) {
         Standing::Operator(o, next) => {
@@ -150,7 +148,7 @@ fn match_one(
                 Step::Stops
             }
         }
-        Standing::Variable(v, next) => match meet(v, operators, symbols, len, offset, bound) {
+        Standing::Variable(v, next) => match meet(v, symbols, len, offset, bound) {
             Meeting::Part(n) => Step::Took(Taken {
                 arity: 0,
                 next: next,
@@ -167,14 +165,14 @@ fn match_rest(
     book: &[u8],
     at: usize,
     operators: &[u8; 4352],
-    symbols: &[u8; 1024],
+    symbols: &[u32; 1024],
     len: usize,
     offset: usize,
     due: usize,
     bound: &mut [u16; 32],
 ) -> Found
-    requires { ⌜ (length (now book) ≤ 2 ^ 60) × R.Offset-in (now symbols) len offset × R.Bound-within (now bound) len × (due < 256) ⌝ }
-    ensures { λ r. ⌜ R.Rest-matched (now (book .entry)) at (now (operators .entry)) due 63 (take len (now (symbols .entry))) offset (binding (now (bound .entry))) (binding (now (bound .exit))) r × R.Agrees-within len (binding (now (bound .exit))) r ⌝ }
+    requires { ⌜ (length (now book) ≤ 2 ^ 60) × R.Offset-in (arity-in (now operators)) (now symbols) len offset × R.Bound-within (now bound) len × (due < 256) ⌝ }
+    ensures { λ r. ⌜ R.Rest-matched (now (book .entry)) at (now (operators .entry)) due 63 (S.operators (take len (now (symbols .entry)))) offset (binding (now (bound .entry))) (binding (now (bound .exit))) r × R.Agrees-within len (binding (now (bound .exit))) r ⌝ }
 {
     let mut p = at;
     let mut q = offset;
@@ -192,85 +190,13 @@ fn match_rest(
     Found::Agrees(q)
 }
 
-// What the symbol at position at of a right side gives, from place k of scratch on. It stops where that goes past the limit.
-fn fill_one(
-    book: &[u8],
-    at: usize,
-    operators: &[u8; 4352],
-    symbols: &[u8; 1024],
-    limit: usize,
-    bound: &[u16; 32],
-    scratch: &mut [u8; 1024],
-    k: usize,
-) -> Step
-    requires { ⌜ (length (now book) ≤ 2 ^ 60) × (length (now symbols) ≡ 1024) × (length (now scratch) ≡ 1024) × Binds-within (binding (now bound)) 1024 × (limit ≤ 1024) × (k ≤ limit) ⌝ }
-    ensures { λ r. ⌜ R.Symbol-filled (now (book .entry)) at (now (operators .entry)) (now (symbols .entry)) (binding (now (bound .entry))) limit k (now (scratch .entry)) (now (scratch .exit)) r ⌝ }
-{
-    match side::symbol_at(book, at) {
-        Standing::Operator(o, next) => {
-            if limit <= k {
-                return Step::Stops;
-            }
-            scratch[k] = o;
-            Step::Took(Taken {
-                arity: tables::arity(operators, o),
-                next: next,
-                size: 1,
-            })
-        }
-        Standing::Variable(v, next) => {
-            let size = size_of(bound, v);
-            if limit - k < size {
-                return Step::Stops;
-            }
-            term::copy(scratch, k, symbols, start_of(bound, v), size);
-            Step::Took(Taken {
-                arity: 0,
-                next: next,
-                size: size,
-            })
-        }
-    }
-}
-
-// The filled right side at position at of the book, at the front of scratch, unless it has more symbols than the limit. One pass over its bits fills and
-// counts.
-pub fn fill(
-    book: &[u8],
-    at: usize,
-    operators: &[u8; 4352],
-    symbols: &[u8; 1024],
-    limit: usize,
-    bound: &[u16; 32],
-    scratch: &mut [u8; 1024],
-) -> Size
-    requires { ⌜ (length (now book) ≤ 2 ^ 60) × (length (now symbols) ≡ 1024) × (length (now scratch) ≡ 1024) × Binds-within (binding (now bound)) 1024 × (limit ≤ 1024) ⌝ }
-    ensures { λ r. ⌜ R.Side-filled (now (book .entry)) at (now (operators .entry)) (now (symbols .entry)) (binding (now (bound .entry))) limit (now (scratch .exit)) r ⌝ }
-{
-    let mut p = at;
-    let mut due = 1;
-    let mut room: usize = 64;
-    let mut k = 0;
-    while 0 < due && 0 < room {
-        let Step::Took(taken) = fill_one(book, p, operators, symbols, limit, bound, scratch, k)
-        else {
-            return Size::Over;
-        };
-        due = due - 1 + taken.arity;
-        p = taken.next;
-        k += taken.size;
-        room -= 1;
-    }
-    Size::Fits(k)
-}
-
 // The symbol at offset at, or 256, which is none.
-fn symbol_or_none(symbols: &[u8; 1024], len: usize, at: usize) -> usize
+fn symbol_or_none(symbols: &[u32; 1024], len: usize, at: usize) -> usize
     requires { ⌜ (length (now symbols) ≡ 1024) × (len ≤ 1024) ⌝ }
-    ensures { λ r. ⌜ r ≡ R.head-or (drop at (take len (now (symbols .entry)))) ⌝ }
+    ensures { λ r. ⌜ r ≡ R.head-or (drop at (S.operators (take len (now (symbols .entry))))) ⌝ }
 {
     if at < len {
-        casts::index(symbols[at])
+        casts::index(term::operator_at(symbols, at))
     } else {
         256
     }
@@ -293,13 +219,13 @@ fn try_left(
     operators: &[u8; 4352],
     x: usize,
     due: usize,
-    symbols: &[u8; 1024],
+    symbols: &[u32; 1024],
     len: usize,
     offset: usize,
     bound: &mut [u16; 32],
 ) -> Found
-    requires { ⌜ (length (now book) ≤ 2 ^ 60) × (left < 2 ^ 32) × R.Offset-in (now symbols) len offset × R.Under-root (now operators) (take len (now symbols)) offset x due ⌝ }
-    ensures { λ r. ⌜ R.Left-tried (now (book .entry)) left (now (operators .entry)) (take len (now (symbols .entry))) offset len (binding (now (bound .exit))) r ⌝ }
+    requires { ⌜ (length (now book) ≤ 2 ^ 60) × (left < 2 ^ 32) × R.Offset-in (arity-in (now operators)) (now symbols) len offset × R.Under-root (now operators) (S.operators (take len (now symbols))) offset x due ⌝ }
+    ensures { λ r. ⌜ R.Left-tried (now (book .entry)) left (now (operators .entry)) (S.operators (take len (now (symbols .entry)))) offset len (binding (now (bound .exit))) r ⌝ }
 {
     let at = left + 9;
     if 0 < due {
@@ -316,20 +242,20 @@ pub fn find(
     book: &[u8],
     operators: &[u8; 4352],
     rules: &[u32; 1024],
-    symbols: &[u8; 1024],
-    len: usize,
+    symbols: &[u32; 1024],
     offset: usize,
     bound: &mut [u16; 32],
 ) -> Hit
-    requires { ⌜ R.Present (now book) (now operators) (now rules) (now symbols) len offset ⌝ }
-    ensures { λ r. ⌜ R.Search-answers (book-of (now (book .entry)) (now (rules .entry))) (now (operators .entry)) offset (take len (now (symbols .entry))) len (binding (now (bound .exit))) r ⌝ }
+    requires { ⌜ R.Present (now book) (now operators) (now rules) (now symbols) offset ⌝ }
+    ensures { λ r. ⌜ R.Search-answers (book-of (now (book .entry)) (now (rules .entry))) (now (operators .entry)) offset (operators-in (now (symbols .entry))) (length-in (now (symbols .entry))) (binding (now (bound .exit))) r ⌝ }
 {
-    let o = symbols[offset];
+    let o = term::operator_at(symbols, offset);
     let mut k = tables::first_rule(rules, o);
     // Most terms have a root without rules.
     if k == 0 {
         return Hit::None;
     }
+    let len = term::length(symbols);
     let due = tables::arity(operators, o);
     let x = symbol_or_none(symbols, len, offset + 1);
     while 0 < k {

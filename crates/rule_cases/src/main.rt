@@ -6,19 +6,22 @@ use cases::say;
 use cases::say_front;
 use cases::say_number;
 use cases::say_refused;
+use fill::Size;
 use line::Line;
 use rule::Hit;
-use rule::Size;
 use whole::Limits;
 use whole::Place;
 use whole::Progress;
 use whole::Whole;
 ghost use mathlib.Core.Path.{_≡_};
-ghost use Prim.Native.Nat.{_<_, _≤_, _^_};
+ghost use Prim.Native.Nat.{_<_, _≤_};
 ghost use lib.ListN.{length, take};
+ghost use Rattle.tables.specs.Layout.{arity-in};
 ghost use Rattle.tables.specs.Tables.{TablesOf, book-of};
-ghost use Rattle.rule.specs.Packed.{binding, Binds-within};
+ghost use Rattle.term.specs.Present.{operators-in, Sized};
+ghost use Rattle.rule.specs.Packed.{binding};
 ghost use Rattle.rule.specs.Contracts.{Present};
+ghost use Rattle.fill.specs.Contracts.{Fillable};
 
 fn say_found(i: usize, end: usize) {
     say(b"rule ");
@@ -27,20 +30,32 @@ fn say_found(i: usize, end: usize) {
     say_number(end);
 }
 
-// The right side at a position, filled: says its size, or `over` for more than 1,024 symbols, which is told as 0.
+// The operators from an offset up to another, in hexadecimal.
+fn say_operators(symbols: &[u32; 1024], from: usize, end: usize)
+    requires { ⌜ end ≤ 1024 ⌝ }
+{
+    let mut i = from;
+    while i < end {
+        let o = [term::operator_at(symbols, i)];
+        say_front(&o, 1);
+        i += 1;
+    }
+}
+
+// The right side at a position, filled, as the last symbols: says how many, or `over` for more than 1,024, which is told as 0.
 fn try_fill(
     bytes: &[u8],
     right: usize,
     operators: &[u8; 4352],
-    symbols: &[u8; 1024],
+    symbols: &[u32; 1024],
     bound: &[u16; 32],
+    filled: &mut [u32; 1024],
 ) -> usize
-    requires { ⌜ (length (now bytes) ≤ 2 ^ 60) × (length (now symbols) ≡ 1024) × Binds-within (binding (now bound)) 1024 ⌝ }
+    requires { ⌜ Fillable (now bytes) right (now operators) (operators-in (now symbols)) (binding (now bound)) × Sized (arity-in (now operators)) (now symbols) × (length (now filled) ≡ 1024) ⌝ }
     ensures { λ r. ⌜ r ≤ 1024 ⌝ }
 {
-    let mut scratch = [0u8; 1024];
     say(b" size ");
-    match rule::fill(bytes, right, operators, symbols, 1024, bound, &mut scratch) {
+    match fill::fill(bytes, right, operators, symbols, 1024, bound, filled) {
         Size::Fits(k) => {
             say_number(k);
             k
@@ -52,21 +67,21 @@ fn try_fill(
     }
 }
 
-// WHOLE of the term at the offset, by the only unit: the filled right side, of size symbols, and the new term.
+// WHOLE of the term at the offset, by the only unit: the right side, filled as the last symbols, size of them, and the new term.
 fn carry_out(
     bytes: &[u8],
     operators: &[u8; 4352],
     rules: &[u32; 1024],
-    symbols: &mut [u8; 1024],
-    len: usize,
+    symbols: &mut [u32; 1024],
     offset: usize,
+    filled: &[u32; 1024],
     size: usize,
 )
-    requires { ⌜ Present (now bytes) (now operators) (now rules) (now symbols) len offset × (size ≤ 1024) ⌝ }
+    requires { ⌜ Present (now bytes) (now operators) (now rules) (now symbols) offset × (size ≤ 1024) ⌝ }
 {
-    let mut scratch = [0u8; 1024];
+    let mut scratch = [0u32; 1024];
     let mut work = [0u8; 24624];
-    let mut units = [0u16; 8];
+    let mut units = [0u32; 8];
     units::start(&mut work, &mut units);
     match whole::rewrite(
         bytes,
@@ -81,7 +96,6 @@ fn carry_out(
             offset: offset,
         },
         Progress {
-            length: len,
             rewrites: 0,
             granted: 0,
             kept: 0,
@@ -94,11 +108,11 @@ fn carry_out(
         Whole::Missed => say(b" missed"),
         Whole::Spent => say(b" spent"),
         Whole::Full => say(b" full"),
-        Whole::Rewrote(new_len) => {
+        Whole::Rewrote => {
             say(b" ");
-            say_front(&scratch, size);
+            say_operators(filled, 1024 - size, 1024);
             say(b" ");
-            say_front(symbols, new_len);
+            say_operators(symbols, 0, term::length(symbols));
         }
     }
 }
@@ -108,31 +122,31 @@ fn try_rewrite(
     bytes: &[u8],
     operators: &[u8; 4352],
     rules: &[u32; 1024],
-    symbols: &mut [u8; 1024],
-    len: usize,
+    symbols: &mut [u32; 1024],
     offset: usize,
 )
-    requires { ⌜ Present (now bytes) (now operators) (now rules) (now symbols) len offset ⌝ }
+    requires { ⌜ Present (now bytes) (now operators) (now rules) (now symbols) offset ⌝ }
 {
     let mut bound = [0; 32];
-    let Hit::Rule(m) = rule::find(bytes, operators, rules, symbols, len, offset, &mut bound) else {
+    let Hit::Rule(m) = rule::find(bytes, operators, rules, symbols, offset, &mut bound) else {
         say(b"none");
         return;
     };
     let right = tables::right_side(rules, m.rule);
     say_found(m.rule, m.end);
-    let size = try_fill(bytes, right, operators, symbols, &bound);
-    carry_out(bytes, operators, rules, symbols, len, offset, size);
+    let mut filled = [0u32; 1024];
+    let size = try_fill(bytes, right, operators, symbols, &bound, &mut filled);
+    carry_out(bytes, operators, rules, symbols, offset, &filled, size);
 }
 
-// The line's symbols at the front of symbols; how many.
-fn load(line: &[u8], symbols: &mut [u8; 1024]) -> usize
-    requires { ⌜ (length (now line) ≤ 1024) × (length (now symbols) ≡ 1024) ⌝ }
-    ensures { λ r. ⌜ (r ≡ length (now (line .entry))) × (take r (now (symbols .exit)) ≡ now (line .entry)) × (length (now (symbols .exit)) ≡ 1024) ⌝ }
+// The line at the front of space; how many bytes.
+fn load(line: &[u8], space: &mut [u8; 1024]) -> usize
+    requires { ⌜ (length (now line) ≤ 1024) × (length (now space) ≡ 1024) ⌝ }
+    ensures { λ r. ⌜ (r ≡ length (now (line .entry))) × (take r (now (space .exit)) ≡ now (line .entry)) × (length (now (space .exit)) ≡ 1024) ⌝ }
 {
     let mut i = 0;
     while i < line.len() {
-        symbols[i] = line[i];
+        space[i] = line[i];
         i += 1;
     }
     i
@@ -152,8 +166,8 @@ fn try_line(
     match line::check_line(line, n, operators) {
         Line::Refused(k) => say_refused(k),
         Line::Sound => {
-            let mut symbols = [0u8; 1024];
-            let len = load(line, &mut symbols);
+            let mut space = [0u8; 1024];
+            let len = load(line, &mut space);
             if len < offset {
                 say(b"outside");
                 return;
@@ -162,7 +176,9 @@ fn try_line(
                 say(b"none");
                 return;
             }
-            try_rewrite(bytes, operators, rules, &mut symbols, len, offset);
+            let mut symbols = [0u32; 1024];
+            term::load(&mut symbols, operators, &space, len);
+            try_rewrite(bytes, operators, rules, &mut symbols, offset);
         }
     }
 }

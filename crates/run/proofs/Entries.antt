@@ -47,7 +47,7 @@ module _ (B : Book) (L : paper.Limits) (us : List ℕ) (i : ℕ) (s : FlatState)
 -- after i entries of the run from the state s₀
 pub record Along (bytes operators rules : List ℕ) (l : Limits) (schedule : List ℕ) (s₀ : FlatState) (symbols scratch work units : List ℕ) (p : Progress) (i : ℕ) :
     Type 0 where
-  pub arrays : Arrays symbols scratch work units p l
+  pub arrays : Arrays symbols scratch work units l
   pub running : Running bytes operators rules l (state symbols work units p l)
   pub tallied : Tallied (l .budget) i (state symbols work units p l)
   pub is : flat-run-from (book-of bytes rules) (limited (l .budget)) 0 schedule s₀ ≡
@@ -56,9 +56,9 @@ pub record Along (bytes operators rules : List ℕ) (l : Limits) (schedule : Lis
 
 module _ {bytes operators rules : List ℕ} {l : Limits} {schedule : List ℕ} where
   -- before the first entry
-  pub along-start : {symbols scratch work units : List ℕ} {n : ℕ} → Arrays symbols scratch work units (beginning n) l →
-      Runnable bytes operators rules l schedule (state symbols work units (beginning n) l) →
-      Along bytes operators rules l schedule (state symbols work units (beginning n) l) symbols scratch work units (beginning n) 0
+  pub along-start : {symbols scratch work units : List ℕ} → Arrays symbols scratch work units l →
+      Runnable bytes operators rules l schedule (state symbols work units beginning l) →
+      Along bytes operators rules l schedule (state symbols work units beginning l) symbols scratch work units beginning 0
   along-start a r = record {
     arrays = a;
     running = r .running;
@@ -82,7 +82,7 @@ module _ {bytes operators rules : List ℕ} {l : Limits} {schedule : List ℕ} w
     module _ (h : i < length schedule) (u : ℕ) (eu : u ≡ getD schedule i 0) {symbols′ scratch′ work′ units′ : List ℕ} where
       -- the entry leads to another state
       pub along-goes : (p′ : Progress) → going (state symbols′ work′ units′ p′ l) ≡ flat-entry (book-of bytes rules) (limited (l .budget)) u (state symbols work units p l) →
-          Arrays symbols′ scratch′ work′ units′ p′ l → Along bytes operators rules l schedule s₀ symbols′ scratch′ work′ units′ p′ (i + 1)
+          Arrays symbols′ scratch′ work′ units′ l → Along bytes operators rules l schedule s₀ symbols′ scratch′ work′ units′ p′ (i + 1)
       unfolding after
       along-goes p′ e z =
           let g = a .running .tables .tables .good in
@@ -102,7 +102,7 @@ module _ {bytes operators rules : List ℕ} {l : Limits} {schedule : List ℕ} w
 
       -- the entry ends the run, and the state is as it was
       pub along-ends : (x : Ending) → ended (ending x) (state symbols′ work′ units′ p l) ≡ flat-entry (book-of bytes rules) (limited (l .budget)) u (state symbols work units p l) →
-          Arrays symbols′ scratch′ work′ units′ p l → (r : Run) → r ≡ R.ended x (i + 1) p →
+          Arrays symbols′ scratch′ work′ units′ l → (r : Run) → r ≡ R.ended x (i + 1) p symbols′ →
           (answer r symbols′ ≡ flat-run-from (book-of bytes rules) (limited (l .budget)) 0 schedule s₀) × Bounded l schedule symbols′ r
       unfolding after
       along-ends x e z r er = (
@@ -111,6 +111,7 @@ module _ {bytes operators rules : List ℕ} {l : Limits} {schedule : List ℕ} w
             ∙ sym (a .is ∙ run-more (book-of bytes rules) (limited (l .budget)) schedule i _ h u eu _ e),
         rw er (record {
           long = z .symbols-long;
+          root = refl;
           most = z .most;
           allowed = a .tallied .allowed;
           used = omega arith;
@@ -119,12 +120,13 @@ module _ {bytes operators rules : List ℕ} {l : Limits} {schedule : List ℕ} w
       )
 
     -- the schedule is at its end
-    pub along-cut : length schedule ≤ i → (r : Run) → r ≡ R.ended Ending.Cut i p →
+    pub along-cut : length schedule ≤ i → (r : Run) → r ≡ R.ended Ending.Cut i p symbols →
         (answer r symbols ≡ flat-run-from (book-of bytes rules) (limited (l .budget)) 0 schedule s₀) × Bounded l schedule symbols r
     along-cut h r er = (
       ap (λ (q : Run). answer q symbols) er ∙ sym (a .is ∙ run-cut (book-of bytes rules) (limited (l .budget)) schedule i _ h),
       rw er (record {
         long = a .arrays .symbols-long;
+        root = refl;
         most = a .arrays .most;
         allowed = a .tallied .allowed;
         used = a .used;

@@ -2,11 +2,12 @@
 use mathlib.Core.List.{List}
 use mathlib.Core.Path.{_≡_}
 use Prim.Native.Nat.{ℕ, _+_, _^_, _≤_, _<_}
-use lib.ListN.{length, take}
+use lib.ListN.{length}
 use Rattle.paper.specs.Machine as paper
 use Rattle.paper.specs.Sound.{All}
 use Rattle.flat.specs.Machine.{FlatState}
 use Rattle.flat.specs.Run.{FlatAnswer}
+use Rattle.term.specs.Present.{length-in, operators-in}
 use Rattle.whole.specs.declared.Progress.{Progress}
 use Rattle.whole.specs.declared.Limits.{Limits}
 use Rattle.entry.specs.Contracts.{Running}
@@ -20,9 +21,9 @@ ending Ending.Spent = paper.spent
 ending Ending.Full = paper.full
 ending Ending.Cut = paper.cut
 
--- before the first entry: a term of so many symbols, and nothing counted
-abbrev pub beginning : ℕ → Progress
-beginning length = record { length = length; rewrites = 0; granted = 0; kept = 0 }
+-- before the first entry nothing is counted
+abbrev pub beginning : Progress
+beginning = record { rewrites = 0; granted = 0; kept = 0 }
 
 -- the tables are a book's, s is a state that runs by it reach, every entry names one of the units, and the budget has 32 bits
 pub record Runnable (bytes operators rules : List ℕ) (l : Limits) (schedule : List ℕ) (s : FlatState) : Type 0 where
@@ -38,16 +39,17 @@ answer r symbols = record {
   entries = r .entries;
   granted = r .granted;
   kept = r .kept;
-  symbols = take (r .length) symbols;
+  symbols = operators-in symbols;
 }
 
--- a run that ended so after so many entries, with this progress
-abbrev pub ended : Ending → ℕ → Progress → Run
-ended e n p = record { ending = e; rewrites = p .rewrites; entries = n; granted = p .granted; kept = p .kept; length = p .length }
+-- a run that ended so after so many entries, with this progress, and what is left in the symbols
+abbrev pub ended : Ending → ℕ → Progress → List ℕ → Run
+ended e n p symbols = record { ending = e; rewrites = p .rewrites; entries = n; granted = p .granted; kept = p .kept; length = length-in symbols }
 
 -- what holds of the numbers whatever the ending
 pub record Bounded (l : Limits) (schedule symbols : List ℕ) (r : Run) : Type 0 where
   pub long : length symbols ≡ 1024
+  pub root : r .length ≡ length-in symbols
   pub most : r .length ≤ 1024
   pub allowed : r .rewrites ≤ l .budget
   pub used : r .entries ≤ length schedule

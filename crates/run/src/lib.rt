@@ -29,9 +29,9 @@ pub struct Run {
     pub length: usize,
 }
 
-// A run that ended so after so many entries.
-fn ended(ending: Ending, entries: usize, p: Progress) -> Run
-    ensures { λ r. ⌜ r ≡ R.ended ending entries p ⌝ }
+// A run that ended so after so many entries, the present term being left in the symbols.
+fn ended(ending: Ending, entries: usize, p: Progress, symbols: &[u32; 1024]) -> Run
+    ensures { λ r. ⌜ r ≡ R.ended ending entries p (now (symbols .entry)) ⌝ }
 {
     Run {
         ending,
@@ -39,32 +39,30 @@ fn ended(ending: Ending, entries: usize, p: Progress) -> Run
         entries,
         granted: p.granted,
         kept: p.kept,
-        length: p.length,
+        length: term::length(symbols),
     }
 }
 
-// The run of a schedule from a term of so many symbols, with nothing counted yet: the present term is left in the symbols.
+// The run of a schedule from the term in the symbols, with nothing counted yet: the present term is left in the symbols.
 pub fn run_schedule(
     book: &[u8],
     operators: &[u8; 4352],
     rules: &[u32; 1024],
-    symbols: &mut [u8; 1024],
-    scratch: &mut [u8; 1024],
+    symbols: &mut [u32; 1024],
+    scratch: &mut [u32; 1024],
     work: &mut [u8],
-    units: &mut [u16; 8],
-    length: usize,
+    units: &mut [u32; 8],
     l: Limits,
     schedule: &[u8],
 ) -> Run
     ghost { FlatState }
-    requires { λ s. ⌜ S.state (now symbols) (now work) (now units) (R.beginning length) l ≡ s ⌝ }
-    requires { λ s. ⌜ S.Arrays (now symbols) (now scratch) (now work) (now units) (R.beginning length) l ⌝ }
+    requires { λ s. ⌜ S.state (now symbols) (now work) (now units) R.beginning l ≡ s ⌝ }
+    requires { λ s. ⌜ S.Arrays (now symbols) (now scratch) (now work) (now units) l ⌝ }
     requires { λ s. ⌜ R.Runnable (now book) (now operators) (now rules) l (now schedule) s ⌝ }
     ensures { λ s r. ⌜ R.answer r (now (symbols .exit)) ≡ flat-run-from (book-of (now (book .entry)) (now (rules .entry))) (S.limited (l .budget)) 0 (now (schedule .entry)) s ⌝ }
     ensures { λ s r. ⌜ R.Bounded l (now (schedule .entry)) (now (symbols .exit)) r ⌝ }
 {
     let mut p = Progress {
-        length,
         rewrites: 0,
         granted: 0,
         kept: 0,
@@ -87,16 +85,16 @@ pub fn run_schedule(
                 p = next;
             }
             Entry::Finished => {
-                return ended(Ending::Finished, i + 1, p);
+                return ended(Ending::Finished, i + 1, p, symbols);
             }
             Entry::Spent => {
-                return ended(Ending::Spent, i + 1, p);
+                return ended(Ending::Spent, i + 1, p, symbols);
             }
             Entry::Full => {
-                return ended(Ending::Full, i + 1, p);
+                return ended(Ending::Full, i + 1, p, symbols);
             }
         }
         i += 1;
     }
-    ended(Ending::Cut, i, p)
+    ended(Ending::Cut, i, p, symbols)
 }

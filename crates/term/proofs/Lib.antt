@@ -1,3 +1,4 @@
 pub mod Skipping
+pub mod Hopping
+pub mod Sized
 pub mod Comparing
-pub mod Replacing

@@ -2,7 +2,7 @@
 use mathlib.Core.Path.{_≡_, refl, _∙_}
 use mathlib.Core.List.{List}
 use mathlib.Core.Logic.{_⊎_, inl, inr}
-use Prim.Native.Nat.{ℕ, _+_, _*_, _≤_, _<_}
+use Prim.Native.Nat.{ℕ, _+_, _≤_, _<_}
 use native.Mathlib.Omega.{arith}
 use lib.ListN.{length, getD, set, length-set}
 use lib.Seq.{getD-set-same, getD-set-other}
@@ -10,42 +10,43 @@ use Rattle.units.specs.Frames.{decode, frameAt}
 use Rattle.units.specs.Contracts.{Same-outside, Frame-put}
 
 -- frames whose bytes agree
-pub frame-same : (w w′ : List ℕ) (k : ℕ) → ((i : ℕ) → 3 * k ≤ i → i < 3 * k + 3 → getD w′ i 0 ≡ getD w i 0) → frameAt w′ k ≡ frameAt w k
-frame-same w w′ k h =
-    rw (h (3 * k) (omega arith) (omega arith), h (3 * k + 1) (omega arith) (omega arith), h (3 * k + 2) (omega arith) (omega arith))
+pub frame-same : (w w′ : List ℕ) (at : ℕ) → ((i : ℕ) → at ≤ i → i < at + 3 → getD w′ i 0 ≡ getD w i 0) → frameAt w′ at ≡ frameAt w at
+frame-same w w′ at h =
+    rw (h at (omega arith) (omega arith), h (at + 1) (omega arith) (omega arith), h (at + 2) (omega arith) (omega arith))
 
-pub stores : {w : List ℕ} {k : ℕ} (kind low high : ℕ) → 3 * k + 3 ≤ length w →
-    Frame-put k (decode kind low high) w (set (set (set w (3 * k) kind) (3 * k + 1) low) (3 * k + 2) high)
-stores {w} {k} kind low high h =
-    let at = 3 * k in
+pub stores : {w : List ℕ} {at : ℕ} (kind low high : ℕ) → at + 3 ≤ length w →
+    Frame-put at (decode kind low high) w (set (set (set w at kind) (at + 1) low) (at + 2) high)
+stores {w} {at} kind low high h =
     let w₁ = set w at kind in
     let w₂ = set w₁ (at + 1) low in
     let w₃ = set w₂ (at + 2) high in
     let l₁ : length w₁ ≡ length w = length-set w at kind in
     let l₂ : length w₂ ≡ length w₁ = length-set w₁ (at + 1) low in
-    let other : (i : ℕ) → (i < at) ⊎ (at + 3 ≤ i) → getD w₃ i 0 ≡ getD w i 0 =
-    λ i d. getD-set-other w₂ (at + 2) i high 0 (away i 2 d (omega arith))
-    ∙ getD-set-other w₁ (at + 1) i low 0 (away i 1 d (omega arith))
-    ∙ getD-set-other w at i kind 0 (λ e. away i 0 d (omega arith) (omega arith)) in
     let x : getD w₃ at 0 ≡ kind =
     getD-set-other w₂ (at + 2) at high 0 (λ e. omega arith) ∙ getD-set-other w₁ (at + 1) at low 0 (λ e. omega arith) ∙ getD-set-same w at kind 0 (omega arith) in
     let y : getD w₃ (at + 1) 0 ≡ low = getD-set-other w₂ (at + 2) (at + 1) high 0 (λ e. omega arith) ∙ getD-set-same w₁ (at + 1) low 0 (omega arith) in
     let z : getD w₃ (at + 2) 0 ≡ high = getD-set-same w₂ (at + 2) high 0 (omega arith) in
     record {
-      outside = record { size = length-set w₂ (at + 2) high ∙ l₂ ∙ l₁; rest = λ i d. other i (elim d [ inl b ↦ inl b | inr b ↦ inr (omega arith) ]) };
+      outside = record {
+        size = length-set w₂ (at + 2) high ∙ l₂ ∙ l₁;
+        rest = λ i d.
+            getD-set-other w₂ (at + 2) i high 0 (away i 2 d (omega arith))
+            ∙ getD-set-other w₁ (at + 1) i low 0 (away i 1 d (omega arith))
+            ∙ getD-set-other w at i kind 0 (λ e. away i 0 d (omega arith) (omega arith));
+      };
       frame = rw (x, y, z);
     }
   where
-    away : (i m : ℕ) → (i < 3 * k) ⊎ (3 * k + 3 ≤ i) → m < 3 → i ≡ 3 * k + m → ⊥
+    away : (i m : ℕ) → (i < at) ⊎ (at + 3 ≤ i) → m < 3 → i ≡ at + m → ⊥
     away i m (inl b) l e = omega arith
     away i m (inr b) l e = omega arith
 
 -- a frame outside what has changed
-pub outside-frame : {w w′ : List ℕ} {k m : ℕ} → Same-outside k m w w′ → (j : ℕ) → (j < k) ⊎ (m ≤ j) → frameAt w′ j ≡ frameAt w j
-outside-frame {w} {w′} q j (inl b) = frame-same w w′ j (λ i l h. q .rest i (inl (omega arith)))
-outside-frame {w} {w′} q j (inr b) = frame-same w w′ j (λ i l h. q .rest i (inr (omega arith)))
+pub outside-frame : {w w′ : List ℕ} {from end : ℕ} → Same-outside from end w w′ → (at : ℕ) → (at + 3 ≤ from) ⊎ (end ≤ at) → frameAt w′ at ≡ frameAt w at
+outside-frame {w} {w′} q at (inl b) = frame-same w w′ at (λ i l h. q .rest i (inl (omega arith)))
+outside-frame {w} {w′} q at (inr b) = frame-same w w′ at (λ i l h. q .rest i (inr (omega arith)))
 
-pub outside-none : {w : List ℕ} {k m : ℕ} → Same-outside k m w w
+pub outside-none : {w : List ℕ} {from end : ℕ} → Same-outside from end w w
 outside-none = record { size = refl; rest = λ i d. refl }
 
 -- one change after another

@@ -4,7 +4,7 @@ use mathlib.Core.Bool.{Bool, true, false}
 use mathlib.Core.List.{List, [], _∷_, map}
 use mathlib.Core.Logic.{inl, inr}
 use mathlib.Core.Option.{none, some}
-use Prim.Native.Nat.{ℕ, zero, suc, _+_, _*_, _-_, _≤_, _<_}
+use Prim.Native.Nat.{ℕ, zero, suc, _+_, _*_, _-_, _%_, _≤_, _<_}
 use native.Mathlib.Omega.{arith}
 use native.Mathlib.Decide.{ℕ-discrete}
 use native.Mathlib.Numerals.{add-one}
@@ -12,11 +12,12 @@ use lib.Dec.{ltb}
 use lib.ListN.{length, getD, set, replicate, length-set, length-map, length-replicate, getD-replicate, List·getD-map, List·getD-eq-default}
 use lib.Seq.{getD-set-same, getD-set-other}
 use borrow.Author.Tests.{lt-ltb, le-ltb, ltb-true, ltb-false}
-use Rattle.flat.specs.Machine.{Frame, FlatUnit, flat-unit, unit, asleep, idle, idle-from, shift-frame, shift-unit, flat-start}
-use Rattle.units.specs.Stacks.{height, stackOf, busy-in, height-in, units-from, units-of, Store, store, units-in, unit-in}
+use Rattle.flat.specs.Machine.{Frame, FlatUnit, flat-unit, asleep, idle, idle-from, shift-frame, shift-unit, start-units}
+use Rattle.units.specs.Stacks.{height, base, stackOf, busy-in, end-in, height-in, units-from, units-of, Store, store, units-in, unit-in}
 use Rattle.units.specs.Contracts.{
   Same-outside,
   Frame-put,
+  frames,
   Stack-shifted,
   Eight-regions,
   Stacks-fit,
@@ -41,14 +42,14 @@ module _ (w c : List ℕ) where
   unfolding idle
   idle-start n = let e : n - 0 ≡ n = omega arith in rw e
 
-  pub idle-next : (u v m k : ℕ) → getD c u 0 < 2048 → v ≡ u + 1 → m ≡ k + 1 → idle-from u (units-from w c u m) ≡ idle-from v (units-from w c v k)
+  pub idle-next : (u v m k : ℕ) → getD c u 0 < 65536 → v ≡ u + 1 → m ≡ k + 1 → idle-from u (units-from w c u m) ≡ idle-from v (units-from w c v k)
   unfolding idle-from units-from
-  idle-next u v m k e f g = rw (f, g, add-one u, add-one k, lt-ltb (getD c u 0) 2048 e)
+  idle-next u v m k e f g = rw (f, g, add-one u, add-one k, lt-ltb (getD c u 0) 65536 e)
 
-  pub idle-here : (u m : ℕ) → 2048 ≤ getD c u 0 → 0 < m → idle-from u (units-from w c u m) ≡ some u
+  pub idle-here : (u m : ℕ) → 65536 ≤ getD c u 0 → 0 < m → idle-from u (units-from w c u m) ≡ some u
   unfolding idle-from units-from
   idle-here u zero n l = absurd (omega arith)
-  idle-here u (suc m) n l = rw (le-ltb (getD c u 0) 2048 n)
+  idle-here u (suc m) n l = rw (le-ltb (getD c u 0) 65536 n)
 
   pub idle-none : (u m : ℕ) → m ≡ 0 → idle-from u (units-from w c u m) ≡ none
   unfolding idle-from units-from
@@ -56,24 +57,29 @@ module _ (w c : List ℕ) where
 
 -- the offsets of the jobs of units 0 to u - 1 have gone along
 pub record Shifted-below (u a e k : ℕ) (s : Store) (w′ : List ℕ) : Type 0 where
-  pub outside : Same-outside 0 (u * height) (s .work) w′
+  pub outside : Same-outside 0 (base u) (s .work) w′
   pub stacks : (v : ℕ) → v < u → unit-in (store w′ (s .cells)) v .stack ≡ map (shift-frame a e k) (unit-in s v .stack)
+
+-- the frames from a unit's base to their end
+pub frames-of : {s : Store} {u from end : ℕ} → Stacks-fit s → u < 8 → from ≡ base u → end ≡ end-in (s .cells) u →
+    (frames from end ≡ height-in (s .cells) u) × (end ≡ from + 3 * height-in (s .cells) u)
+frames-of {u = u} q l d e = let p = q .placed u l in (omega arith, omega arith)
 
 module _ {s : Store} {a e k : ℕ} where
   pub below-none : Shifted-below 0 a e k s (s .work)
   below-none = record { outside = outside-none; stacks = λ v l. absurd (omega arith) }
 
   pub below-rest : {u : ℕ} {w₁ : List ℕ} → Shifted-below u a e k s w₁ → unit-in (store w₁ (s .cells)) u .stack ≡ unit-in s u .stack
-  below-rest {u} p = outside-stack (p .outside) (u * height) (height-in (s .cells) u) (inr (omega arith))
+  below-rest {u} p = outside-stack (p .outside) (base u) (height-in (s .cells) u) (inr (omega arith))
 
-  pub below-more : {u : ℕ} {w₁ w₂ : List ℕ} {base y : ℕ} → Shifted-below u a e k s w₁ → base ≡ u * height → y ≡ height-in (s .cells) u →
-      ((v : ℕ) → height-in (s .cells) v ≤ height) → Stack-shifted base y a e k w₁ w₂ → Shifted-below (u + 1) a e k s w₂
+  pub below-more : {u : ℕ} {w₁ w₂ : List ℕ} {from h : ℕ} → Shifted-below u a e k s w₁ → from ≡ base u → h ≡ height-in (s .cells) u →
+      ((v : ℕ) → height-in (s .cells) v ≤ height) → Stack-shifted from h a e k w₁ w₂ → Shifted-below (u + 1) a e k s w₂
   below-more {u} {w₁} {w₂} p eb ey m q = record {
     outside = outside-then (p .outside) (q .outside) (omega arith) (omega arith) (omega arith) (omega (arith, m u));
     stacks = λ v l.
         elim (ℕ-discrete v u) [
           | yes d ↦ rw d (here ∙ ap (map (shift-frame a e k)) (below-rest p))
-          | no d ↦ outside-stack (q .outside) (v * height) (height-in (s .cells) v) (inl (omega (arith, m v))) ∙ p .stacks v (omega arith)
+          | no d ↦ outside-stack (q .outside) (base v) (height-in (s .cells) v) (inl (omega (arith, m v))) ∙ p .stacks v (omega arith)
         ];
   }
     where
@@ -86,6 +92,7 @@ module _ {s : Store} {a e k : ℕ} where
     fit = record {
       regions = record { bytes = omega (arith, p .outside .size, q .regions .bytes); eight = q .regions .eight };
       most = q .most;
+      placed = q .placed;
     };
     units =
         let w = s .work in
@@ -98,40 +105,49 @@ module _ {s : Store} {a e k : ℕ} where
 
 -- one more unit is put to sleep; the units of the start
 pub asleep-none : {s : Store} → Eight-regions s → Asleep-below 0 s
-asleep-none q = record { regions = q; heights = λ v l. absurd (omega arith); units = λ v l. absurd (omega arith) }
+asleep-none q = record { regions = q; ends = λ v l. absurd (omega arith); units = λ v l. absurd (omega arith) }
 
-pub asleep-more : {s s′ : Store} {u base : ℕ} → Asleep-below u s → u < 8 → base ≡ u * height → Frame-put base Frame.sleep (s .work) (s′ .work) →
-    s′ .cells ≡ set (s .cells) u 2049 → Asleep-below (u + 1) s′
+pub asleep-more : {s s′ : Store} {u from : ℕ} → Asleep-below u s → u < 8 → from ≡ base u → Frame-put from Frame.sleep (s .work) (s′ .work) →
+    s′ .cells ≡ set (s .cells) u (from + 3 + 65536) → Asleep-below (u + 1) s′
 unfolding stackOf
-asleep-more {s} {s′} {u} {base} q l e p ec = record {
+asleep-more {s} {s′} {u} {from} q l e p ec = record {
   regions = record { bytes = omega (arith, p .outside .size, q .regions .bytes); eight = rw (ec, length-set) (q .regions .eight) };
-  heights = high;
+  ends = end;
   units = λ v k.
       elim (ℕ-discrete v u) [
         | yes d ↦
-            rw d (store-same s s′ u 2049 false 1 ec refl refl lc ∙ ap (flat-unit false) (push p (u * height) 0 1 (omega arith) refl))
+            rw d (store-same s s′ u x false 1 ec idle-cell ends-at lc ∙ ap (flat-unit false) (push p (base u) 0 1 (omega arith) refl))
         | no d ↦
-            store-other s s′ u 2049 false 1 ec refl refl base (base + 1) (p .outside) (omega arith) (omega arith) v d
-            (omega (arith, q .heights v (omega arith)))
+            store-other s s′ u x false 1 ec idle-cell ends-at from (from + 3) (p .outside) (omega arith) (omega arith) v d
+            (omega (arith, q .ends v (omega arith)))
             ∙ q .units v (omega arith)
       ];
 }
   where
+    x : ℕ
+    x = from + 3 + 65536
+
     lc : u < length (s .cells)
     lc = omega (arith, q .regions .eight)
 
-    high : (v : ℕ) → v < u + 1 → height-in (s′ .cells) v ≡ 1
-    high v k =
+    idle-cell : ltb x 65536 ≡ false
+    idle-cell = le-ltb x 65536 (omega arith)
+
+    ends-at : x % 65536 ≡ base u + 3 * 1
+    ends-at = omega arith
+
+    end : (v : ℕ) → v < u + 1 → end-in (s′ .cells) v ≡ base v + 3
+    end v k =
         elim (ℕ-discrete v u) [
-          | yes d ↦ rw (d, ec, getD-set-same (s .cells) u 2049 0 lc)
-          | no d ↦ rw (ec, getD-set-other (s .cells) u v 2049 0 d) (q .heights v (omega arith))
+          | yes d ↦ rw (d, ec, getD-set-same (s .cells) u x 0 lc) ends-at
+          | no d ↦ rw (ec, getD-set-other (s .cells) u v x 0 d) (q .ends v (omega arith))
         ]
 
 pub asleep-fit : {s : Store} → Asleep-below 8 s → Stacks-fit s
-asleep-fit {s} q = record { regions = q .regions; most = λ u. go u (ltb u 8) refl }
+asleep-fit {s} q = record { regions = q .regions; most = λ u. go u (ltb u 8) refl; placed = λ u l. omega (arith, q .ends u l) }
   where
     go : (u : ℕ) (t : Bool) → ltb u 8 ≡ t → height-in (s .cells) u ≤ height
-    go u true e = omega (arith, q .heights u (ltb-true u 8 e))
+    go u true e = omega (arith, q .ends u (ltb-true u 8 e))
     go u false e = omega (arith, List·getD-eq-default (s .cells) 0 {n = u} (omega (arith, ltb-false u 8 e, q .regions .eight)))
 
 asleep-units : (s : Store) → Asleep-below 8 s → (n : ℕ) → n ≤ 8 → units-in s n ≡ replicate n asleep
@@ -144,12 +160,12 @@ first x = woken (pushed (Frame.job 0 0 0) (topped Frame.bingo x))
 
 pub started : {s s₁ : Store} {w c c′ : List ℕ} → Asleep-below 8 s → Changed 0 (topped Frame.bingo) s s₁ →
     Changed 0 (pushed (Frame.job 0 0 0)) s₁ (store w c) → Cell-changed 0 woken c c′ → Started (store w c′)
-unfolding flat-start
+unfolding start-units
 started {s} {w = w} q p d t =
     let z = t .change w (d .fit) in
     record {
       fit = z .fit;
-      units = λ n xs l m. changed-then (changed-then p d) z .units n ∙ ap (at 0 first) (asleep-units s q n m) ∙ from n l;
+      units = λ n l m. changed-then (changed-then p d) z .units n ∙ ap (at 0 first) (asleep-units s q n m) ∙ from n l;
     }
   where
     from : (n : ℕ) → 1 ≤ n → at 0 first (replicate n asleep) ≡ flat-unit true (Frame.job 0 0 0 ∷ Frame.bingo ∷ []) ∷ replicate (n - 1) asleep

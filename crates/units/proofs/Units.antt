@@ -3,16 +3,16 @@ use mathlib.Core.Path.{_≡_, refl, sym, ap, _∙_}
 use mathlib.Core.Bool.{Bool, true, false}
 use mathlib.Core.List.{List, [], _∷_}
 use mathlib.Core.Logic.{_⊎_, inl, inr}
-use Prim.Native.Nat.{ℕ, zero, suc, _+_, _*_, _-_, _≤_, _<_}
+use Prim.Native.Nat.{ℕ, zero, suc, _+_, _-_, _≤_, _<_}
 use native.Mathlib.Omega.{arith}
 use native.Mathlib.Decide.{ℕ-discrete}
 use lib.Dec.{ltb}
-use lib.ListN.{length, getD, set, length-set}
+use lib.ListN.{length, set, length-set}
 use lib.Seq.{ext-getD, getD-set-same, getD-set-other, set-set, set-comm, set-out}
 use borrow.Author.Tests.{ltb-true, ltb-false}
 use Rattle.paper.specs.Sound.{All}
 use Rattle.flat.specs.Machine.{FlatUnit, unit, asleep}
-use Rattle.units.specs.Stacks.{height, stackOf, Offsets, height-in, unit-of, units-from, units-of, Store, units-in, unit-in}
+use Rattle.units.specs.Stacks.{base, Offsets, height-in, unit-of, units-from, units-of, Store, units-in, unit-in}
 use Rattle.units.specs.Contracts.{Stacks-fit, at, Changed, Shiftable}
 use Rattle.units.proofs.Stacks.{length-stack, shift-offsets}
 
@@ -34,7 +34,7 @@ pub unit-at : (w c : List ℕ) (n u : ℕ) → u < n → unit (units-of w c n) u
 unit-at w c n u l = let e : 0 + u ≡ u = omega arith in unit-from w c 0 n u l ∙ ap (λ (v : ℕ). unit-of w c v) e
 
 pub height-at : (w c : List ℕ) (n u : ℕ) → u < n → length (unit (units-of w c n) u .stack) ≡ height-in c u
-height-at w c n u l = ap (λ (x : FlatUnit). length (x .stack)) (unit-at w c n u l) ∙ length-stack w (u * height) (height-in c u)
+height-at w c n u l = ap (λ (x : FlatUnit). length (x .stack)) (unit-at w c n u l) ∙ length-stack w (base u) (height-in c u)
 
 pub units-are : (w c : List ℕ) (n : ℕ) (us : List FlatUnit) → length us ≡ n → ((u : ℕ) → u < n → unit-of w c u ≡ unit us u) → units-of w c n ≡ us
 units-are w c n us e f =
@@ -117,7 +117,7 @@ changed-as {s} {u = u} {f = f} {g = g} c e = record {
 
 -- unit u and the others after a change at unit u, and the heights of their stacks
 pub height-is : (s : Store) (u : ℕ) → length (unit-in s u .stack) ≡ height-in (s .cells) u
-height-is s u = length-stack (s .work) (u * height) (height-in (s .cells) u)
+height-is s u = length-stack (s .work) (base u) (height-in (s .cells) u)
 
 module _ {s s′ : Store} {u : ℕ} {g : FlatUnit → FlatUnit} (c : Changed u g s s′) where
   unit-is : (v : ℕ) → unit-in s′ v ≡ unit (at u g (units-in s (v + 1))) v

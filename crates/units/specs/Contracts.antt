@@ -1,43 +1,42 @@
 -- What the functions on frames, stacks and units ask and ensure. Assumes nothing.
 use mathlib.Core.Path.{_≡_}
-use mathlib.Core.Bool.{Bool, true, false}
+use mathlib.Core.Bool.{true, false}
 use mathlib.Core.List.{List, _∷_, map}
 use mathlib.Core.Logic.{_⊎_}
 use mathlib.Core.Option.{Option, none, some}
-use Prim.Native.Nat.{ℕ, _+_, _*_, _≤_, _<_}
+use Prim.Native.Nat.{ℕ, _+_, _*_, _-_, _/_, _≤_, _<_}
 use lib.ListN.{length, getD, drop}
 use lib.ListN.{set as put}
-use Rattle.flat.specs.Machine.{Frame, FlatUnit, flat-unit, unit, asleep, idle, fall, shift-frame, shift-unit, flat-start}
+use Rattle.flat.specs.Machine.{Frame, FlatUnit, flat-unit, unit, asleep, idle, shift-frame, shift-unit, start-units}
 use Rattle.units.specs.Frames.{frameAt, In-three-bytes}
-use Rattle.units.specs.Stacks.{height, stackOf, Offsets, busy-in, height-in, units-of, Store, store, units-in, unit-in}
+use Rattle.units.specs.Stacks.{height, base, stackOf, Offsets, busy-in, end-in, height-in, units-of, Store, store, units-in, unit-in}
 use Rattle.units.specs.declared.Unit as S
 use Rattle.units.specs.declared.Idle as I
 
 -- FRAMES OF A WORK AREA
 
--- the bytes outside the frames from k to m are as they were
-pub record Same-outside (k m : ℕ) (w w′ : List ℕ) : Type 0 where
+-- the bytes outside those from one place to another are as they were
+pub record Same-outside (from end : ℕ) (w w′ : List ℕ) : Type 0 where
   pub size : length w′ ≡ length w
-  pub rest : (i : ℕ) → (i < 3 * k) ⊎ (3 * m ≤ i) → getD w′ i 0 ≡ getD w i 0
+  pub rest : (i : ℕ) → (i < from) ⊎ (end ≤ i) → getD w′ i 0 ≡ getD w i 0
 
--- the frame k is f, and nothing else has changed
-pub record Frame-put (k : ℕ) (f : Frame) (w w′ : List ℕ) : Type 0 where
-  pub outside : Same-outside k (k + 1) w w′
-  pub frame : frameAt w′ k ≡ f
+-- the frame at a place is f, and nothing else has changed
+pub record Frame-put (at : ℕ) (f : Frame) (w w′ : List ℕ) : Type 0 where
+  pub outside : Same-outside at (at + 3) w w′
+  pub frame : frameAt w′ at ≡ f
 
--- the count of the job at index i of the stack from frame base on has fallen by one, however high the stack is
-pub record Count-lowered (base i : ℕ) (w w′ : List ℕ) : Type 0 where
-  pub outside : Same-outside (base + i) (base + i + 1) w w′
-  pub stack : (h : ℕ) → i < h → stackOf w′ base h ≡ fall i (stackOf w base h)
+-- how many frames stand from one place to another
+abbrev pub frames : ℕ → ℕ → ℕ
+frames from end = (end - from) / 3
 
--- the symbols from offset a to offset e give way to k others: the offset of each job of the stack has gone along
-pub record Stack-shifted (base h a e k : ℕ) (w w′ : List ℕ) : Type 0 where
-  pub outside : Same-outside base (base + h) w w′
-  pub stack : stackOf w′ base h ≡ map (shift-frame a e k) (stackOf w base h)
+-- the symbols from offset a to offset e give way to k others: the offset of each job of a stack of h frames has gone along
+pub record Stack-shifted (from h a e k : ℕ) (w w′ : List ℕ) : Type 0 where
+  pub outside : Same-outside from (from + 3 * h) w w′
+  pub stack : stackOf w′ from h ≡ map (shift-frame a e k) (stackOf w from h)
 
 -- UNITS
 
--- there are regions and cells for eight units; what always holds: no stack is higher than its region
+-- there are regions and cells for eight units; what always holds: each stack is whole frames of its region
 pub record Eight-regions (s : Store) : Type 0 where
   pub bytes : 3 * (8 * height) ≤ length (s .work)
   pub eight : length (s .cells) ≡ 8
@@ -45,6 +44,7 @@ pub record Eight-regions (s : Store) : Type 0 where
 pub record Stacks-fit (s : Store) : Type 0 where
   pub regions : Eight-regions s
   pub most : (u : ℕ) → height-in (s .cells) u ≤ height
+  pub placed : (u : ℕ) → u < 8 → end-in (s .cells) u ≡ base u + 3 * height-in (s .cells) u
 
 -- the stack of unit u, one of eight, has a frame at index i; it has room for k frames more
 pub record Has-frame (s : Store) (u i : ℕ) : Type 0 where
@@ -60,8 +60,8 @@ pub record Has-room (s : Store) (u k : ℕ) : Type 0 where
 -- x is unit u's state
 pub record State-of (c : List ℕ) (u : ℕ) (x : S.Unit) : Type 0 where
   pub busy : x .busy ≡ busy-in c u
-  pub height : x .height ≡ height-in c u
-  pub small : x .height < 2048
+  pub end : x .end ≡ end-in c u
+  pub small : x .end < 65536
 
 -- what is done to a unit
 abbrev pub woken : FlatUnit → FlatUnit
@@ -123,10 +123,10 @@ pub record Units-shifted (n a e k : ℕ) (s s′ : Store) : Type 0 where
 -- units 0 to u - 1 are idle with SLEEP
 pub record Asleep-below (u : ℕ) (s : Store) : Type 0 where
   pub regions : Eight-regions s
-  pub heights : (v : ℕ) → v < u → height-in (s .cells) v ≡ 1
+  pub ends : (v : ℕ) → v < u → end-in (s .cells) v ≡ base v + 3
   pub units : (v : ℕ) → v < u → unit-in s v ≡ asleep
 
 -- the units of the machine's start, however many they are
 pub record Started (s : Store) : Type 0 where
   pub fit : Stacks-fit s
-  pub units : (n : ℕ) (xs : List ℕ) → 1 ≤ n → n ≤ 8 → units-in s n ≡ flat-start n xs .units
+  pub units : (n : ℕ) → 1 ≤ n → n ≤ 8 → units-in s n ≡ start-units n

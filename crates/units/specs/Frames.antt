@@ -1,4 +1,4 @@
--- Frames as bytes, three each: frame k of a work area stands in the bytes from 3 * k on. Every three bytes are some frame. Assumes nothing.
+-- Frames as bytes, three each: a frame's place in a work area is that of its first byte. Every three bytes are some frame. Assumes nothing.
 use mathlib.Core.Bool.{Bool, true, false}
 use mathlib.Core.List.{List}
 use Prim.Native.Nat.{ℕ, _+_, _*_, _-_, _/_, _%_, _<_}
@@ -26,7 +26,7 @@ decode kind low high =
     (pick (ltb kind 40) (F.exit (kind - 32) (low + high * 256)) (pick (eqb kind 40) F.sleep F.bingo))
 
 abbrev pub frameAt : List ℕ → ℕ → F.Frame
-frameAt w k = decode (getD w (3 * k) 0) (getD w (3 * k + 1) 0) (getD w (3 * k + 2) 0)
+frameAt w at = decode (getD w at 0) (getD w (at + 1) 0) (getD w (at + 2) 0)
 
 -- three bytes have room for the frame's numbers
 abbrev pub In-three-bytes : F.Frame → Type 0

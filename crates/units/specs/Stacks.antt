@@ -1,22 +1,25 @@
 -- The units of the machine on lists, as they are kept (document 01, 'Orders of a unit'): a work area with their stacks, each in a region of its own, and
--- a cell for each unit, which is the height of its stack and 2,048 times its rank; rank 0 is busy, above 0 idle. Assumes nothing.
+-- a cell for each unit, which is the place where its frames end and 65,536 times its rank; rank 0 is busy, above 0 idle. Assumes nothing.
 use mathlib.Core.Bool.{Bool, true, false}
 use mathlib.Core.List.{List, [], _∷_}
-use Prim.Native.Nat.{ℕ, zero, suc, _+_, _*_, _%_, _<_}
+use Prim.Native.Nat.{ℕ, zero, suc, _+_, _*_, _-_, _/_, _%_, _<_}
 use lib.Dec.{ltb}
 use lib.ListN.{getD}
 use Rattle.paper.specs.Sound.{All}
 use Rattle.flat.specs.Machine.{Frame, FlatUnit, flat-unit}
 use Rattle.units.specs.Frames.{frameAt}
 
--- how many frames a unit's region has
+-- how many frames a unit's region has, and where unit u's starts
 abbrev pub height : ℕ
 height = 1026
 
--- the stack of the h frames from frame base on, the last one on top
+abbrev pub base : ℕ → ℕ
+base u = 3 * (u * height)
+
+-- the stack of the h frames from a place on, the last one on top
 unfoldable pub stackOf : List ℕ → ℕ → ℕ → List Frame
-stackOf w base zero = []
-stackOf w base (suc h) = frameAt w (base + h) ∷ stackOf w base h
+stackOf w from zero = []
+stackOf w from (suc h) = frameAt w (from + 3 * h) ∷ stackOf w from h
 
 -- a job's offset is below m
 abbrev pub Below : ℕ → Frame → Type 0
@@ -28,20 +31,24 @@ Below m Frame.bingo = Unit {0}
 abbrev pub Offsets : ℕ → List Frame → Type 0
 Offsets m fs = All (Below m) fs
 
--- the cell of a unit that is busy or not, with a stack of height h; the rank of an idle unit is 1
+-- the cell of a unit that is busy or not, whose frames end at a place; the rank of an idle unit is 1
 abbrev pub cell : Bool → ℕ → ℕ
-cell true h = h
-cell false h = h + 2048
+cell true end = end
+cell false end = end + 65536
 
+-- whether unit u is busy, where its frames end, and how many they are
 abbrev pub busy-in : List ℕ → ℕ → Bool
-busy-in c u = ltb (getD c u 0) 2048
+busy-in c u = ltb (getD c u 0) 65536
+
+abbrev pub end-in : List ℕ → ℕ → ℕ
+end-in c u = getD c u 0 % 65536
 
 abbrev pub height-in : List ℕ → ℕ → ℕ
-height-in c u = getD c u 0 % 2048
+height-in c u = end-in c u / 3 - u * height
 
 -- unit u of the work area w and the cells c
 abbrev pub unit-of : List ℕ → List ℕ → ℕ → FlatUnit
-unit-of w c u = flat-unit (busy-in c u) (stackOf w (u * height) (height-in c u))
+unit-of w c u = flat-unit (busy-in c u) (stackOf w (base u) (height-in c u))
 
 -- the m units from u up; the first n units
 unfoldable pub units-from : List ℕ → List ℕ → ℕ → ℕ → List FlatUnit

@@ -1,12 +1,12 @@
-// The units' stacks (document 01, 'Orders of a unit'), kept as frames of three bytes in a lent work area. Frame k stands in the bytes from 3 * k
-// on. Unit u's stack is the frames from u * HEIGHT on, the lowest first.
+// The units' stacks (document 01, 'Orders of a unit'), kept as frames of three bytes in a lent work area. A frame is known by its place, that of its
+// first byte. Unit u's stack is the frames from base_of(u) on, the lowest first.
 ghost use mathlib.Core.Path.{_≡_};
 ghost use mathlib.Core.List.{map};
 ghost use Prim.Native.Nat.{ℕ, _+_, _*_, _/_, _%_, _<_, _≤_};
 ghost use lib.ListN.{length, getD};
-ghost use Rattle.flat.specs.Machine.{lower, is-zero, zero-in, shift-frame};
+ghost use Rattle.flat.specs.Machine.{lower, is-zero, shift-frame};
 ghost use Rattle.units.specs.Frames.{flat, decode, frameAt, In-three-bytes};
-ghost use Rattle.units.specs.Stacks.{height, stackOf, Below, Offsets};
+ghost use Rattle.units.specs.Stacks.{base, stackOf, Below, Offsets};
 ghost use Rattle.units.specs.Contracts as U;
 
 // The frames of a unit's region; height in specs/Stacks is the same number.
@@ -36,9 +36,9 @@ pub enum Frame {
 // Where the frames of unit u start.
 pub fn base_of(u: usize) -> usize
     requires { ⌜ u < 256 ⌝ }
-    ensures { λ r. ⌜ r ≡ u * height ⌝ }
+    ensures { λ r. ⌜ r ≡ base u ⌝ }
 {
-    u * HEIGHT
+    3 * (u * HEIGHT)
 }
 
 fn wide(x: u8) -> u16
@@ -49,19 +49,17 @@ fn wide(x: u8) -> u16
 
 // A frame's low byte and its high one go together as a word, here and in put_word: the compiler then makes one load and one store of them, and a
 // frame that has just been put is read without waiting for two stores.
-fn word_at(work: &[u8], k: usize) -> u16
-    requires { ⌜ 3 * k + 3 ≤ length (now work) ⌝ }
-    ensures { λ r. ⌜ (r % 256 ≡ getD (now (work .entry)) (3 * k + 1) 0) × (r / 256 ≡ getD (now (work .entry)) (3 * k + 2) 0) ⌝ }
+fn word_at(work: &[u8], at: usize) -> u16
+    requires { ⌜ at + 3 ≤ length (now work) ⌝ }
+    ensures { λ r. ⌜ (r % 256 ≡ getD (now (work .entry)) (at + 1) 0) × (r / 256 ≡ getD (now (work .entry)) (at + 2) 0) ⌝ }
 {
-    let at = 3 * k;
     wide(work[at + 1]) + wide(work[at + 2]) * 256
 }
 
-fn put_word(work: &mut [u8], k: usize, kind: u8, word: u16)
-    requires { ⌜ 3 * k + 3 ≤ length (now work) ⌝ }
-    ensures { λ _. ⌜ U.Frame-put k (decode kind (word % 256) (word / 256)) (now (work .entry)) (now (work .exit)) ⌝ }
+fn put_word(work: &mut [u8], at: usize, kind: u8, word: u16)
+    requires { ⌜ at + 3 ≤ length (now work) ⌝ }
+    ensures { λ _. ⌜ U.Frame-put at (decode kind (word % 256) (word / 256)) (now (work .entry)) (now (work .exit)) ⌝ }
 {
-    let at = 3 * k;
     work[at] = kind;
     work[at + 1] = (word % 256) as u8;
     work[at + 2] = (word / 256) as u8;
@@ -91,29 +89,29 @@ fn frame_of(kind: u8, word: u16) -> Frame
     Frame::Bingo
 }
 
-pub fn frame_at(work: &[u8], k: usize) -> Frame
-    requires { ⌜ 3 * k + 3 ≤ length (now work) ⌝ }
-    ensures { λ r. ⌜ (flat r ≡ frameAt (now (work .entry)) k) × In-three-bytes (flat r) ⌝ }
+pub fn frame_at(work: &[u8], at: usize) -> Frame
+    requires { ⌜ at + 3 ≤ length (now work) ⌝ }
+    ensures { λ r. ⌜ (flat r ≡ frameAt (now (work .entry)) at) × In-three-bytes (flat r) ⌝ }
 {
-    frame_of(work[3 * k], word_at(work, k))
+    frame_of(work[at], word_at(work, at))
 }
 
-pub fn put_frame(work: &mut [u8], k: usize, f: Frame)
-    requires { ⌜ (3 * k + 3 ≤ length (now work)) × In-three-bytes (flat f) ⌝ }
-    ensures { λ _. ⌜ U.Frame-put k (flat f) (now (work .entry)) (now (work .exit)) ⌝ }
+pub fn put_frame(work: &mut [u8], at: usize, f: Frame)
+    requires { ⌜ (at + 3 ≤ length (now work)) × In-three-bytes (flat f) ⌝ }
+    ensures { λ _. ⌜ U.Frame-put at (flat f) (now (work .entry)) (now (work .exit)) ⌝ }
 {
     match f {
         Frame::Job(job) => {
-            put_word(work, k, job.next, job.offset + wide(job.count) * 1024);
+            put_word(work, at, job.next, job.offset + wide(job.count) * 1024);
         }
         Frame::Exit(exit) => {
-            put_word(work, k, exit.unit + 32, exit.index);
+            put_word(work, at, exit.unit + 32, exit.index);
         }
         Frame::Sleep => {
-            put_word(work, k, 40, 0);
+            put_word(work, at, 40, 0);
         }
         Frame::Bingo => {
-            put_word(work, k, 41, 0);
+            put_word(work, at, 41, 0);
         }
     }
 }
@@ -130,15 +128,14 @@ fn lowered(kind: u8, word: u16) -> u16
     word
 }
 
-// The count of the job at index i of the stack from frame base on falls by one.
-pub fn lower_at(work: &mut [u8], base: usize, i: usize)
-    requires { ⌜ 3 * (base + i) + 3 ≤ length (now work) ⌝ }
-    ensures { λ _. ⌜ U.Count-lowered base i (now (work .entry)) (now (work .exit)) ⌝ }
+// The count of a job falls by one.
+pub fn lower_at(work: &mut [u8], at: usize)
+    requires { ⌜ at + 3 ≤ length (now work) ⌝ }
+    ensures { λ _. ⌜ U.Frame-put at (lower (frameAt (now (work .entry)) at)) (now (work .entry)) (now (work .exit)) ⌝ }
 {
-    let k = base + i;
-    let kind = work[3 * k];
-    let word = word_at(work, k);
-    put_word(work, k, kind, lowered(kind, word));
+    let kind = work[at];
+    let word = word_at(work, at);
+    put_word(work, at, kind, lowered(kind, word));
 }
 
 fn zero_count(kind: u8, high: u8) -> bool
@@ -150,12 +147,11 @@ fn zero_count(kind: u8, high: u8) -> bool
     false
 }
 
-// Has the job at index i of the stack from frame base on count 0?
-pub fn is_zero_at(work: &[u8], base: usize, i: usize) -> bool
-    requires { ⌜ 3 * (base + i) + 3 ≤ length (now work) ⌝ }
-    ensures { λ r. ⌜ ((h : ℕ) → i < h → zero-in i (stackOf (now (work .entry)) base h) ≡ r) ⌝ }
+// Is the frame a job with count 0?
+pub fn is_zero_at(work: &[u8], at: usize) -> bool
+    requires { ⌜ at + 3 ≤ length (now work) ⌝ }
+    ensures { λ r. ⌜ is-zero (frameAt (now (work .entry)) at) ≡ r ⌝ }
 {
-    let at = 3 * (base + i);
     zero_count(work[at], work[at + 2])
 }
 
@@ -173,23 +169,25 @@ fn moved(kind: u8, word: u16, a: usize, e: usize, n: usize) -> u16
     word
 }
 
-fn shift_at(work: &mut [u8], k: usize, a: usize, e: usize, n: usize)
-    requires { ⌜ (3 * k + 3 ≤ length (now work)) × Below 1024 (shift-frame a e n (frameAt (now work) k)) ⌝ }
-    ensures { λ _. ⌜ U.Frame-put k (shift-frame a e n (frameAt (now (work .entry)) k)) (now (work .entry)) (now (work .exit)) ⌝ }
+fn shift_at(work: &mut [u8], at: usize, a: usize, e: usize, n: usize)
+    requires { ⌜ (at + 3 ≤ length (now work)) × Below 1024 (shift-frame a e n (frameAt (now work) at)) ⌝ }
+    ensures { λ _. ⌜ U.Frame-put at (shift-frame a e n (frameAt (now (work .entry)) at)) (now (work .entry)) (now (work .exit)) ⌝ }
 {
-    let kind = work[3 * k];
-    let word = word_at(work, k);
-    put_word(work, k, kind, moved(kind, word, a, e, n));
+    let kind = work[at];
+    let word = word_at(work, at);
+    put_word(work, at, kind, moved(kind, word, a, e, n));
 }
 
-// The symbols from offset a to offset e give way to n others: each job's offset goes along.
-pub fn shift_stack(work: &mut [u8], base: usize, h: usize, a: usize, e: usize, n: usize)
-    requires { ⌜ (3 * (base + h) ≤ length (now work)) × Offsets 1024 (map (shift-frame a e n) (stackOf (now work) base h)) ⌝ }
-    ensures { λ _. ⌜ U.Stack-shifted base h a e n (now (work .entry)) (now (work .exit)) ⌝ }
+// The symbols from offset a to offset e give way to n others: the offset of each job of the stack from one place to another goes along. From its top
+// down, since the compiler would take two frames at a time upwards, and divide by three to know whether one is left over.
+pub fn shift_stack(work: &mut [u8], from: usize, end: usize, a: usize, e: usize, n: usize)
+    requires { ⌜ (end ≡ from + 3 * U.frames from end) × (end ≤ length (now work)) ⌝ }
+    requires { ⌜ Offsets 1024 (map (shift-frame a e n) (stackOf (now work) from (U.frames from end))) ⌝ }
+    ensures { λ _. ⌜ U.Stack-shifted from (U.frames from end) a e n (now (work .entry)) (now (work .exit)) ⌝ }
 {
-    let mut j = 0;
-    while j < h {
-        shift_at(work, base + j, a, e, n);
-        j += 1;
+    let mut at = end;
+    while from < at {
+        at -= 3;
+        shift_at(work, at, a, e, n);
     }
 }

@@ -1,5 +1,5 @@
 // The states and the stacks of all units (document 01, 'Orders of a unit'), as the engine keeps them: a lent work area with the stacks, and a cell for
-// each unit, which is the height of its stack and 2,048 times its rank. Rank 0 is busy, above 0 idle; here an idle unit's rank is 1.
+// each unit, which is the place where its frames end and 65,536 times its rank. Rank 0 is busy, above 0 idle; here an idle unit's rank is 1.
 pub mod frames;
 
 pub use frames::Exit;
@@ -15,16 +15,16 @@ ghost use Rattle.units.specs.Frames.{flat, In-three-bytes};
 ghost use Rattle.units.specs.Stacks as K;
 ghost use Rattle.units.specs.Contracts as U;
 
-// The state of one unit, by value: whether it is busy, and the height of its stack.
+// The state of one unit, by value: whether it is busy, and the place where its frames end.
 pub struct Unit {
     pub busy: bool,
-    pub height: usize,
+    pub end: usize,
 }
 
 impl Unit {
     // A job was put on its stack, or the last EXIT for its JOIN came: it is busy.
     pub fn wake(mut self) -> Unit
-        ensures { λ r. ⌜ (r .busy ≡ true) × (r .height ≡ self .height) ⌝ }
+        ensures { λ r. ⌜ (r .busy ≡ true) × (r .end ≡ self .end) ⌝ }
     {
         self.busy = true;
         self
@@ -32,7 +32,7 @@ impl Unit {
 
     // JOIN with a count above 0: it stays on the stack; the unit becomes idle.
     pub fn wait(mut self) -> Unit
-        ensures { λ r. ⌜ (r .busy ≡ false) × (r .height ≡ self .height) ⌝ }
+        ensures { λ r. ⌜ (r .busy ≡ false) × (r .end ≡ self .end) ⌝ }
     {
         self.busy = false;
         self
@@ -40,50 +40,50 @@ impl Unit {
 
     // SLEEP: it stays on the stack; the unit becomes idle.
     pub fn sleep(mut self) -> Unit
-        ensures { λ r. ⌜ (r .busy ≡ false) × (r .height ≡ self .height) ⌝ }
+        ensures { λ r. ⌜ (r .busy ≡ false) × (r .end ≡ self .end) ⌝ }
     {
         self.busy = false;
         self
     }
 }
 
-fn cell_of(busy: bool, height: usize) -> u16
-    requires { ⌜ height < 2048 ⌝ }
-    ensures { λ r. ⌜ r ≡ K.cell busy height ⌝ }
+fn cell_of(busy: bool, end: usize) -> u32
+    requires { ⌜ end < 65536 ⌝ }
+    ensures { λ r. ⌜ r ≡ K.cell busy end ⌝ }
 {
     if busy {
-        return height as u16;
+        return end as u32;
     }
-    (height + 2048) as u16
+    (end + 65536) as u32
 }
 
-fn load(units: &[u16; 8], u: usize) -> Unit
+fn load(units: &[u32; 8], u: usize) -> Unit
     requires { ⌜ u < 8 ⌝ }
     ensures { λ r. ⌜ U.State-of (now (units .entry)) u r ⌝ }
 {
     let x = units[u];
     Unit {
-        busy: x < 2048,
-        height: casts::offset(x % 2048),
+        busy: x < 65536,
+        end: casts::position(x % 65536),
     }
 }
 
 // Is unit u busy?
-pub fn is_busy(units: &[u16; 8], u: usize) -> bool
+pub fn is_busy(units: &[u32; 8], u: usize) -> bool
     requires { ⌜ u < 8 ⌝ }
     ensures { λ r. ⌜ r ≡ K.busy-in (now (units .entry)) u ⌝ }
 {
-    units[u] < 2048
+    units[u] < 65536
 }
 
-fn store(units: &mut [u16; 8], u: usize, x: Unit)
-    requires { ⌜ (u < 8) × (x .height < 2048) ⌝ }
-    ensures { λ _. ⌜ now (units .exit) ≡ set (now (units .entry)) u (K.cell (x .busy) (x .height)) ⌝ }
+fn store(units: &mut [u32; 8], u: usize, x: Unit)
+    requires { ⌜ (u < 8) × (x .end < 65536) ⌝ }
+    ensures { λ _. ⌜ now (units .exit) ≡ set (now (units .entry)) u (K.cell (x .busy) (x .end)) ⌝ }
 {
-    units[u] = cell_of(x.busy, x.height);
+    units[u] = cell_of(x.busy, x.end);
 }
 
-pub fn wake_unit(units: &mut [u16; 8], u: usize)
+pub fn wake_unit(units: &mut [u32; 8], u: usize)
     requires { ⌜ u < 8 ⌝ }
     ensures { λ _. ⌜ U.Cell-changed u U.woken (now (units .entry)) (now (units .exit)) ⌝ }
 {
@@ -93,14 +93,14 @@ pub fn wake_unit(units: &mut [u16; 8], u: usize)
     }
 }
 
-pub fn wait_unit(units: &mut [u16; 8], u: usize)
+pub fn wait_unit(units: &mut [u32; 8], u: usize)
     requires { ⌜ u < 8 ⌝ }
     ensures { λ _. ⌜ U.Cell-changed u U.idled (now (units .entry)) (now (units .exit)) ⌝ }
 {
     store(units, u, load(units, u).wait());
 }
 
-pub fn sleep_unit(units: &mut [u16; 8], u: usize)
+pub fn sleep_unit(units: &mut [u32; 8], u: usize)
     requires { ⌜ u < 8 ⌝ }
     ensures { λ _. ⌜ U.Cell-changed u U.idled (now (units .entry)) (now (units .exit)) ⌝ }
 {
@@ -113,13 +113,13 @@ pub enum Idle {
     None,
 }
 
-pub fn lowest_idle(units: &[u16; 8], count: usize) -> Idle
+pub fn lowest_idle(units: &[u32; 8], count: usize) -> Idle
     requires { ⌜ count ≤ 8 ⌝ }
     ensures { λ r. ⌜ U.Lowest-idle (now (units .entry)) count r ⌝ }
 {
     let mut v = 0;
     while v < count {
-        if 2048 <= units[v] {
+        if 65536 <= units[v] {
             return Idle::Unit(v);
         }
         v += 1;
@@ -127,82 +127,82 @@ pub fn lowest_idle(units: &[u16; 8], count: usize) -> Idle
     Idle::None
 }
 
-// The height of unit u's stack.
-fn height_of(units: &[u16; 8], u: usize) -> usize
+// The place where unit u's frames end: its top frame stands before it.
+fn end_of(units: &[u32; 8], u: usize) -> usize
     requires { ⌜ u < 8 ⌝ }
-    ensures { λ r. ⌜ r ≡ K.height-in (now (units .entry)) u ⌝ }
+    ensures { λ r. ⌜ (r ≡ K.end-in (now (units .entry)) u) × (r < 65536) ⌝ }
 {
-    casts::offset(units[u] % 2048)
+    casts::position(units[u] % 65536)
 }
 
 // The stack index of unit u's top frame.
-pub fn top_index(units: &[u16; 8], u: usize) -> u16
+pub fn top_index(units: &[u32; 8], u: usize) -> u16
     requires { ⌜ (u < 8) × (0 < K.height-in (now units) u) ⌝ }
     ensures { λ r. ⌜ r ≡ K.height-in (now (units .entry)) u - 1 ⌝ }
 {
-    units[u] % 2048 - 1
+    casts::short(end_of(units, u) / 3 - u * frames::HEIGHT - 1)
 }
 
 // The first frame of unit u's stack.
-pub fn top(work: &[u8], units: &[u16; 8], u: usize) -> Frame
+pub fn top(work: &[u8], units: &[u32; 8], u: usize) -> Frame
     ghost { K.Store }
     requires { λ s. ⌜ K.store (now work) (now units) ≡ s ⌝ }
     requires { λ s. ⌜ U.Has-frame s u 0 ⌝ }
     ensures { λ s r. ⌜ U.Top-is u (flat r) s ⌝ }
 {
-    frames::frame_at(work, frames::base_of(u) + (height_of(units, u) - 1))
+    frames::frame_at(work, end_of(units, u) - 3)
 }
 
-pub fn set_top(work: &mut [u8], units: &[u16; 8], u: usize, f: Frame)
+pub fn set_top(work: &mut [u8], units: &[u32; 8], u: usize, f: Frame)
     ghost { K.Store }
     requires { λ s. ⌜ K.store (now work) (now units) ≡ s ⌝ }
     requires { λ s. ⌜ U.Has-frame s u 0 × In-three-bytes (flat f) ⌝ }
     ensures { λ s _. ⌜ U.Changed u (U.topped (flat f)) s (K.store (now (work .exit)) (s .cells)) ⌝ }
 {
-    frames::put_frame(work, frames::base_of(u) + (height_of(units, u) - 1), f);
+    frames::put_frame(work, end_of(units, u) - 3, f);
 }
 
-pub fn drop_top(units: &mut [u16; 8], u: usize)
+pub fn drop_top(units: &mut [u32; 8], u: usize)
     requires { ⌜ (u < 8) × (0 < K.height-in (now units) u) ⌝ }
     ensures { λ _. ⌜ U.Cell-changed u U.dropped (now (units .entry)) (now (units .exit)) ⌝ }
 {
-    units[u] = units[u] - 1;
+    units[u] = units[u] - 3;
 }
 
-// A cell whose height is one more.
-fn higher(x: u16) -> u16
-    requires { ⌜ x % 2048 < 2047 ⌝ }
-    ensures { λ r. ⌜ r ≡ x + 1 ⌝ }
+// A cell whose frames are one more.
+fn higher(x: u32) -> u32
+    requires { ⌜ x % 65536 < 65533 ⌝ }
+    ensures { λ r. ⌜ r ≡ x + 3 ⌝ }
 {
-    x + 1
+    x + 3
 }
 
-pub fn push(work: &mut [u8], units: &mut [u16; 8], u: usize, f: Frame)
+pub fn push(work: &mut [u8], units: &mut [u32; 8], u: usize, f: Frame)
     ghost { K.Store }
     requires { λ s. ⌜ K.store (now work) (now units) ≡ s ⌝ }
     requires { λ s. ⌜ U.Has-room s u 1 × In-three-bytes (flat f) ⌝ }
     ensures { λ s _. ⌜ U.Changed u (U.pushed (flat f)) s (K.store (now (work .exit)) (now (units .exit))) ⌝ }
 {
-    frames::put_frame(work, frames::base_of(u) + height_of(units, u), f);
+    frames::put_frame(work, end_of(units, u), f);
     units[u] = higher(units[u]);
 }
 
 // EXIT at unit v, which holds its JOIN: the count of the job at stack index i falls by one; if it is now 0, the unit is busy.
-pub fn arrive(work: &mut [u8], units: &mut [u16; 8], v: usize, i: usize)
+pub fn arrive(work: &mut [u8], units: &mut [u32; 8], v: usize, i: usize)
     ghost { K.Store }
     requires { λ s. ⌜ K.store (now work) (now units) ≡ s ⌝ }
     requires { λ s. ⌜ U.Has-frame s v i ⌝ }
     ensures { λ s _. ⌜ U.Changed v (arrive i) s (K.store (now (work .exit)) (now (units .exit))) ⌝ }
 {
-    let base = frames::base_of(v);
-    frames::lower_at(work, base, i);
-    if frames::is_zero_at(work, base, i) {
+    let at = frames::base_of(v) + 3 * i;
+    frames::lower_at(work, at);
+    if frames::is_zero_at(work, at) {
         wake_unit(units, v);
     }
 }
 
 // The symbols from offset a to offset e give way to k others: the offsets of the jobs of count units go along.
-pub fn shift_units(work: &mut [u8], units: &[u16; 8], count: usize, a: usize, e: usize, k: usize)
+pub fn shift_units(work: &mut [u8], units: &[u32; 8], count: usize, a: usize, e: usize, k: usize)
     ghost { K.Store }
     requires { λ s. ⌜ K.store (now work) (now units) ≡ s ⌝ }
     requires { λ s. ⌜ U.Shiftable count a e k s ⌝ }
@@ -210,25 +210,26 @@ pub fn shift_units(work: &mut [u8], units: &[u16; 8], count: usize, a: usize, e:
 {
     let mut u = 0;
     while u < count {
-        frames::shift_stack(work, frames::base_of(u), height_of(units, u), a, e, k);
+        frames::shift_stack(work, frames::base_of(u), end_of(units, u), a, e, k);
         u += 1;
     }
 }
 
 // All units idle with SLEEP.
-fn sleep_all(work: &mut [u8], units: &mut [u16; 8])
+fn sleep_all(work: &mut [u8], units: &mut [u32; 8])
     requires { ⌜ U.Eight-regions (K.store (now work) (now units)) ⌝ }
     ensures { λ _. ⌜ U.Asleep-below 8 (K.store (now (work .exit)) (now (units .exit))) ⌝ }
 {
     let mut u = 0;
     while u < 8 {
-        frames::put_frame(work, frames::base_of(u), Frame::Sleep);
+        let base = frames::base_of(u);
+        frames::put_frame(work, base, Frame::Sleep);
         store(
             units,
             u,
             Unit {
                 busy: false,
-                height: 1,
+                end: base + 3,
             },
         );
         u += 1;
@@ -236,7 +237,7 @@ fn sleep_all(work: &mut [u8], units: &mut [u16; 8])
 }
 
 // Unit 0 busy with VISIT(root) over BINGO, the others idle with SLEEP.
-pub fn start(work: &mut [u8], units: &mut [u16; 8])
+pub fn start(work: &mut [u8], units: &mut [u32; 8])
     requires { ⌜ U.Eight-regions (K.store (now work) (now units)) ⌝ }
     ensures { λ _. ⌜ U.Started (K.store (now (work .exit)) (now (units .exit))) ⌝ }
 {

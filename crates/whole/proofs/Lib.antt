@@ -1,3 +1,4 @@
+pub mod Terms
 pub mod Choosing
 pub mod Applying
 pub mod Machine

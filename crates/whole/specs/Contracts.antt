@@ -5,14 +5,19 @@ use mathlib.Core.Option.{some}
 use mathlib.Core.Path.{_≡_}
 use Prim.Native.Nat.{ℕ, suc, _+_, _-_, _≤_, _<_}
 use lib.Dec.{eqb}
-use lib.ListN.{length, take}
+use lib.ListN.{length, take, drop}
 use Rattle.paper.specs.Strategy.{Step}
 use Rattle.paper.specs.Book.{Book, arity}
 use Rattle.paper.specs.Line.{symbol-limit}
 use Rattle.paper.specs.Machine.{Ending, exceeds}
 use Rattle.paper.specs.Sound.{All}
 use Rattle.flat.specs.Symbols.{Hit, rewrite, splice}
+use Rattle.flat.specs.Sizes as flat
+use Rattle.flat.specs.Sizes.{resize}
 use Rattle.flat.specs.Machine.{Frame, FlatUnit, flat-unit, unit, FlatState, FlatOutcome, going, ended, shift-unit, with-unit, proceed, do-whole}
+use Rattle.symbol.specs.Record.{operators, sizes}
+use Rattle.term.specs.Present.{length-in, operators-in, sizes-in}
+use Rattle.splice.specs.Contracts.{Replaceable}
 use Rattle.units.specs.Stacks.{Offsets, Store, units-in}
 use Rattle.units.specs.Contracts.{Stacks-fit, Has-frame, topped, at}
 use Rattle.whole.specs.State.{Arrays, state, limits, progress}
@@ -39,48 +44,42 @@ pub record Rule-gives (B : Book) (a : ℕ) (xs : List ℕ) (Q : List ℕ → ℕ
   pub hit : rewrite (arity B) (B .rules) a xs ≡ Hit.hit ys e
   pub so : Q ys e
 
--- its filled right side is the first symbols of scratch, and has room for those symbols
-pub record Right-fits (B : Book) (a : ℕ) (p : P.Progress) (l : L.Limits) (xs scratch : List ℕ) (f : F.Filled) : Type 0 where
+-- its filled right side is the last symbols of scratch, with their sizes, and there is room for them
+pub record Right-fits (B : Book) (a : ℕ) (p : P.Progress) (l : L.Limits) (symbols scratch : List ℕ) (f : F.Filled) : Type 0 where
   pub left : spent p l ≡ false
-  pub least : a ≤ f .end
-  pub most : f .end ≤ p .length
-  pub fits : a + f .size + (p .length - f .end) ≤ 1024
-  pub hit : rewrite (arity B) (B .rules) a xs ≡ Hit.hit (take (f .size) scratch) (f .end)
+  pub hit : rewrite (arity B) (B .rules) a (operators-in symbols) ≡ Hit.hit (operators (drop (1024 - f .size) scratch)) (f .end)
+  pub true-sizes : sizes (drop (1024 - f .size) scratch) ≡ flat.sizes (arity B) (operators (drop (1024 - f .size) scratch))
+  pub replaceable : Replaceable symbols (length-in symbols) a (f .end) (f .size)
 
 abbrev pub Choice-is : Book → ℕ → P.Progress → L.Limits → List ℕ → List ℕ → C.Choice → Type 0
-Choice-is B a p l xs scratch C.Choice.Missed = rewrite (arity B) (B .rules) a xs ≡ Hit.miss
-Choice-is B a p l xs scratch C.Choice.Spent = Rule-gives B a xs (λ ys e. spent p l ≡ true)
-Choice-is B a p l xs scratch C.Choice.Full = Rule-gives B a xs (λ ys e. (spent p l ≡ false) × (over a xs ys e ≡ true))
-Choice-is B a p l xs scratch (C.Choice.Fits f) = Right-fits B a p l xs scratch f
+Choice-is B a p l symbols scratch C.Choice.Missed = rewrite (arity B) (B .rules) a (operators-in symbols) ≡ Hit.miss
+Choice-is B a p l symbols scratch C.Choice.Spent = Rule-gives B a (operators-in symbols) (λ ys e. spent p l ≡ true)
+Choice-is B a p l symbols scratch C.Choice.Full =
+    Rule-gives B a (operators-in symbols) (λ ys e. (spent p l ≡ false) × (over a (operators-in symbols) ys e ≡ true))
+Choice-is B a p l symbols scratch (C.Choice.Fits f) = Right-fits B a p l symbols scratch f
 
-pub record Chosen (B : Book) (a : ℕ) (p : P.Progress) (l : L.Limits) (xs scratch : List ℕ) (r : C.Choice) : Type 0 where
-  pub is : Choice-is B a p l xs scratch r
+pub record Chosen (B : Book) (a : ℕ) (p : P.Progress) (l : L.Limits) (symbols scratch : List ℕ) (r : C.Choice) : Type 0 where
+  pub is : Choice-is B a p l symbols scratch r
   pub long : length scratch ≡ 1024
 
 -- THE REPLACEMENT
 
--- a filled right side is to replace the symbols from an offset up to its end
-pub record Replaceable (s : Arrays) (len : ℕ) (scratch : List ℕ) (a : ℕ) (f : F.Filled) : Type 0 where
-  pub long : length (s .symbols) ≡ 1024
-  pub scratch-long : length scratch ≡ 1024
-  pub most : len ≤ 1024
-  pub inside : a < len
-  pub end : f .end ≤ len
-  pub fits : a + f .size + (len - f .end) ≤ 1024
-
--- of count units, whose jobs are at offsets below len, the one at the place has a frame
+-- of count units, whose jobs are at offsets below len, the one at the place has a frame; if it is the only one, the jobs below that frame stand before the place
 pub record Units-due (s : Store) (count : ℕ) (x : Pl.Place) (len : ℕ) : Type 0 where
   pub few : count ≤ 8
   pub one : x .unit < count
   pub top : Has-frame s (x .unit) 0
   pub offsets : All (λ (y : FlatUnit). Offsets len (y .stack)) (units-in s count)
+  pub alone : count ≡ 1 → Offsets (x .offset) (drop 1 (unit (units-in s count) (x .unit) .stack))
 
--- ys stands for the symbols from the place's offset up to e, the jobs' offsets have gone along, and the unit is to visit the new term
-pub record Rewritten (x : Pl.Place) (ys : List ℕ) (e len count : ℕ) (s s′ : Arrays) (len′ : ℕ) : Type 0 where
-  pub symbols : take len′ (s′ .symbols) ≡ splice (x .offset) e ys (take len (s .symbols))
+-- the n symbols ys, with their sizes, stand for those from the place's offset up to e, the jobs' offsets have gone along, and the unit is to visit the new
+-- term
+pub record Rewritten (x : Pl.Place) (ys : List ℕ) (n e count : ℕ) (s s′ : Arrays) : Type 0 where
+  pub operators-are : operators (take (x .offset + n + (length-in (s .symbols) - e)) (s′ .symbols))
+      ≡ splice (x .offset) e (operators ys) (operators-in (s .symbols))
+  pub sizes-are : sizes (take (x .offset + n + (length-in (s .symbols) - e)) (s′ .symbols)) ≡ resize (x .offset) e (sizes ys) (sizes-in (s .symbols))
   pub units : units-in (s′ .store) count
-      ≡ map (shift-unit (x .offset) e (length ys)) (at (x .unit) (topped (Frame.job (x .offset) 0 0)) (units-in (s .store) count))
-  pub most : len′ ≤ 1024
+      ≡ map (shift-unit (x .offset) e n) (at (x .unit) (topped (Frame.job (x .offset) 0 0)) (units-in (s .store) count))
   pub long : length (s′ .symbols) ≡ 1024
   pub fit : Stacks-fit (s′ .store)
 
@@ -89,13 +88,13 @@ pub record Rewritten (x : Pl.Place) (ys : List ℕ) (e len count : ℕ) (s s′ 
 -- the outcome of an answer, from s to s′; k, c, ss and fs are the job's, as do-whole has them
 abbrev pub outcome : Pl.Place → ℕ → ℕ → List Step → List Frame → FlatState → FlatState → W.Whole → FlatOutcome
 outcome x k c ss fs s s′ W.Whole.Missed = going (with-unit s (x .unit) true (proceed (x .offset) (suc k) c ss fs))
-outcome x k c ss fs s s′ (W.Whole.Rewrote len) = going s′
+outcome x k c ss fs s s′ W.Whole.Rewrote = going s′
 outcome x k c ss fs s s′ W.Whole.Spent = ended Ending.spent s
 outcome x k c ss fs s s′ W.Whole.Full = ended Ending.full s
 
 -- the symbols and the units are as they were, unless they were rewritten
 abbrev pub Stays : Arrays → Arrays → W.Whole → Type 0
-Stays s s′ (W.Whole.Rewrote len) = len ≤ 1024
+Stays s s′ W.Whole.Rewrote = Unit {0}
 Stays s s′ W.Whole.Missed = s′ ≡ s
 Stays s s′ W.Whole.Spent = s′ ≡ s
 Stays s s′ W.Whole.Full = s′ ≡ s
@@ -107,4 +106,5 @@ pub record Carried-out (B : Book) (x : Pl.Place) (p : P.Progress) (l : L.Limits)
       ≡ outcome x k c ss fs (state s p l) (state s′ (progress p r) l) r
   pub stays : Stays s s′ r
   pub long : length (s′ .symbols) ≡ 1024
+  pub most : length-in (s′ .symbols) ≤ 1024
   pub fit : Stacks-fit (s′ .store)

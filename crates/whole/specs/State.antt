@@ -3,10 +3,10 @@
 use mathlib.Core.List.{List}
 use mathlib.Core.Option.{some}
 use Prim.Native.Nat.{ℕ, suc}
-use lib.ListN.{take}
 use Rattle.paper.specs.Line.{symbol-limit}
 use Rattle.paper.specs.Machine as M
 use Rattle.flat.specs.Machine.{FlatState}
+use Rattle.term.specs.Present.{operators-in, sizes-in}
 use Rattle.units.specs.Stacks.{Store, store, units-in}
 use Rattle.whole.specs.declared.Progress.{Progress}
 use Rattle.whole.specs.declared.Limits.{Limits}
@@ -22,7 +22,8 @@ arrays symbols work cells = record { symbols = symbols; store = store work cells
 
 abbrev pub state : Arrays → Progress → Limits → FlatState
 state s p l = record {
-  symbols = take (p .length) (s .symbols);
+  symbols = operators-in (s .symbols);
+  sizes = sizes-in (s .symbols);
   units = units-in (s .store) (l .units);
   rewrites = p .rewrites;
   granted = p .granted;
@@ -35,7 +36,7 @@ limits l = record { budget = l .budget; symbols = some symbol-limit }
 
 -- what is counted after WHOLE
 abbrev pub progress : Progress → Whole → Progress
-progress p (Whole.Rewrote len) = record { length = len; rewrites = suc (p .rewrites); granted = p .granted; kept = p .kept }
+progress p Whole.Rewrote = record { rewrites = suc (p .rewrites); granted = p .granted; kept = p .kept }
 progress p Whole.Missed = p
 progress p Whole.Spent = p
 progress p Whole.Full = p

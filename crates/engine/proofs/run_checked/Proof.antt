@@ -18,7 +18,7 @@ returns c =
 
 post-requires : tie.Need-post-requires
 post-requires c κs =
-    let i = c .before .before .before in
+    let i = c .before .before in
     let p = i .before .before .before .before .before .before .pre in
     (p .0, (p .1, sym (i .before .names-units .ensures) ∙ not-false _ (i .if1 .left)))
 

@@ -5,18 +5,11 @@ use Rattle.entry.proofs.Orders.{visit-asks, visited}
 use Rattle.entry.proofs.carry_out.Statement.{statement}
 use Rattle.entry.proofs.carry_out.Tie as tie
 
-offset-requires : tie.Need-offset-requires
-offset-requires c κs = search needs
-
-element-copy-out-o : tie.Need-element-copy-out-o
-element-copy-out-o c = search needs
-
 visit-requires : tie.Need-visit-requires
 visit-requires c κs =
-    let a = c .before .before .before in
-    let q = a .before .before .before .before .before .before .pre in
+    let q = c .before .before .before .before .before .before .before .pre in
     let t = q .1 in
-    rw (a .offset .ensures .0) (visit-asks (q .0) (t .0) (t .1) (t .2))
+    rw (t .3) (visit-asks (q .0) (t .0) (t .1) (t .2))
 
 same-length : tie.Need-same-length
 same-length c = search needs
@@ -24,10 +17,10 @@ same-length c = search needs
 returns : tie.Need-returns
 returns c =
     let v = c .before .before in
-    let a = v .before .before .before .before in
-    let q = a .before .before .before .before .before .before .pre in
+    let i = v .before .before .before in
+    let q = i .before .before .before .before .before .pre in
     let t = q .1 in
-    visited (q .0) (t .0) (t .1) (t .2) (a .before .if1 .taken) (rw (a .offset .ensures .0) at (v .visit .ensures))
+    visited (q .0) (t .0) (t .1) (t .2) (i .if1 .taken) (rw (t .3) at (v .visit .ensures))
 
 step-requires : tie.Need-step-requires
 step-requires c κs =
@@ -42,14 +35,4 @@ returns-2 : tie.Need-returns-2
 returns-2 c = search needs
 
 pub carry-out-spec : {M : Type 1} → statement M
-carry-out-spec =
-    tie.close
-    (tie.spec
-    offset-requires
-    element-copy-out-o
-    visit-requires
-    same-length
-    returns
-    step-requires
-    same-length-2
-    returns-2)
+carry-out-spec = tie.close (tie.spec visit-requires same-length returns step-requires same-length-2 returns-2)

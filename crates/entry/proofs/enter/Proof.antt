@@ -1,5 +1,6 @@
 -- `entry::enter` meets its contract: the top frame of a busy unit is looked at. Assumes nothing.
 use borrow.Author.Needs.{needs}
+use native.Mathlib.Omega.{arith}
 use mathlib.Core.Path.{sym, _∙_}
 use borrow.Author.Tests.{not-true, not-false}
 use Rattle.entry.proofs.Facts.{has-frame}
@@ -24,14 +25,31 @@ top-requires c κs =
 enum-known-job : tie.Need-enum-known-job
 enum-known-job c = search needs
 
+offset-requires : tie.Need-offset-requires
+offset-requires c κs = search needs
+
+operator-at-requires : tie.Need-operator-at-requires
+operator-at-requires c κs =
+    let m = c .before .before .before in
+    let h = rw (m .job .given .1) at (m .before .before .top .ensures) .fits .0 in
+    omega (arith, c .offset .ensures .0, h)
+
 carry-out-requires : tie.Need-carry-out-requires
 carry-out-requires c κs =
-    let m = c .before .before .before .before .before in
+    let x = c .before .before .before .before in
+    let m = x .before .before .before .before in
     let o = m .before .before in
     let i = o .before .before .before in
     let b = i .before in
-    let q = b .before .before .before .before .pre in
-    (q .0, (q .1 .0, q .1 .1, record { busy = sym (b .is-busy .ensures) ∙ not-false _ (i .if1 .left); top = rw (m .job .given .1) at (o .top .ensures) }))
+    let q = b .before .before .before .before .pre in (
+      q .0,
+      (
+        q .1 .0,
+        q .1 .1,
+        record { busy = sym (b .is-busy .ensures) ∙ not-false _ (i .if1 .left); top = rw (m .job .given .1) at (o .top .ensures) },
+        rw (x .before .offset .ensures .0) at (x .operator-at .ensures),
+      ),
+    )
 
 enum-known-exit : tie.Need-enum-known-exit
 enum-known-exit c = search needs
@@ -104,6 +122,8 @@ enter-spec =
     returns
     top-requires
     enum-known-job
+    offset-requires
+    operator-at-requires
     carry-out-requires
     enum-known-exit
     exit-requires

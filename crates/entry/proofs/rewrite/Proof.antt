@@ -9,12 +9,9 @@ use Rattle.entry.proofs.rewrite.Tie as tie
 offset-requires : tie.Need-offset-requires
 offset-requires c κs = search needs
 
-element-copy-out-o : tie.Need-element-copy-out-o
-element-copy-out-o c = search needs
-
 rewrite-requires : tie.Need-rewrite-requires
 rewrite-requires c κs =
-    let a = c .before .before .before .before .before in
+    let a = c .before .before .before .before in
     let q = a .before .before .before .before .pre in
     let e = a .offset .ensures .0 in
     let t = q .1 .0 in (
@@ -30,31 +27,30 @@ proceed-requires : tie.Need-proceed-requires
 proceed-requires c κs =
     let m = c .before .before in
     let w = m .before .before .before .before in
-    let a = w .before .before .before .before .before .before in
+    let a = w .before .before .before .before .before in
     let q = a .before .before .before .before .pre in
     let e = a .offset .ensures .0 in
     let t = q .1 .0 in
-    rw e (proceed-asks (q .0) (t .0) (t .1) (t .2) (q .1 .1) refl e (rw (m .enum-told .given .1) at (w .rewrite .ensures) .0))
-
-enum-known-length : tie.Need-enum-known-length
-enum-known-length c = search needs
-
-rewritten-requires : tie.Need-rewritten-requires
-rewritten-requires c κs =
-    let m = c .before in
-    let w = m .before .before .before .before in
-    let a = w .before .before .before .before .before .before in
-    let q = a .before .before .before .before .pre in
-    let e = a .offset .ensures .0 in
-    let t = q .1 .0 in
-    let h = rewrites-left (q .0) (t .0) (t .1) (t .2) (q .1 .1) refl e (rw (m .length .given .1) at (w .rewrite .ensures) .0) in
-    omega (arith, h, t .1 .small)
+    rw (t .3) (proceed-asks (q .0) (t .0) (t .1) (t .2) (q .1 .1) refl e (rw (m .enum-told .given .1) at (w .rewrite .ensures) .0))
 
 enum-told-2 : tie.Need-enum-told-2
 enum-told-2 c = search needs
 
+rewritten-requires : tie.Need-rewritten-requires
+rewritten-requires c κs =
+    let w = c .before .before .before .before in
+    let a = w .before .before .before .before .before in
+    let q = a .before .before .before .before .pre in
+    let e = a .offset .ensures .0 in
+    let t = q .1 .0 in
+    let h = rewrites-left (q .0) (t .0) (t .1) (t .2) (q .1 .1) refl e (rw (c .enum-told2 .given .1) at (w .rewrite .ensures) .0) in
+    omega (arith, h, t .1 .small)
+
 enum-told-3 : tie.Need-enum-told-3
 enum-told-3 c = search needs
+
+enum-told-4 : tie.Need-enum-told-4
+enum-told-4 c = search needs
 
 same-length : tie.Need-same-length
 same-length c = search needs
@@ -64,25 +60,25 @@ returns c =
     let g = c .before .before in
     let m = g .before .before .before in
     let w = m .before .before .before .before in
-    let a = w .before .before .before .before .before .before in
+    let a = w .before .before .before .before .before in
     let q = a .before .before .before .before .pre in
     let e = a .offset .ensures .0 in
     let t = q .1 .0 in
     let d = rw (m .enum-told .given .1) at (w .rewrite .ensures) in
-    whole-missed (q .0) (t .0) (t .1) (t .2) (q .1 .1) refl e (d .0) _ (d .1) (rw e at (g .proceed .ensures))
+    whole-missed (q .0) (t .0) (t .1) (t .2) (q .1 .1) refl e (d .0) _ (d .1) (rw (t .3) at (g .proceed .ensures))
 
 same-length-2 : tie.Need-same-length-2
 same-length-2 c = search needs
 
 returns-2 : tie.Need-returns-2
 returns-2 c =
-    let m = c .before .before in
+    let m = c .before in
     let w = m .before .before .before .before in
-    let a = w .before .before .before .before .before .before in
+    let a = w .before .before .before .before .before in
     let q = a .before .before .before .before .pre in
     let e = a .offset .ensures .0 in
     let t = q .1 .0 in
-    let d = rw (m .length .given .1) at (w .rewrite .ensures) in
+    let d = rw (m .enum-told2 .given .1) at (w .rewrite .ensures) in
     whole-rewrote (q .0) (t .0) (t .1) (t .2) (q .1 .1) refl e (d .0) _ (d .1) _ (c .rewritten .ensures)
 
 same-length-3 : tie.Need-same-length-3
@@ -91,11 +87,11 @@ same-length-3 c = search needs
 returns-3 : tie.Need-returns-3
 returns-3 c =
     let w = c .before .before .before .before in
-    let a = w .before .before .before .before .before .before in
+    let a = w .before .before .before .before .before in
     let q = a .before .before .before .before .pre in
     let e = a .offset .ensures .0 in
     let t = q .1 .0 in
-    let d = rw (c .enum-told2 .given .1) at (w .rewrite .ensures) in
+    let d = rw (c .enum-told3 .given .1) at (w .rewrite .ensures) in
     whole-spent (q .0) (t .0) (t .1) (t .2) (q .1 .1) refl e _ (d .1) (d .0)
 
 same-length-4 : tie.Need-same-length-4
@@ -104,11 +100,11 @@ same-length-4 c = search needs
 returns-4 : tie.Need-returns-4
 returns-4 c =
     let w = c .before .before .before .before in
-    let a = w .before .before .before .before .before .before in
+    let a = w .before .before .before .before .before in
     let q = a .before .before .before .before .pre in
     let e = a .offset .ensures .0 in
     let t = q .1 .0 in
-    let d = rw (c .enum-told3 .given .1) at (w .rewrite .ensures) in
+    let d = rw (c .enum-told4 .given .1) at (w .rewrite .ensures) in
     whole-full (q .0) (t .0) (t .1) (t .2) (q .1 .1) refl e _ (d .1) (d .0)
 
 pub rewrite-spec : {M : Type 1} → statement M
@@ -116,14 +112,13 @@ rewrite-spec =
     tie.close
     (tie.spec
     offset-requires
-    element-copy-out-o
     rewrite-requires
     enum-told
     proceed-requires
-    enum-known-length
-    rewritten-requires
     enum-told-2
+    rewritten-requires
     enum-told-3
+    enum-told-4
     same-length
     returns
     same-length-2

@@ -4,11 +4,11 @@ use native.Mathlib.Numerals.{add-one}
 use Rattle.entry.proofs.rewritten.Statement.{statement}
 use Rattle.entry.proofs.rewritten.Tie as tie
 
-add-t3 : tie.Need-add-t3
-add-t3 c = search needs
+add-t2 : tie.Need-add-t2
+add-t2 c = search needs
 
 returns : tie.Need-returns
 returns c = rw add-one
 
 pub rewritten-spec : {M : Type 1} → statement M
-rewritten-spec = tie.close (tie.spec add-t3 returns)
+rewritten-spec = tie.close (tie.spec add-t2 returns)

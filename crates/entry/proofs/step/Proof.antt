@@ -7,19 +7,14 @@ use Rattle.entry.proofs.Forking.{fork-place, fork-asks, fork-entered}
 use Rattle.entry.proofs.step.Statement.{statement}
 use Rattle.entry.proofs.step.Tie as tie
 
-offset-requires : tie.Need-offset-requires
-offset-requires c κs = search needs
-
-element-copy-out-o : tie.Need-element-copy-out-o
-element-copy-out-o c = search needs
-
 sub-step-at : tie.Need-sub-step-at
 sub-step-at c = search needs
 
 step-at-requires : tie.Need-step-at-requires
 step-at-requires c κs =
-    let t = c .before .before .before .before .before .before .pre .1 .0 in
-    omega (arith, next-most (c .before .before .before .before .before .before .pre .0) (t .0) (t .1) (t .2))
+    let q = c .before .before .before .before .pre in
+    let t = q .1 .0 in
+    omega (arith, next-most (q .0) (t .0) (t .1) (t .2))
 
 enum-known-i : tie.Need-enum-known-i
 enum-known-i c = search needs
@@ -28,11 +23,10 @@ visit-argument-requires : tie.Need-visit-argument-requires
 visit-argument-requires c κs =
     let m = c .before .before .before .before in
     let k = m .before .before in
-    let a = k .before .before .before in
-    let q = a .before .before .before .before .pre in
+    let q = k .before .before .before .before .before .pre in
     let t = q .1 .0 in
-    let e = rw (m .i .given .1, a .offset .ensures .0) at (k .step-at .ensures) in
-    rw (a .offset .ensures .0)
+    let e = rw (m .i .given .1, t .3) at (k .step-at .ensures) in
+    rw (t .3)
     ((rowed (q .0) (t .0) (t .1) (t .2), visit-place (q .0) (t .0) (t .1) (t .2) (q .1 .1) e), visit-argument-asks (q .0) (t .0) (t .1) (t .2) (q .1 .1) e)
 
 enum-known-i-2 : tie.Need-enum-known-i-2
@@ -42,11 +36,10 @@ fork-requires : tie.Need-fork-requires
 fork-requires c κs =
     let m = c .before .before .before .before in
     let k = m .before .before in
-    let a = k .before .before .before in
-    let q = a .before .before .before .before .pre in
+    let q = k .before .before .before .before .before .pre in
     let t = q .1 .0 in
-    let e = rw (m .i2 .given .1, a .offset .ensures .0) at (k .step-at .ensures) in
-    rw (a .offset .ensures .0)
+    let e = rw (m .i2 .given .1, t .3) at (k .step-at .ensures) in
+    rw (t .3)
     ((rowed (q .0) (t .0) (t .1) (t .2), fork-place (q .0) (t .0) (t .1) (t .2) (q .1 .1) e .place), fork-asks (q .0) (t .0) (t .1) (t .2) (q .1 .1) e)
 
 forked-requires : tie.Need-forked-requires
@@ -58,19 +51,17 @@ enum-told c = search needs
 join-requires : tie.Need-join-requires
 join-requires c κs =
     let k = c .before .before .before .before in
-    let a = k .before .before .before in
-    let q = a .before .before .before .before .pre in
+    let q = k .before .before .before .before .before .pre in
     let t = q .1 .0 in
-    rw (a .offset .ensures .0) (rowed (q .0) (t .0) (t .1) (t .2), can-proceed (q .0) (t .0) (t .1) (t .2))
+    rw (t .3) (rowed (q .0) (t .0) (t .1) (t .2), can-proceed (q .0) (t .0) (t .1) (t .2))
 
 rewrite-requires : tie.Need-rewrite-requires
 rewrite-requires c κs =
     let m = c .before .before .before .before in
     let k = m .before in
-    let a = k .before .before .before in
-    let q = a .before .before .before .before .pre in
+    let q = k .before .before .before .before .before .pre in
     let t = q .1 .0 in
-    let e = rw (a .offset .ensures .0) at (k .step-at .ensures) in
+    let e = rw (t .3) at (k .step-at .ensures) in
     (q .0, (t, record { one = q .1 .1; is = whole-there (q .0) (t .0) (t .1) (t .2) (q .1 .1) (k .step-at .result) e (m .match .keys4) }))
 
 same-length : tie.Need-same-length
@@ -81,11 +72,10 @@ returns c =
     let v = c .before .before in
     let m = v .before .before .before .before .before in
     let k = m .before .before in
-    let a = k .before .before .before in
-    let q = a .before .before .before .before .pre in
+    let q = k .before .before .before .before .before .pre in
     let t = q .1 .0 in
-    let e = rw (m .i .given .1, a .offset .ensures .0) at (k .step-at .ensures) in
-    visited-argument (q .0) (t .0) (t .1) (t .2) (q .1 .1) e (rw (a .offset .ensures .0) at (v .visit-argument .ensures))
+    let e = rw (m .i .given .1, t .3) at (k .step-at .ensures) in
+    visited-argument (q .0) (t .0) (t .1) (t .2) (q .1 .1) e (rw (t .3) at (v .visit-argument .ensures))
 
 same-length-2 : tie.Need-same-length-2
 same-length-2 c = search needs
@@ -95,11 +85,10 @@ returns-2 c =
     let v = c .before .before .before in
     let m = v .before .before .before .before .before in
     let k = m .before .before in
-    let a = k .before .before .before in
-    let q = a .before .before .before .before .pre in
+    let q = k .before .before .before .before .before .pre in
     let t = q .1 .0 in
-    let e = rw (m .i2 .given .1, a .offset .ensures .0) at (k .step-at .ensures) in
-    fork-entered (q .0) (t .0) (t .1) (t .2) (q .1 .1) e (rw (a .offset .ensures .0) at (v .fork .ensures)) _ (c .forked .ensures)
+    let e = rw (m .i2 .given .1, t .3) at (k .step-at .ensures) in
+    fork-entered (q .0) (t .0) (t .1) (t .2) (q .1 .1) e (rw (t .3) at (v .fork .ensures)) _ (c .forked .ensures)
 
 same-length-3 : tie.Need-same-length-3
 same-length-3 c = search needs
@@ -109,11 +98,10 @@ returns-3 c =
     let v = c .before .before in
     let m = v .before .before .before in
     let k = m .before .before in
-    let a = k .before .before .before in
-    let q = a .before .before .before .before .pre in
+    let q = k .before .before .before .before .before .pre in
     let t = q .1 .0 in
-    joined (q .0) (t .0) (t .1) (t .2) (q .1 .1) (rw (m .enum-told .given .1, a .offset .ensures .0) at (k .step-at .ensures))
-    (rw (a .offset .ensures .0) at (v .join .ensures))
+    joined (q .0) (t .0) (t .1) (t .2) (q .1 .1) (rw (m .enum-told .given .1, t .3) at (k .step-at .ensures))
+    (rw (t .3) at (v .join .ensures))
 
 same-length-4 : tie.Need-same-length-4
 same-length-4 c = search needs
@@ -125,8 +113,6 @@ pub step-spec : {M : Type 1} → statement M
 step-spec =
     tie.close
     (tie.spec
-    offset-requires
-    element-copy-out-o
     sub-step-at
     step-at-requires
     enum-known-i

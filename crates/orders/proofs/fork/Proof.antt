@@ -1,6 +1,7 @@
 -- `orders::fork` meets its contract: an idle unit gets the argument, or it is kept. Assumes nothing.
 use native.Mathlib.Omega.{arith}
 use borrow.Author.Needs.{needs}
+use Rattle.orders.proofs.Changes.{argument-asks, argument-found}
 use Rattle.orders.proofs.Forks.{fork-grants, fork-keeps}
 use Rattle.orders.proofs.fork.Statement.{statement}
 use Rattle.orders.proofs.fork.Tie as tie
@@ -33,7 +34,8 @@ returns c =
     let v = g .before .before .before .before in
     let l = v .before .before in
     let q = rw (v .v .given .1) at (l .lowest-idle .ensures) in
-    fork-grants (l .before .before .argument .ensures .0) (q .units _) (g .grant .ensures)
+    let b = l .before .before in
+    fork-grants (argument-found (b .before .before .pre .0 .1) (b .argument .ensures .0)) (q .units _) (g .grant .ensures)
 
 returns-2 : tie.Need-returns-2
 returns-2 c =
@@ -41,9 +43,10 @@ returns-2 c =
     let e = g .before .before .before in
     let l = e .before .before in
     let q = rw (e .enum-told .given .1) at (l .lowest-idle .ensures) in
-    fork-keeps (l .before .before .argument .ensures .0) (q .units _) (g .keep .ensures)
+    let b = l .before .before in
+    fork-keeps (argument-found (b .before .before .pre .0 .1) (b .argument .ensures .0)) (q .units _) (g .keep .ensures)
 
 pub fork-spec : {M : Type 1} → statement M
 fork-spec =
-    tie.close (tie.spec (λ c κs. search needs) (λ c κs. search needs) (λ c. search needs) grant-requires (λ c. search needs) keep-requires
+    tie.close (tie.spec (λ c κs. argument-asks (c .before .pre .0 .1)) (λ c κs. search needs) (λ c. search needs) grant-requires (λ c. search needs) keep-requires
     (λ c. search needs) returns (λ c. search needs) returns-2)

@@ -8,7 +8,7 @@ returns : tie.Need-returns
 returns c =
     let i = c .before .before in
     let a = i .before .args in
-    holds-bind (a .bound .now) (a .v) (a .at) _ (search needs) (search needs) _ (rw (i .index .ensures .0, c .before .short .ensures, c .span .ensures))
+    holds-bind (a .bound .now) (a .v) (a .at) _ (search needs) (search needs) _ (rw (i .index .ensures .0, c .before .short .ensures, c .short2 .ensures))
 
 pub bind-spec : {M : Type 1} → statement M
 bind-spec = tie.close (tie.spec (λ c κs. search needs) (λ c. search needs) (λ c κs. search needs) (λ c. search needs) (λ c. search needs) (λ c κs. search needs) (λ c. search needs) (λ c. search needs) (λ c. search needs) returns)

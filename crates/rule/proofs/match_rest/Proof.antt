@@ -7,6 +7,7 @@ use lib.ListN.{take}
 use borrow.Author.Needs.{needs}
 use borrow.Author.Tests.{ltb-true, ltb-false}
 use Rattle.flat.specs.Symbols.{Binding}
+use Rattle.symbol.specs.Record.{operators as operators-of}
 use Rattle.rule.specs.Packed.{binding}
 use Rattle.rule.specs.Contracts.{Bound-within, Rest-matched}
 use Rattle.rule.specs.declared.Found.{Found}
@@ -17,8 +18,8 @@ use Rattle.rule.proofs.match_rest.Tie as tie
 abbrev Inv-loop : tie.InvT-loop
 Inv-loop book at operators symbols len offset due bound₀ p₀ q₀ owed₀ room₀ bound p q owed room =
     (owed + 255 * room ≤ 16320) × (q ≤ len) × Bound-within bound len
-    × ((b : Binding) (r : Found) → Rest-matched book p operators owed room (take len symbols) q (binding bound) b r →
-    Rest-matched book at operators due 63 (take len symbols) offset (binding bound₀) b r)
+    × ((b : Binding) (r : Found) → Rest-matched book p operators owed room (operators-of (take len symbols)) q (binding bound) b r →
+    Rest-matched book at operators due 63 (operators-of (take len symbols)) offset (binding bound₀) b r)
 
 abbrev μ-loop : tie.MeasureT-loop
 μ-loop book at operators symbols len offset due bound₀ p₀ q₀ owed₀ room₀ bound p q owed room = room
@@ -30,7 +31,7 @@ match-one-requires : tie.Need-match-one-requires Inv-loop μ-loop
 match-one-requires c κs =
     let l = c .before .before .before in
     let p = l .before .before .pre in
-    (p .0, record { long = p .1 .long; most = p .1 .most; inside = l .loop .inv .1 }, l .loop .inv .2)
+    (p .0, record { long = p .1 .long; most = p .1 .most; true-sizes = p .1 .true-sizes; inside = l .loop .inv .1 }, l .loop .inv .2)
 
 returns : tie.Need-returns Inv-loop μ-loop
 returns c =

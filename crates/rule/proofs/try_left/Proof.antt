@@ -1,11 +1,11 @@
 -- `rule::try_left` meets its contract. Assumes nothing.
 use mathlib.Core.Path.{sym, subst}
 use native.Mathlib.Omega.{arith}
-use lib.Seq.{length-take-le}
 use borrow.Author.Needs.{needs}
 use Rattle.flat.specs.Symbols.{Binding}
 use Rattle.rule.specs.Packed.{Binds-within}
 use Rattle.rule.proofs.Bindings.{within-blank}
+use Rattle.rule.proofs.Parts.{operators-length}
 use Rattle.rule.proofs.Choices.{tried-rest, tried-other}
 use Rattle.rule.proofs.try_left.Statement.{statement}
 use Rattle.rule.proofs.try_left.Tie as tie
@@ -22,10 +22,10 @@ match-rest-requires c κs =
     let o = s .pre .2 in
     let u = s .pre .3 in
     let len = s .args .len in
-    let l = length-take-le len (s .args .symbols .now) (omega arith) in
+    let l = operators-length (s .args .symbols .now) len (omega arith) in
     let i = u .inside in (
       s .pre .0,
-      record { long = o .long; most = o .most; inside = omega arith },
+      record { long = o .long; most = o .most; true-sizes = o .true-sizes; inside = omega arith },
       record { within = subst (λ (b : Binding). Binds-within b len) (sym (e .is)) (within-blank len); long = e .long },
       u .few,
     )

@@ -11,13 +11,16 @@ rewrite-requires c κs =
     let s = t .before .before .before .before in
     (s .pre .0, search needs, due-at-start _ _ (t .start .ensures) (omega (arith, s .pre .0 .inside)))
 
-say-front-requires-2 : tie.Need-say-front-requires-2
-say-front-requires-2 c κs =
-    let n = c .before .before .before .before .before .before .before .before .before in
-    let w = rw (n .new-len .given .1) at (n .before .before .before .rewrite .ensures .0) in
-    omega (arith, w .stays, w .long)
+say-operators-requires-2 : tie.Need-say-operators-requires-2
+say-operators-requires-2 c κs =
+    let n = c .before .before .before .before .before .before .before in
+    let w = rw (n .enum-told4 .given .1) at (n .before .before .before .rewrite .ensures .0) in
+    omega (arith, c .length .ensures, w .most)
 
 pub carry-out-spec : {M : Type 1} → statement M
 carry-out-spec =
     tie.close
-    (tie.spec (λ c. search needs) (λ c κs. search needs) (λ c. search needs) rewrite-requires (λ c. search needs) (λ c. search needs) (λ c κs. search needs) (λ c. search needs) (λ c. search needs) (λ c κs. search needs) (λ c. search needs) (λ c. search needs) (λ c κs. search needs) (λ c. search needs) (λ c. search needs) (λ c κs. search needs) (λ c. search needs) (λ c κs. search needs) (λ c. search needs) (λ c κs. search needs) say-front-requires-2 (λ c. search needs) (λ c. search needs) (λ c. search needs) (λ c. search needs))
+    (tie.spec (λ c. search needs) (λ c κs. search needs) (λ c. search needs) rewrite-requires (λ c. search needs) (λ c. search needs) (λ c κs. search needs)
+    (λ c. search needs) (λ c. search needs) (λ c κs. search needs) (λ c. search needs) (λ c. search needs) (λ c κs. search needs) (λ c. search needs)
+    (λ c. search needs) (λ c κs. search needs) (λ c. search needs) (λ c κs. search needs) (λ c. search needs) (λ c κs. search needs) (λ c κs. search needs)
+    say-operators-requires-2 (λ c. search needs) (λ c. search needs) (λ c. search needs) (λ c. search needs))

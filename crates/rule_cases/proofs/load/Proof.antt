@@ -11,10 +11,10 @@ use Rattle.rule_cases.proofs.load.Statement.{statement}
 use Rattle.rule_cases.proofs.load.Tie as tie
 
 abbrev Inv-loop : tie.InvT-loop
-Inv-loop line symbols₀ i₀ symbols i = (i ≤ length line) × (length symbols ≡ 1024) × (take i symbols ≡ take i line)
+Inv-loop line space₀ i₀ space i = (i ≤ length line) × (length space ≡ 1024) × (take i space ≡ take i line)
 
 abbrev μ-loop : tie.MeasureT-loop
-μ-loop line symbols₀ i₀ symbols i = length line - i
+μ-loop line space₀ i₀ space i = length line - i
 
 loop-holds : tie.Need-loop-holds Inv-loop μ-loop
 loop-holds c = (omega arith, c .pre .1, refl)

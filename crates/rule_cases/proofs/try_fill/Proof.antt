@@ -7,7 +7,7 @@ returns : tie.Need-returns
 returns c =
     let k = c .before .before in
     let z = rw (k .k .given .1) at (k .before .before .fill .ensures) in
-    z .is .1
+    z .is .2
 
 pub try-fill-spec : {M : Type 1} → statement M
 try-fill-spec = tie.close (tie.spec (λ c. search needs) (λ c κs. search needs) (λ c κs. search needs) (λ c. search needs) (λ c κs. search needs) (λ c. search needs) (λ c. search needs) (λ c κs. search needs) returns (λ c. search needs))

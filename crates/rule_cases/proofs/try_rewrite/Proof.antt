@@ -1,6 +1,7 @@
--- `rule_cases::try_rewrite` meets its contract: a rule that is found is one of the book's, and binds within the term. Assumes nothing.
+-- `rule_cases::try_rewrite` meets its contract: a rule that is found is one of the book's, and binds terms. Assumes nothing.
 use native.Mathlib.Omega.{arith}
 use borrow.Author.Needs.{needs}
+use Rattle.rule_cases.proofs.Laws.{fillable}
 use Rattle.rule_cases.proofs.try_rewrite.Statement.{statement}
 use Rattle.rule_cases.proofs.try_rewrite.Tie as tie
 
@@ -17,11 +18,12 @@ right-side-requires c κs =
 
 try-fill-requires : tie.Need-try-fill-requires
 try-fill-requires c κs =
-    let m = c .before .before .before .before .before in
+    let r = c .before .before .before .before in
+    let m = r .before .before in
     let f = m .before .before in
     let h = rw (m .m .given .1) at (f .find .ensures) in
     let p = start f .pre in
-    (p .short, p .long, λ v. omega (arith, h .within v, p .most))
+    (fillable p h (r .right-side .ensures .0), p .sized, search needs)
 
 pub try-rewrite-spec : {M : Type 1} → statement M
 try-rewrite-spec = tie.close (tie.spec (λ c κs. search needs) (λ c. search needs) (λ c. search needs) (λ c. search needs) (λ c κs. search needs) (λ c. search needs) right-side-requires (λ c κs. search needs) try-fill-requires (λ c κs. search needs) (λ c. search needs))

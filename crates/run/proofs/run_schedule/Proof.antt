@@ -13,12 +13,12 @@ use Rattle.run.proofs.run_schedule.Statement.{statement}
 use Rattle.run.proofs.run_schedule.Tie as tie
 
 abbrev Inv-loop : tie.InvT-loop
-Inv-loop book operators rules symbols₀ scratch₀ work₀ units₀ length l schedule p₀ i₀ symbols scratch work units p i =
-    Along book operators rules l schedule (state symbols₀ work₀ units₀ (beginning length) l) symbols scratch work units p i
+Inv-loop book operators rules symbols₀ scratch₀ work₀ units₀ l schedule p₀ i₀ symbols scratch work units p i =
+    Along book operators rules l schedule (state symbols₀ work₀ units₀ beginning l) symbols scratch work units p i
     × (L.length work ≡ L.length work₀)
 
 abbrev μ-loop : tie.MeasureT-loop
-μ-loop book operators rules symbols₀ scratch₀ work₀ units₀ length l schedule p₀ i₀ symbols scratch work units p i = L.length schedule - i
+μ-loop book operators rules symbols₀ scratch₀ work₀ units₀ l schedule p₀ i₀ symbols scratch work units p i = L.length schedule - i
 
 -- where the loop's body begins
 abbrev turn : tie.After-index Inv-loop μ-loop → tie.In-loop Inv-loop μ-loop
@@ -40,23 +40,26 @@ enter-requires c κs =
 
 returns : tie.Need-returns Inv-loop μ-loop
 returns c =
-    let q = c .before .before .before .before .before in
+    let m = c .before .before in
+    let q = m .before .before .before .before in
     let b = turn (q .before) in
-    let e = rw (c .before .enum-told .given .1) at (q .enter .ensures) in
+    let e = rw (m .enum-told .given .1) at (q .enter .ensures) in
     along-ends (b .before .loop .inv .0) (b .loop-test .taken) _ (q .before .index .ensures .0) Ending.Finished (e .0) (e .1) _ (c .ended .ensures)
 
 returns-2 : tie.Need-returns-2 Inv-loop μ-loop
 returns-2 c =
-    let q = c .before .before .before .before .before in
+    let m = c .before .before in
+    let q = m .before .before .before .before in
     let b = turn (q .before) in
-    let e = rw (c .before .enum-told2 .given .1) at (q .enter .ensures) in
+    let e = rw (m .enum-told2 .given .1) at (q .enter .ensures) in
     along-ends (b .before .loop .inv .0) (b .loop-test .taken) _ (q .before .index .ensures .0) Ending.Spent (e .0) (e .1) _ (c .ended2 .ensures)
 
 returns-3 : tie.Need-returns-3 Inv-loop μ-loop
 returns-3 c =
-    let q = c .before .before .before .before .before in
+    let m = c .before .before in
+    let q = m .before .before .before .before in
     let b = turn (q .before) in
-    let e = rw (c .before .enum-told3 .given .1) at (q .enter .ensures) in
+    let e = rw (m .enum-told3 .given .1) at (q .enter .ensures) in
     along-ends (b .before .loop .inv .0) (b .loop-test .taken) _ (q .before .index .ensures .0) Ending.Full (e .0) (e .1) _ (c .ended3 .ensures)
 
 loop-again : tie.Need-loop-again Inv-loop μ-loop
@@ -67,7 +70,7 @@ loop-again c =
     (along-goes (b .before .loop .inv .0) (b .loop-test .taken) _ (q .before .index .ensures .0) _ (e .0) (e .1), search needs)
 
 returns-4 : tie.Need-returns-4 Inv-loop μ-loop
-returns-4 c = along-cut (c .before .before .loop .inv .0) (c .before .loop-test .left) _ (c .ended4 .ensures)
+returns-4 c = along-cut (c .before .before .before .loop .inv .0) (c .before .before .loop-test .left) _ (c .ended4 .ensures)
 
 pub run-schedule-spec : {M : Type 1} → statement M
 run-schedule-spec =

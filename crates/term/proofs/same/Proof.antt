@@ -6,9 +6,11 @@ use Prim.Native.Nat.{ℕ, _+_, _-_, _≤_, _<_}
 use native.Mathlib.Numerals.{add-one}
 use native.Mathlib.Omega.{arith}
 use lib.ListN.{length, getD, take, drop, length-take, length-drop}
-use lib.Seq.{take-suc, length-take-le, getD-take, getD-drop}
+use lib.Seq.{take-suc, getD-take, getD-drop}
 use borrow.Author.Needs.{needs}
 use Rattle.paper.proofs.Operators.{same-true, same-false}
+use Rattle.symbol.specs.Record.{operator, operators}
+use Rattle.symbol.proofs.Record.{front-length, operator-front}
 use Rattle.term.specs.Contracts.{Compared}
 use Rattle.term.proofs.same.Statement.{statement}
 use Rattle.term.proofs.same.Tie as tie
@@ -48,7 +50,7 @@ module _ (xs : List ℕ) (a b : ℕ) where
       record { is = sym (same-false _ _ (λ e. let z = ap length e in omega (arith, simp (length-take, length-drop) at z))) }
 
 abbrev Inv-loop : tie.InvT-loop
-Inv-loop symbols len a b n i₀ i = (i ≤ n) × Equal-before (take len symbols) a b i
+Inv-loop symbols len a b n i₀ i = (i ≤ n) × Equal-before (operators (take len symbols)) a b i
 
 abbrev μ-loop : tie.MeasureT-loop
 μ-loop symbols len a b n i₀ i = n - i
@@ -56,25 +58,27 @@ abbrev μ-loop : tie.MeasureT-loop
 returns : tie.Need-returns Inv-loop μ-loop
 returns c =
     let s = c .before in
-    let l = length-take-le (s .args .len) (s .args .symbols .now) (omega arith) in
+    let l = front-length operator (s .args .len) (s .args .symbols .now) (omega arith) in
     fewer _ _ _ _ (omega arith) (omega arith)
 
 returns-2 : tie.Need-returns-2 Inv-loop μ-loop
 returns-2 c =
-    let l = c .before .before .before .before in
+    let l = c .before .before .before .before .before .before in
     let s = l .before .before .args in
-    let p = getD-take (s .len) (s .symbols .now) (s .a + l .loop .i) 0 (omega arith) in
-    let q = getD-take (s .len) (s .symbols .now) (s .b + l .loop .i) 0 (omega arith) in
+    let p = operator-front (s .len) (s .symbols .now) (s .a + l .loop .i) (omega arith) in
+    let q = operator-front (s .len) (s .symbols .now) (s .b + l .loop .i) (omega arith) in
     differs _ _ _ _ (l .loop .i) (omega arith) (λ e. omega arith)
 
 loop-again : tie.Need-loop-again Inv-loop μ-loop
 loop-again c =
-    let l = c .before .before .before .before in
+    let l = c .before .before .before .before .before .before in
     let s = l .before .before .args in
-    let m = length-take-le (s .len) (s .symbols .now) (omega arith) in
-    let p = getD-take (s .len) (s .symbols .now) (s .a + l .loop .i) 0 (omega arith) in
-    let q = getD-take (s .len) (s .symbols .now) (s .b + l .loop .i) 0 (omega arith) in
-    (omega arith, equal-next (take (s .len) (s .symbols .now)) (s .a) (s .b) (l .loop .i) (omega arith) (omega arith) (omega arith) (l .loop .inv .1))
+    let m = front-length operator (s .len) (s .symbols .now) (omega arith) in
+    let p = operator-front (s .len) (s .symbols .now) (s .a + l .loop .i) (omega arith) in
+    let q = operator-front (s .len) (s .symbols .now) (s .b + l .loop .i) (omega arith) in (
+      omega arith,
+      equal-next (operators (take (s .len) (s .symbols .now))) (s .a) (s .b) (l .loop .i) (omega arith) (omega arith) (omega arith) (l .loop .inv .1),
+    )
 
 returns-3 : tie.Need-returns-3 Inv-loop μ-loop
 returns-3 c = all-equal _ _ _ _ (c .before .loop .i) (omega arith) (c .before .loop .inv .1)
@@ -83,4 +87,4 @@ pub same-spec : {M : Type 1} → statement M
 same-spec =
     tie.close
     (tie.spec Inv-loop μ-loop (λ c. search needs) returns (λ c. (omega arith, refl)) (λ c. search needs) (λ c. search needs) (λ c. search needs)
-    (λ c. search needs) returns-2 (λ c. search needs) (λ c. search needs) loop-again returns-3)
+    (λ c κs. search needs) (λ c. search needs) (λ c. search needs) (λ c. search needs) (λ c κs. search needs) returns-2 (λ c. search needs) (λ c. search needs) loop-again returns-3)

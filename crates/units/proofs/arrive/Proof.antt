@@ -22,15 +22,14 @@ returns c =
     let i = c .before .before .before in
     let l = i .before .before .before .before in
     let s = l .before .before .before .before in
-    arrive-last (s .pre) (l .before .before .base-of .ensures) (l .lower-at .ensures) (i .is-zero-at .ensures _ (s .pre .index) ∙ c .before .before .if1 .taken)
-    (c .wake-unit .ensures)
+    arrive-last (s .pre) (omega arith) (l .lower-at .ensures) (i .is-zero-at .ensures ∙ c .before .before .if1 .taken) (c .wake-unit .ensures)
 
 returns-2 : tie.Need-returns-2
 returns-2 c =
     let i = c .before in
     let l = i .before .before .before .before in
     let s = l .before .before .before .before in
-    arrive-more (s .pre) (l .before .before .base-of .ensures) (l .lower-at .ensures) (i .is-zero-at .ensures _ (s .pre .index) ∙ c .if1 .left)
+    arrive-more (s .pre) (omega arith) (l .lower-at .ensures) (i .is-zero-at .ensures ∙ c .if1 .left)
 
 pub arrive-spec : {M : Type 1} → statement M
-arrive-spec = tie.close (tie.spec (λ c κs. search needs) lower-at-requires is-zero-at-requires (λ c κs. search needs) (λ c. search needs) returns (λ c. search needs) returns-2)
+arrive-spec = tie.close (tie.spec (λ c κs. search needs) (λ c. search needs) (λ c. search needs) lower-at-requires is-zero-at-requires (λ c κs. search needs) (λ c. search needs) returns (λ c. search needs) returns-2)

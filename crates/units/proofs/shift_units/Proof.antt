@@ -1,11 +1,9 @@
 -- `units::shift_units` meets its contract: the loop's invariant: the offsets of units 0 to u - 1 have moved. Assumes nothing.
-use mathlib.Core.Path.{_≡_}
-use Prim.Native.Nat.{_*_, _-_, _≤_}
+use Prim.Native.Nat.{_-_, _≤_}
 use native.Mathlib.Omega.{arith}
 use borrow.Author.Needs.{needs}
-use denote.Ref.{now}
-use Rattle.units.specs.Stacks.{height, height-in, store}
-use Rattle.units.proofs.Loops.{Shifted-below, below-none, below-rest, below-more, below-all}
+use Rattle.units.specs.Stacks.{store}
+use Rattle.units.proofs.Loops.{Shifted-below, frames-of, below-none, below-rest, below-more, below-all}
 use Rattle.units.proofs.shift_units.Statement.{statement}
 use Rattle.units.proofs.shift_units.Tie as tie
 
@@ -24,18 +22,20 @@ shift-stack-requires c κs =
     let s = l .before .before in
     let u = l .loop .u in
     let p = l .loop .inv .1 in
-    let e : c .before .base-of .result ≡ u * height = c .before .base-of .ensures in
-    let y : c .height-of .result ≡ height-in (now (s .args .units)) u = c .height-of .ensures in (
-      omega (arith, s .pre .fit .most u, s .pre .fit .regions .bytes, p .outside .size),
-      rw (e, y, below-rest p) (s .pre .offsets u (c .before .before .before .loop-test .taken)),
+    let b = c .before .base-of .ensures in
+    let h = frames-of (s .pre .fit) (omega (arith, s .pre .few)) b (c .end-of .ensures .0) in (
+      (omega (arith, h), omega (arith, h .1, s .pre .fit .most u, s .pre .fit .regions .bytes, p .outside .size)),
+      rw (h .0, b, below-rest p) (s .pre .offsets u (c .before .before .before .loop-test .taken)),
     )
 
 loop-again : tie.Need-loop-again Inv-loop μ-loop
 loop-again c =
     let h = c .before .before .before in
     let l = h .before .before .before .before in
-    let s = l .before .before in
-    (omega arith, below-more (l .loop .inv .1) (h .before .base-of .ensures) (h .height-of .ensures) (s .pre .fit .most) (c .before .before .shift-stack .ensures))
+    let f = l .before .before .pre .fit in
+    let b = h .before .base-of .ensures in
+    let t = frames-of f (omega (arith, l .before .before .pre .few)) b (h .end-of .ensures .0) in
+    (omega arith, below-more (l .loop .inv .1) b (t .0) (f .most) (c .before .before .shift-stack .ensures))
 
 same-length : tie.Need-same-length Inv-loop μ-loop
 same-length c = c .before .loop .inv .1 .outside .size

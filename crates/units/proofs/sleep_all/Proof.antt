@@ -23,11 +23,10 @@ loop-holds c =
 loop-again : tie.Need-loop-again Inv-loop μ-loop
 loop-again c =
     let p = c .before .before .before .before in
-    let l = p .before .before .before .before in
-    let q = l .loop .inv in
+    let b = p .before .before in
+    let q = b .before .before .loop .inv in
     let f = p .put-frame .ensures in
-    let s = c .store .ensures in
-    (omega arith, f .outside .size ∙ q .1, asleep-more (q .2) (omega arith) (p .before .base-of .ensures) f s)
+    (omega arith, f .outside .size ∙ q .1, asleep-more (q .2) (omega arith) (b .base-of .ensures) f (c .store .ensures))
 
 same-length : tie.Need-same-length Inv-loop μ-loop
 same-length c = c .before .loop .inv .1
@@ -40,5 +39,5 @@ returns c =
 
 pub sleep-all-spec : {M : Type 1} → statement M
 sleep-all-spec =
-    tie.close (tie.spec Inv-loop μ-loop loop-holds (λ c κs. search needs) (λ c κs. search needs) (λ c κs. search needs) (λ c. search needs)
+    tie.close (tie.spec Inv-loop μ-loop loop-holds (λ c κs. search needs) (λ c κs. search needs) (λ c. search needs) (λ c κs. search needs) (λ c. search needs)
     (λ c. search needs) loop-again same-length returns)

@@ -11,7 +11,7 @@ returns c =
     let l = c .before .before .load .ensures in
     let x = c .before .sleep .ensures in
     let s = c .store .ensures in
-    turned _ _ (search needs) (omega (arith, x .1, l .small)) s (x .0) (x .1 ∙ l .height)
+    turned _ _ (search needs) (omega (arith, x .1, l .small)) s (x .0) (x .1 ∙ l .end)
 
 pub sleep-unit-spec : {M : Type 1} → statement M
 sleep-unit-spec = tie.close (tie.spec (λ c κs. search needs) (λ c κs. search needs) (λ c κs. search needs) returns)

@@ -8,13 +8,13 @@ use Rattle.units.proofs.start.Tie as tie
 set-top-requires : tie.Need-set-top-requires
 set-top-requires c κs =
     let q = c .before .before .before .before .sleep-all .ensures in
-    (record { fit = asleep-fit q; unit = omega arith; index = omega (arith, q .heights 0 (omega arith)) }, tt)
+    (record { fit = asleep-fit q; unit = omega arith; index = omega (arith, q .ends 0 (omega arith)) }, tt)
 
 push-requires : tie.Need-push-requires
 push-requires c κs =
     let t = c .before .before .before .before in
     let q = t .before .before .before .before .before .sleep-all .ensures in
-    (record { fit = t .set-top .ensures .fit; unit = omega arith; room = omega (arith, q .heights 0 (omega arith)) }, search needs)
+    (record { fit = t .set-top .ensures .fit; unit = omega arith; room = omega (arith, q .ends 0 (omega arith)) }, search needs)
 
 returns : tie.Need-returns
 returns c =

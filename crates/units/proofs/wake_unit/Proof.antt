@@ -12,7 +12,7 @@ returns c =
     let l = c .before .before .before .before .before .load .ensures in
     let x = c .before .wake .ensures in
     let s = c .store .ensures in
-    turned _ _ (search needs) (omega (arith, x .1, l .small)) s (x .0) (x .1 ∙ l .height)
+    turned _ _ (search needs) (omega (arith, x .1, l .small)) s (x .0) (x .1 ∙ l .end)
 
 returns-2 : tie.Need-returns-2
 returns-2 c =

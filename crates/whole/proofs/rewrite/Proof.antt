@@ -1,6 +1,7 @@
 -- `whole::rewrite` meets its contract. Assumes nothing.
 use borrow.Author.Needs.{needs}
 use Rattle.whole.proofs.Machine.{missed, spends, fills, rewrote}
+use Rattle.whole.proofs.Terms.{end-behind}
 use Rattle.whole.proofs.rewrite.Statement.{statement}
 use Rattle.whole.proofs.rewrite.Tie as tie
 
@@ -13,39 +14,38 @@ apply-requires c κs =
     let k = c .before .before .before .before in
     let f = k .before .before in
     let p = start f .pre in
-    let q = p .0 in
     let h = rw (k .filled .given .1) at (f .choose .ensures) in
-    (record { long = q .long; scratch-long = h .long; most = q .most; inside = q .inside; end = h .is .most; fits = h .is .fits }, p .2)
+    (h .is .replaceable, p .0 .inside, end-behind (p .0) (h .is .hit), h .long, p .2)
 
 returns : tie.Need-returns
 returns c =
     let f = c .before .before in
-    let p = start f .pre in
+    let s = start f in
     let h = rw (c .enum-told .given .1) at (f .choose .ensures) in
-    (missed (p .0 .long) (p .2 .top .fit) (h .is), h .long)
+    (missed _ (s .args .p) (s .args .l) _ (s .pre .0) (s .pre .2 .top .fit) (h .is), h .long)
 
 returns-2 : tie.Need-returns-2
 returns-2 c =
     let f = c .before .before in
-    let p = start f .pre in
+    let s = start f in
     let h = rw (c .enum-told2 .given .1) at (f .choose .ensures) in
-    (spends (p .0 .long) (p .2 .top .fit) (h .is), h .long)
+    (spends _ (s .args .p) (s .args .l) _ (s .pre .0) (s .pre .2 .top .fit) (h .is), h .long)
 
 returns-3 : tie.Need-returns-3
 returns-3 c =
     let f = c .before .before in
-    let p = start f .pre in
+    let s = start f in
     let h = rw (c .enum-told3 .given .1) at (f .choose .ensures) in
-    (fills (p .0 .long) (p .2 .top .fit) (h .is), h .long)
+    (fills _ (s .args .p) (s .args .l) _ (s .pre .0) (s .pre .2 .top .fit) (h .is), h .long)
 
 returns-4 : tie.Need-returns-4
 returns-4 c =
     let v = c .before .before in
     let k = v .before .before .before .before .before in
     let f = k .before .before in
-    let p = start f .pre in
+    let s = start f in
     let h = rw (k .filled .given .1) at (f .choose .ensures) in
-    (rewrote (p .0 .long) (p .0 .most) (h .long) (h .is) (v .apply .ensures .0), v .apply .ensures .1)
+    (rewrote _ (s .args .p) (s .args .l) _ (s .pre .0) (h .long) (h .is) (v .apply .ensures .0), v .apply .ensures .1)
 
 pub rewrite-spec : {M : Type 1} → statement M
 rewrite-spec =

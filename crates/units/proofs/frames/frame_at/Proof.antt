@@ -9,4 +9,4 @@ returns c =
     rw (← word .0, ← word .1) (c .frame-of .ensures)
 
 pub frame-at-spec : {M : Type 1} → statement M
-frame-at-spec = tie.close (tie.spec (λ c. search needs) (λ c. search needs) (λ c κs. search needs) (λ c κs. search needs) returns)
+frame-at-spec = tie.close (tie.spec (λ c. search needs) (λ c κs. search needs) (λ c κs. search needs) returns)

@@ -16,4 +16,4 @@ returns : tie.Need-returns
 returns c = stores _ _ _ (c .pre)
 
 pub put-word-spec : {M : Type 1} → statement M
-put-word-spec = tie.close (tie.spec (λ c. search needs) (λ c. search needs) (λ c. search needs) (λ c. search needs) slice-write-work-2 (λ c. search needs) (λ c. search needs) slice-write-work-3 (λ c. search needs) returns)
+put-word-spec = tie.close (tie.spec (λ c. search needs) (λ c. search needs) (λ c. search needs) slice-write-work-2 (λ c. search needs) (λ c. search needs) slice-write-work-3 (λ c. search needs) returns)

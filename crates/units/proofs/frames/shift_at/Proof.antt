@@ -16,4 +16,4 @@ returns c =
     rw (← word .0, ← word .1, ← move) put
 
 pub shift-at-spec : {M : Type 1} → statement M
-shift-at-spec = tie.close (tie.spec (λ c. search needs) (λ c. search needs) (λ c κs. search needs) moved-requires (λ c κs. search needs) (λ c. search needs) returns)
+shift-at-spec = tie.close (tie.spec (λ c. search needs) (λ c κs. search needs) moved-requires (λ c κs. search needs) (λ c. search needs) returns)

@@ -1,0 +1,4 @@
+pub mod Decoding
+pub mod Sides
+pub mod Placing
+pub mod Filling
