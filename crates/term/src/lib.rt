@@ -76,7 +76,7 @@ pub fn copy(symbols: &mut [u32; 1024], at: usize, part: &[u32; 1024], from: usiz
     }
 }
 
-// Puts the size of the operator o, which stands at offset at, where the sizes of its arguments behind it stand.
+// Puts the operator o at offset at, with its size by those of its arguments, which stand behind it.
 pub fn put_sized(symbols: &mut [u32; 1024], operators: &[u8; 4352], at: usize, o: u8)
     requires { ⌜ (length (now symbols) ≡ 1024) × (at < 1024) × Hops (R.sizes (now symbols)) (arity-in (now operators) o) (at + 1) × (flat.hop (R.sizes (now symbols)) (arity-in (now operators) o) (at + 1) ≤ 1024) ⌝ }
     ensures { λ _. ⌜ Put-sized (arity-in (now (operators .entry)) o) at o (now (symbols .entry)) (now (symbols .exit)) ⌝ }
