@@ -1,4 +1,5 @@
 // The library's rewrite against an unverified one, on the same packed rules and the same term of 1,000 symbols.
+#include "net.h"
 #include "packer.h"
 #include "reader.h"
 #include "timing.h"
@@ -10,8 +11,9 @@ enum { END, TICK, BOTH, PAIR, OPERATORS };
 uint8_t bench_book_read(const uint8_t *book, size_t len, uint16_t day, uint8_t *operators, uint32_t *rules);
 void bench_rule_start(uint8_t *work, size_t work_length, uint32_t *units);
 void bench_rule_load(uint32_t *symbols, const uint8_t *operators, const uint8_t *line, size_t n);
-size_t bench_rule_rewrite(const uint8_t *book, size_t len, const uint8_t *operators, const uint32_t *rules, uint32_t *symbols, size_t offset,
-    uint32_t *scratch, uint8_t *work, size_t work_length, const uint32_t *units);
+void bench_rule_build(const uint8_t *book, size_t len, const uint8_t *operators, const uint32_t *rules, uint8_t *net, size_t net_length);
+size_t bench_rule_rewrite(const uint8_t *book, size_t len, const uint8_t *operators, const uint8_t *net, size_t net_length, uint32_t *symbols,
+    size_t offset, uint32_t *scratch, uint8_t *work, size_t work_length, const uint32_t *units);
 
 // The unverified rewrite.
 
@@ -114,24 +116,48 @@ static void grow(uint32_t *symbols, size_t offset, uint32_t by) {
     for (size_t i = 0; i < offset; i++) symbols[i] += i + size_of(symbols[i]) > offset ? 512 * by : 0;
 }
 
-static size_t c_rewrite(const uint8_t *book, size_t len, void *of_book, uint32_t *symbols, size_t offset, uint32_t *scratch) {
-    const tables *t = of_book;
+// A book's tables and its net, and where a rule is looked for.
+typedef struct {
+    tables t;
+    net n;
+} unverified;
+
+typedef struct {
+    const uint8_t *book;
+    size_t len;
+    const unverified *of;
+    const uint32_t *symbols;
     uint16_t starts[16];
+} finder;
+
+static inline int matches(finder *f, unsigned i, size_t offset) {
+    return match((side){f->book, 8 * f->len, f->of->t.lefts[i]}, &f->of->t, f->symbols, offset, f->starts);
+}
+
+#define NET_CONTEXT finder
+#define NET_OF(f) (&(f)->of->n)
+#define NET_SYMBOL(f, i, depth, at) net_symbol((f)->book, (f)->len, (f)->of->t.lefts[i] + (at))
+#define NET_CELL(f, at) operator_of((f)->symbols[at])
+#define NET_SIZE(f, at) size_of((f)->symbols[at])
+#define NET_MATCH matches
+#include "net_search.h"
+
+static size_t c_rewrite(const uint8_t *book, size_t len, void *of_book, uint32_t *symbols, size_t offset, uint32_t *scratch) {
+    const unverified *u = of_book;
+    const tables *t = &u->t;
+    finder f = {.book = book, .len = len, .of = u, .symbols = symbols};
     size_t size = size_of(symbols[0]), end = offset + size_of(symbols[offset]);
-    for (unsigned k = t->chain[operator_of(symbols[offset])]; k; k = t->chain[255 + k]) {
-        unsigned i = k - 1;
-        if (!match((side){book, 8 * len, t->lefts[i]}, t, symbols, offset, starts)) continue;
-        side right = {book, 8 * len, t->rights[i]};
-        if (offset + filled_size(right, t, symbols, starts) + (size - end) > 1024) return 0;
-        size_t n = fill(right, t, symbols, starts, scratch);
-        if (offset + n != end) {
-            grow(symbols, offset, (uint32_t)(offset + n - end));
-            memmove(symbols + offset + n, symbols + end, 4 * (size - end));
-        }
-        memcpy(symbols + offset, scratch, 4 * n);
-        return size_of(symbols[0]);
+    unsigned i = net_find(&f, (unsigned)offset);
+    if (!i) return 0;
+    side right = {book, 8 * len, t->rights[i - 1]};
+    if (offset + filled_size(right, t, symbols, f.starts) + (size - end) > 1024) return 0;
+    size_t n = fill(right, t, symbols, f.starts, scratch);
+    if (offset + n != end) {
+        grow(symbols, offset, (uint32_t)(offset + n - end));
+        memmove(symbols + offset + n, symbols + end, 4 * (size - end));
     }
-    return 0;
+    memcpy(symbols + offset, scratch, 4 * n);
+    return size_of(symbols[0]);
 }
 
 // The book and the term.
@@ -183,17 +209,18 @@ static size_t make_term(uint8_t *term) {
 
 static const size_t OFFSET = 202;
 
-// The library's tables, and the only unit, whose job's offset goes along.
+// The library's tables, its net, and the only unit, whose job's offset goes along.
 typedef struct {
     uint8_t operators[4352];
-    uint32_t rules[1024];
+    uint32_t rules[512];
+    uint8_t net[3840];
     uint8_t work[24624];
     uint32_t units[8];
 } library;
 
 static size_t rattle_rewrite(const uint8_t *bytes, size_t len, void *of_book, uint32_t *symbols, size_t offset, uint32_t *scratch) {
     library *l = of_book;
-    return bench_rule_rewrite(bytes, len, l->operators, l->rules, symbols, offset, scratch, l->work, sizeof l->work, l->units);
+    return bench_rule_rewrite(bytes, len, l->operators, l->net, sizeof l->net, symbols, offset, scratch, l->work, sizeof l->work, l->units);
 }
 
 typedef size_t rewriter(const uint8_t *, size_t, void *, uint32_t *, size_t, uint32_t *);
@@ -212,18 +239,20 @@ static double timed(rewriter *rewrite, void *of_book, const uint32_t *term, uint
 
 int main(void) {
     static library l;
-    static tables t;
+    static unverified u;
     static uint8_t line[1024];
     static uint32_t term[1024], ours[1024], theirs[1024];
     static double rattle[TURNS], c[TURNS];
     make_book();
     size_t len = packed_length(&book);
-    if (bench_book_read(book.bytes, len, 0, l.operators, l.rules) || c_read_book(book.bytes, len, 0, &t) || make_term(line) != TERM) return 1;
+    if (bench_book_read(book.bytes, len, 0, l.operators, l.rules) || c_read_book(book.bytes, len, 0, &u.t) || make_term(line) != TERM) return 1;
+    bench_rule_build(book.bytes, len, l.operators, l.rules, l.net, sizeof l.net);
+    net_build(&u.n, book.bytes, len, u.t.lefts, u.t.rules, u.t.arities);
     bench_rule_start(l.work, sizeof l.work, l.units);
     bench_rule_load(term, l.operators, line, TERM);
     for (int i = 0; i < TURNS; i++) {
         rattle[i] = timed(rattle_rewrite, &l, term, ours);
-        c[i] = timed(c_rewrite, &t, term, theirs);
+        c[i] = timed(c_rewrite, &u, term, theirs);
         if (memcmp(ours, theirs, 4 * TERM) || !memcmp(ours, term, 4 * TERM)) {
             printf("the rewrites differ\n");
             return 1;

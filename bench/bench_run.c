@@ -101,12 +101,16 @@ static void print_row(const row_head *h, spread ns, spread by_c, spread by_packe
     fflush(stdout);
 }
 
-// What is above the base, of the library and of C.
+// What is above the base, of the library and of C, and the base itself.
 static void put_above(int turns) {
     spread ours = difference_of(library, library_base, turns), c = difference_of(decoded, decoded_base, turns);
-    printf("%-9s above its base: %.0f ns [%.0f %.0f], C %.0f [%.0f %.0f]\n", "", ours.median, ours.low, ours.high, c.median, c.low, c.high);
+    spread base = spread_of(library_base, turns), c_base = spread_of(decoded_base, turns);
+    printf("%-9s above its base: %.0f ns [%.0f %.0f], C %.0f [%.0f %.0f]", "", ours.median, ours.low, ours.high, c.median, c.low, c.high);
+    printf("; the base: %.0f ns, C %.0f\n", base.median, c_base.median);
     put_spread(ours);
     put_spread(c);
+    put_spread(base);
+    put_spread(c_base);
 }
 
 // One row: a workload on so many units, and what it takes above a base, where there is one.
@@ -323,7 +327,7 @@ static workload main_workloads[MAIN_WORKLOADS];
 
 static void growth(void) {
     static const unsigned symbols[] = {16, 32, 64, 128, 256, 512, 1000}, rules[] = {1, 2, 4, 8, 16, 32, 64, 128, 255};
-    static workload w;
+    static workload w, base;
     for (unsigned i = 0; i < sizeof symbols / sizeof *symbols; i++) {
         memset(&w, 0, sizeof w);
         make_payee(&w, symbols[i], 5);
@@ -331,8 +335,10 @@ static void growth(void) {
     }
     for (unsigned i = 0; i < sizeof rules / sizeof *rules; i++) {
         memset(&w, 0, sizeof w);
+        memset(&base, 0, sizeof base);
         make_rules(&w, rules[i]);
-        row("rules", ready(&w), NULL, rules[i], 1);
+        make_rules_base(&base, rules[i]);
+        row("rules", ready(&w), ready(&base), rules[i], 1);
     }
 }
 

@@ -1,16 +1,17 @@
 // An unverified engine: the orders of document 01 entry by entry, over the library's representation of a run. The present term is its symbols in
 // preorder, each with the number of symbols under and including it; a unit's orders are a stack of frames of three bytes in the work area, an
-// operator's orders are a row of steps.
+// operator's orders are a row of steps. Rules are found by a net over their left sides (net.h), built in the lent area.
 //
 // It is compiled twice. With PACKED it also makes the library's choices for rules and frames (engine.h).
 #include "engine.h"
 #include "../library/include/kurvneist.h"
+#include "net.h"
 #include "reader.h"
 #include <string.h>
 
 #define INLINE static inline __attribute__((always_inline))
 
-enum { MOST = 1024, HEIGHT = 1026, UNITS = 8, WORK = 3 * HEIGHT * UNITS, SIDE = 64, VARIABLE = 0x100 };
+enum { MOST = 1024, HEIGHT = 1026, UNITS = 8, WORK = 3 * HEIGHT * UNITS, SIDE = 64, VARIABLE = NET_VARIABLE };
 enum { FINISHED, SPENT, FULL, CUT, GOING };
 
 // The kinds of a frame: below EXIT a job, whose kind is its next order (0 for VISIT), from EXIT on an EXIT for a JOIN of unit kind - EXIT.
@@ -37,6 +38,7 @@ typedef struct {
 #endif
     uint32_t cells[MOST], scratch[MOST];
     uint8_t *work;
+    net *net; // in the lent area, which is longer
     unsigned units, busy; // a bit for each busy unit
     uint8_t *tops[UNITS]; // the frame on top
     uint32_t budget, rewrites;
@@ -95,13 +97,11 @@ static inline int equal_parts(const engine *e, unsigned x, unsigned y) {
 
 // Rules.
 
-// The symbol of a side at a bit position, which moves on: an operator, or VARIABLE and a variable. Nine bits stand in two bytes; those behind the
-// book's end don't matter.
+// The symbol of a side at a bit position, which moves on: an operator, or VARIABLE and a variable.
 static inline unsigned symbol(const engine *e, size_t *at) {
-    size_t i = *at >> 3;
-    unsigned window = (unsigned)e->book[i] << 8 | (i + 1 < e->bytes ? e->book[i + 1] : 0u), x = window >> (7 - (*at & 7)) & 0x1ff;
-    *at += x & VARIABLE ? 5 : 9;
-    return x & VARIABLE ? VARIABLE | x >> 4 : x;
+    unsigned s = net_symbol(e->book, e->bytes, *at);
+    *at += net_width(s);
+    return s;
 }
 
 // Variable v stands at an offset; not if it stood before at another part.
@@ -229,12 +229,25 @@ static void fill(engine *e, unsigned i) {
 
 #endif
 
-// The first rule that matches at an offset, one added, or 0.
-static unsigned find(engine *e, unsigned offset) {
-    for (unsigned k = e->read.chain[operator_at(e, offset)]; k; k = e->read.chain[255 + k])
-        if (match(e, k - 1, offset)) return k;
-    return 0;
+// The symbol of a left side at a depth, which stands so many bits behind its root.
+static inline unsigned left_symbol(engine *e, unsigned i, unsigned depth, unsigned at) {
+#ifdef PACKED
+    (void)depth;
+    return net_symbol(e->book, e->bytes, e->read.lefts[i] + at);
+#else
+    (void)at;
+    if (!e->decoded[i]) decode(e, i);
+    return e->sides[i].left[depth];
+#endif
 }
+
+#define NET_CONTEXT engine
+#define NET_OF(e) ((const net *)(e)->net)
+#define NET_SYMBOL left_symbol
+#define NET_CELL operator_at
+#define NET_SIZE(e, at) size_of((e)->cells[at])
+#define NET_MATCH match
+#include "net_search.h"
 
 // Rewrites.
 
@@ -295,7 +308,7 @@ INLINE void enter(engine *e, unsigned unit, unsigned offset) {
 }
 
 static int whole(engine *e, unsigned unit, uint8_t *top, unsigned o, unsigned offset, unsigned k, unsigned count) {
-    unsigned i = find(e, offset);
+    unsigned i = net_find(e, offset);
     if (!i) {
         proceed(e, unit, top, o, offset, k, count);
         return GOING;
@@ -373,7 +386,7 @@ static void count_joins(engine *e, unsigned operators) {
     for (unsigned o = 0; o < operators; o++) {
         uint8_t *row = e->read.laid + 16 * o;
         uint8_t count = 0;
-        if (!e->read.chain[o])
+        if (!e->net->root[o])
             for (unsigned k = 0; row[k]; k++)
                 if (row[k] == WHOLE) row[k] = PASS;
         for (unsigned k = 16; k-- > 0; e->joins[16 * o + k] = count)
@@ -447,6 +460,7 @@ static uint8_t prepare(engine *e, const uint8_t *book, size_t book_length, uint1
     e->book = book;
     e->bytes = book_length;
     load(e, line, (unsigned)line_length);
+    net_build(e->net, book, book_length, e->read.lefts, e->rules, e->arity);
     count_joins(e, operators);
 #ifndef PACKED
     memset(e->decoded, 0, e->rules);
@@ -455,13 +469,16 @@ static uint8_t prepare(engine *e, const uint8_t *book, size_t book_length, uint1
 }
 
 uint8_t REDUCE(const uint8_t *book, size_t book_length, const uint8_t *line, size_t line_length, uint8_t units, uint32_t budget,
-    uint16_t day, const uint8_t *schedule, size_t schedule_length, uint8_t *work, size_t work_length, uint8_t *output, size_t output_length, uint64_t *answer) {
+    uint16_t day, const uint8_t *schedule, size_t schedule_length, uint8_t *work, size_t work_length, uint8_t *lent_net, size_t net_length, uint8_t *output,
+    size_t output_length, uint64_t *answer) {
     engine e;
     memset(answer, 0, KURVNEIST_ANSWER_LENGTH * sizeof *answer);
     if (units < 1 || units > UNITS) return 13;
     if (work_length < WORK) return 15;
+    if (net_length < KURVNEIST_NET_LENGTH) return 15;
     if (output_length < MOST) return 16;
     e.work = work;
+    e.net = (net *)lent_net;
     e.units = units;
     e.budget = budget;
     uint8_t fault = prepare(&e, book, book_length, day, line, line_length, schedule, schedule_length);
@@ -473,6 +490,7 @@ uint8_t REDUCE(const uint8_t *book, size_t book_length, const uint8_t *line, siz
     unsigned length = size_of(e.cells[0]);
     for (unsigned x = 0; x < length; x++) output[x] = (uint8_t)e.cells[x];
     memset(work, 0, work_length);
+    memset(lent_net, 0, net_length);
     answer[KURVNEIST_ENDING] = (uint64_t)(ending == GOING ? CUT : ending);
     answer[KURVNEIST_REWRITES] = e.rewrites;
     answer[KURVNEIST_ENTRIES] = i;

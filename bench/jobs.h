@@ -19,13 +19,13 @@ typedef struct {
 } job;
 
 typedef struct {
-    uint8_t refusal, work[KURVNEIST_WORK_LENGTH], output[KURVNEIST_OUTPUT_LENGTH];
+    uint8_t refusal, work[KURVNEIST_WORK_LENGTH], net[KURVNEIST_NET_LENGTH], output[KURVNEIST_OUTPUT_LENGTH];
     uint64_t answer[KURVNEIST_ANSWER_LENGTH];
 } result;
 
 static void run(reducer *reduce, const job *j, result *r) {
     r->refusal = reduce(j->w->packed.bytes, packed_length(&j->w->packed), j->w->line, j->w->length, j->units, UINT32_MAX, 0, j->schedule, j->entries,
-        r->work, sizeof r->work, r->output, sizeof r->output, r->answer);
+        r->work, sizeof r->work, r->net, sizeof r->net, r->output, sizeof r->output, r->answer);
 }
 
 // Nanoseconds for one run.

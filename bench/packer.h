@@ -9,10 +9,10 @@ typedef struct {
     size_t bits;
 } packer;
 
-static void put(packer *p, unsigned value, unsigned n) {
+static inline void put(packer *p, unsigned value, unsigned n) {
     for (unsigned i = n; i-- > 0; p->bits++)
         if (value >> i & 1) p->bytes[p->bits >> 3] |= (uint8_t)(0x80 >> (p->bits & 7));
 }
 
-static size_t packed_length(const packer *p) { return (p->bits + 7) / 8; }
+static inline size_t packed_length(const packer *p) { return (p->bits + 7) / 8; }
 #endif

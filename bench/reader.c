@@ -96,29 +96,21 @@ static inline unsigned symbol(reader *r, unsigned *kind) {
 }
 
 // A side from the reader's position on; vars is the mask of its variables, or of those allowed.
-static unsigned side(reader *r, unsigned n, const tables *t, unsigned *vars, int left) {
-    unsigned due = 1, root = 0;
+static void side(reader *r, unsigned n, const tables *t, unsigned *vars, int left) {
+    unsigned due = 1;
     for (unsigned i = 0; due; i++) {
-        if (i == 64) { r->fault = 8; return 0; }
+        if (i == 64) { r->fault = 8; return; }
         unsigned kind, x = symbol(r, &kind);
-        if (r->fault) return 0;
+        if (r->fault) return;
         due--;
         if (!kind) {
-            if (x >= n) { r->fault = 4; return 0; }
-            if (!i) root = x;
+            if (x >= n) { r->fault = 4; return; }
             due += t->arities[x];
         } else if (left) {
-            if (!i) { r->fault = 5; return 0; }
+            if (!i) { r->fault = 5; return; }
             *vars |= 1u << x;
-        } else if (!(*vars >> x & 1)) { r->fault = 7; return 0; }
+        } else if (!(*vars >> x & 1)) { r->fault = 7; return; }
     }
-    return root;
-}
-
-// Rule i becomes the last in the chain of its root.
-static inline void link_rule(uint8_t *chain, unsigned i, unsigned root) {
-    unsigned last = chain[512 + root];
-    chain[last ? 255 + last : root] = chain[512 + root] = (uint8_t)(i + 1);
 }
 
 // What tells of each rule of a dated book whether it stands: its day, and its left side with the variables numbered as they come.
@@ -161,19 +153,18 @@ static int stands(const dated_rules *d, unsigned m, unsigned i, unsigned day) {
 }
 
 // Keeps the rules that stand, in book order, and answers how many they are.
-static unsigned keep_standing(const reader *r, unsigned m, unsigned day, dated_rules *d, uint8_t *roots, tables *t) {
+static unsigned keep_standing(const reader *r, unsigned m, unsigned day, dated_rules *d, tables *t) {
     unsigned kept = 0;
     for (unsigned i = 0; i < m; i++) number_left(r, t->lefts[i], t->rights[i], d, i);
     for (unsigned i = 0; i < m; i++) {
         if (!stands(d, m, i, day)) continue;
         t->lefts[kept] = t->lefts[i];
-        t->rights[kept] = t->rights[i];
-        roots[kept++] = roots[i];
+        t->rights[kept++] = t->rights[i];
     }
     return kept;
 }
 
-static void rules(reader *r, unsigned n, unsigned m, int dated, dated_rules *d, uint8_t *roots, tables *t) {
+static void rules(reader *r, unsigned n, unsigned m, int dated, dated_rules *d, tables *t) {
     for (unsigned i = 0; i < m; i++) {
         unsigned vars = 0;
         if (dated) {
@@ -182,7 +173,7 @@ static void rules(reader *r, unsigned n, unsigned m, int dated, dated_rules *d, 
             if (r->fault) return;
         }
         t->lefts[i] = (uint32_t)r->at;
-        roots[i] = (uint8_t)side(r, n, t, &vars, 1);
+        side(r, n, t, &vars, 1);
         if (r->fault) return;
         t->rights[i] = (uint32_t)r->at;
         side(r, n, t, &vars, 0);
@@ -194,7 +185,6 @@ int c_read_book(const uint8_t *book, size_t len, uint16_t day, tables *t) {
     int dated = len && !book[0];
     reader r = {book, 8 * len, dated ? 8 : 0, 0};
     dated_rules d;
-    uint8_t roots[255];
     unsigned n = field(&r, 8);
     if (r.fault) return 1;
     if (!n) return 2;
@@ -202,14 +192,12 @@ int c_read_book(const uint8_t *book, size_t len, uint16_t day, tables *t) {
     if (r.fault) return r.fault;
     unsigned m = field(&r, 8);
     if (r.fault) return 1;
-    rules(&r, n, m, dated, &d, roots, t);
+    rules(&r, n, m, dated, &d, t);
     if (r.fault) return r.fault;
     size_t left = r.bits - r.at;
     if (left >= 8 || (left && field(&r, (unsigned)left))) return 9;
-    if (dated) m = keep_standing(&r, m, day, &d, roots, t);
+    if (dated) m = keep_standing(&r, m, day, &d, t);
     t->operators = n;
     t->rules = m;
-    memset(t->chain, 0, sizeof t->chain);
-    for (unsigned i = 0; i < m; i++) link_rule(t->chain, i, roots[i]);
     return 0;
 }

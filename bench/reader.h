@@ -10,7 +10,6 @@ typedef struct {
     uint8_t laid[4096];
     uint32_t lefts[256];
     uint32_t rights[256];
-    uint8_t chain[768]; // by root: the first rule, one added, 0 for none; from 256 on the next by rule; from 512 on the last, used while rules are read
 } tables;
 
 // 0, or the number of the refusal. Of a dated book the tables have the rules that stand on the day; an undated one ignores it.

@@ -1,5 +1,5 @@
 // Runs every case of a folder of vectors (document 01's program input and page) on the library and on both unverified engines: the same refusal,
-// answer, output and work area, and the page that the case has.
+// answer, output, work area and net's area, and the page that the case has.
 #include "engine.h"
 #include "../library/include/kurvneist.h"
 #include <glob.h>
@@ -10,7 +10,7 @@
 enum { LONGEST = 1 << 18 };
 
 typedef struct {
-    uint8_t refusal, work[KURVNEIST_WORK_LENGTH], output[KURVNEIST_OUTPUT_LENGTH];
+    uint8_t refusal, work[KURVNEIST_WORK_LENGTH], net[KURVNEIST_NET_LENGTH], output[KURVNEIST_OUTPUT_LENGTH];
     uint64_t answer[KURVNEIST_ANSWER_LENGTH];
 } result;
 
@@ -60,7 +60,7 @@ static int take_apart(const uint8_t *bytes, size_t n, input *in) {
 static void run(reducer *reduce, const input *in, result *r) {
     memset(r, 0xa5, sizeof *r);
     r->refusal = reduce(in->book, in->book_length, in->line, in->line_length, in->units, in->budget, in->day, in->schedule, in->schedule_length,
-        r->work, sizeof r->work, r->output, sizeof r->output, r->answer);
+        r->work, sizeof r->work, r->net, sizeof r->net, r->output, sizeof r->output, r->answer);
 }
 
 static size_t page_of(const result *r, char *page) {

@@ -250,6 +250,16 @@ static void make_payee(workload *w, size_t symbols, unsigned words) {
     append_payee(w, symbols);
 }
 
+// A book whose roots have one rule each: no word is dropped.
+static void make_roots(workload *w, size_t symbols) {
+    w->name = "roots";
+    w->title = "payee line of 200 symbols, 52 rules, one a root";
+    add_letters(&w->book);
+    add_plain_rules(&w->book, CAPITAL, 26);
+    add_plain_rules(&w->book, ACCENTED, 26);
+    append_payee(w, symbols);
+}
+
 // So many rules, of which a line of 256 symbols needs only the last, capital A.
 static inline void make_rules(workload *w, unsigned rules) {
     w->name = "rules";
@@ -267,10 +277,19 @@ static inline void make_rules(workload *w, unsigned rules) {
     append(w, END);
 }
 
+// The same book with a line of one symbol: what a run takes beside its line. The book is read, its net built, the areas cleared.
+static inline void make_rules_base(workload *w, unsigned rules) {
+    make_rules(w, rules);
+    w->name = "base";
+    w->title = "a line of one symbol";
+    w->length = 0;
+    append(w, END);
+}
+
 // Equal parts: both(X, X) gives match. Only the whole of both is tried, so that the payees under it are compared and not visited.
 
 // Two payees of so many letters, which differ in the one that is named, counted from 1, or in none for 0.
-static void make_both(workload *w, unsigned letters, unsigned differing) {
+static inline void make_both(workload *w, unsigned letters, unsigned differing) {
     draft *d = &w->book;
     char name[NAMED];
     uint16_t end = DEFAULT(d, "end", 0), both = GIVEN(d, "both", 2, 0), match = DEFAULT(d, "match", 0);
@@ -293,15 +312,16 @@ static workload *ready(workload *w) {
     return w;
 }
 
-enum { MAIN_WORKLOADS = 6 };
+enum { MAIN_WORKLOADS = 7 };
 
-static void make_workloads(workload *w) {
+static inline void make_workloads(workload *w) {
     make_fib(&w[0]);
     make_fact(&w[1]);
     make_sort(&w[2]);
     make_payee(&w[3], 200, 5);
     make_payee(&w[4], 1000, 5);
     make_payee(&w[5], 200, 203);
+    make_roots(&w[6], 200);
     w[3].title = "payee line of 200 symbols, 57 rules";
     w[4].name = "payee1000";
     w[4].title = "payee line of 1,000 symbols, 57 rules";

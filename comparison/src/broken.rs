@@ -7,11 +7,14 @@ use std::collections::HashMap;
 use std::io;
 
 use crate::model::{
-    self, Answer, Book, Filling, Form, Item, Machine, Operator, Order, Pattern, Rule, Term, Unit,
-    GAP,
+    self, Answer, Book, Filling, Form, Item, Lengths, Machine, Operator, Order, Pattern, Rule,
+    Term, Unit, GAP,
 };
+use crate::nets::Walker;
 use crate::program::Pages;
-use crate::subject::{hand_over, ModelSubject, Question, Subject, Told, Written, MODEL_PUBLISHED};
+use crate::subject::{
+    hand_over, Lent, ModelSubject, Question, Subject, Told, Written, MODEL_PUBLISHED,
+};
 
 #[derive(Clone, Copy, Debug, PartialEq, Eq)]
 pub enum Slip {
@@ -33,6 +36,12 @@ pub enum Slip {
     Work,
     /// The work area's last byte is not left zero.
     Trace,
+    /// The net's area is cleared before the checks.
+    Begun,
+    /// The net's last byte is not left zero.
+    Remains,
+    /// 15 is told of the net's area after 16 of the output.
+    Outer,
     /// A further byte 0 after the book is let through.
     Padding,
     /// Lists are written as they were given.
@@ -71,6 +80,13 @@ pub enum Slip {
     Last,
     /// A repeated variable is bound anew.
     Anew,
+    /// The rule that goes by operators is taken before one that goes by
+    /// variables, whatever the book's order.
+    Special,
+    /// A variable's way is not tried after an operator's failed.
+    Back,
+    /// Of the rules with one path only the first is tried.
+    Beside,
     /// Within a day the first rule in the book stands.
     Earlier,
     /// A rule of the run's own day is taken as later.
@@ -93,7 +109,7 @@ pub enum Slip {
     Always,
 }
 
-pub const SLIPS: [(&str, Slip); 38] = [
+pub const SLIPS: [(&str, Slip); 44] = [
     ("join", Slip::Join),
     ("list", Slip::List),
     ("zeros", Slip::Zeros),
@@ -103,6 +119,9 @@ pub const SLIPS: [(&str, Slip); 38] = [
     ("spill", Slip::Spill),
     ("work", Slip::Work),
     ("trace", Slip::Trace),
+    ("begun", Slip::Begun),
+    ("remains", Slip::Remains),
+    ("outer", Slip::Outer),
     ("padding", Slip::Padding),
     ("given", Slip::Given),
     ("cedilla", Slip::Cedilla),
@@ -122,6 +141,9 @@ pub const SLIPS: [(&str, Slip); 38] = [
     ("lengths", Slip::Lengths),
     ("last", Slip::Last),
     ("anew", Slip::Anew),
+    ("special", Slip::Special),
+    ("back", Slip::Back),
+    ("beside", Slip::Beside),
     ("earlier", Slip::Earlier),
     ("own", Slip::Own),
     ("naming", Slip::Naming),
@@ -146,18 +168,20 @@ pub struct BrokenModel {
 }
 
 impl Subject for BrokenModel {
-    fn published(&self) -> usize {
+    fn published(&self) -> Lengths {
         MODEL_PUBLISHED
     }
 
-    fn answer(&mut self, question: &Question, work: &mut [u8], output: &mut [u8]) -> Told {
-        if self.slip == Slip::Work {
-            work.fill(0);
+    fn answer(&mut self, question: &Question, lent: &mut Lent) -> Told {
+        match self.slip {
+            Slip::Work => lent.work.fill(0),
+            Slip::Begun => lent.net.fill(0),
+            _ => {}
         }
-        let answer = self.broken_answer(question, work.len(), output.len());
-        let told = hand_over(answer, work, output);
+        let answer = self.broken_answer(question, lent.lengths());
+        let told = hand_over(answer, lent);
         if told.refusal == 0 {
-            self.slip_in_buffers(told.length as usize, work, output);
+            self.slip_in_buffers(told.length as usize, lent);
         }
         told
     }
@@ -185,10 +209,11 @@ impl Pages for BrokenModel {
 }
 
 impl BrokenModel {
-    fn slip_in_buffers(&self, length: usize, work: &mut [u8], output: &mut [u8]) {
+    fn slip_in_buffers(&self, length: usize, lent: &mut Lent) {
         let slipped = match self.slip {
-            Slip::Spill => output.get_mut(length),
-            Slip::Trace => work.last_mut(),
+            Slip::Spill => lent.output.get_mut(length),
+            Slip::Trace => lent.work.last_mut(),
+            Slip::Remains => lent.net.last_mut(),
             _ => None,
         };
         if let Some(byte) = slipped {
@@ -196,8 +221,16 @@ impl BrokenModel {
         }
     }
 
-    fn broken_answer(&self, question: &Question, work: usize, output: usize) -> Result<Answer, u8> {
-        model::check_frame(question.units, work, output, MODEL_PUBLISHED)?;
+    fn broken_answer(&self, question: &Question, lengths: Lengths) -> Result<Answer, u8> {
+        if self.slip == Slip::Outer {
+            // The net's area is asked for behind the output.
+            let longer = Lengths {
+                net: MODEL_PUBLISHED.net,
+                ..lengths
+            };
+            model::check_frame(question.units, longer, MODEL_PUBLISHED)?;
+        }
+        model::check_frame(question.units, lengths, MODEL_PUBLISHED)?;
         let book = self.broken_book(question.book, question.day)?;
         if self.slip == Slip::Order {
             model::check_schedule(question.schedule, question.units)?;
@@ -207,8 +240,12 @@ impl BrokenModel {
             Form::Text => self.broken_text(&book, question.line)?,
         };
         model::check_schedule(question.schedule, question.units)?;
+        let singles = match self.slip {
+            Slip::Special | Slip::Back | Slip::Beside => singles(&book),
+            _ => Vec::new(),
+        };
         let mut machine = Machine::new(&book, line, question.units, question.budget);
-        let ending = self.run(&mut machine, question.schedule);
+        let ending = self.run(&mut machine, question.schedule, &singles);
         Ok(machine.answer(ending))
     }
 
@@ -310,8 +347,9 @@ impl BrokenModel {
         classes
     }
 
-    fn run(&self, machine: &mut Machine, schedule: &[u8]) -> u8 {
+    fn run<'b>(&self, machine: &mut Machine<'b>, schedule: &[u8], singles: &'b [Book]) -> u8 {
         let mut open = HashMap::new();
+        let walker = Walker::new(machine.book);
         for &unit in schedule {
             let unit = usize::from(unit);
             drop_stray_orders(machine, unit);
@@ -330,6 +368,9 @@ impl BrokenModel {
                 Slip::Below => entry_working_below(machine, unit),
                 Slip::Lengths | Slip::Last | Slip::Anew => {
                     entry_taking_as_alike(machine, unit, self.slip)
+                }
+                Slip::Special | Slip::Back | Slip::Beside => {
+                    entry_by_net(machine, unit, self.slip, &walker, singles)
                 }
                 _ => machine.entry(unit),
             };
@@ -622,6 +663,49 @@ fn front(term: &Term) -> Vec<u8> {
     let mut symbols = term.preorder();
     symbols.pop();
     symbols
+}
+
+/// A book without rules, and behind it one for each rule alone.
+fn singles(book: &Book) -> Vec<Book> {
+    let alone = |rules: &[Rule]| Book {
+        rules: rules.to_vec(),
+        ..book.clone()
+    };
+    let of_rules = book.rules.chunks(1).map(alone);
+    [alone(&[])].into_iter().chain(of_rules).collect()
+}
+
+/// WHOLE has but the rule that a net with the slip finds, or none.
+fn entry_by_net<'b>(
+    machine: &mut Machine<'b>,
+    unit: usize,
+    slip: Slip,
+    walker: &Walker,
+    singles: &'b [Book],
+) -> Option<u8> {
+    let book = machine.book;
+    if let (true, Some(Order::Whole { term, .. })) =
+        (machine.units[unit].busy, machine.units[unit].orders.last())
+    {
+        let part = machine.term.part(term).expect("no order is stray");
+        let found = found_by_net(walker, part, slip);
+        machine.book = &singles[found.map_or(0, |rule| rule + 1)];
+    }
+    let ending = machine.entry(unit);
+    machine.book = book;
+    ending
+}
+
+fn found_by_net(walker: &Walker, part: &Term, slip: Slip) -> Option<usize> {
+    let walk = walker.walk(part, slip != Slip::Back);
+    let mut matching = walk.leaves.iter().filter_map(|leaf| match slip {
+        Slip::Beside => walker.matching(&leaf[..1].to_vec(), part),
+        _ => walker.matching(leaf, part),
+    });
+    match slip {
+        Slip::Special => matching.next(),
+        _ => matching.min(),
+    }
 }
 
 fn with_kept_above_granted(page: &[u8]) -> Vec<u8> {

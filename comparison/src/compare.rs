@@ -7,10 +7,11 @@ use crate::days::{self, Days};
 use crate::draft::Case;
 use crate::model::refusal::OF_BOOKS;
 use crate::model::{self, Answer, Form};
+use crate::nets::{self, Nets};
 use crate::random;
 use crate::repeats::{self, Repeats};
 use crate::shrink::shrink;
-use crate::subject::{Question, Subject, Told, Written};
+use crate::subject::{Lent, Question, Subject, Told, Written};
 
 /// Those of a run that are not its book's. Refusal 17 is about the program's
 /// input, which a subject never sees.
@@ -30,6 +31,7 @@ pub struct Tally {
     pub writer_refusals: [u64; 20],
     pub repeats: Repeats,
     pub days: Days,
+    pub nets: Nets,
 }
 
 impl Tally {
@@ -59,6 +61,7 @@ impl Tally {
                 &self.repeats.counts,
             ),
             unmet_kinds("rules or runs", &days::KINDS, &self.days.counts),
+            unmet_kinds("searches", &nets::KINDS, &self.nets.counts),
         ]
         .concat()
     }
@@ -136,6 +139,7 @@ pub fn made_small(
 pub struct Comparison<'a> {
     subject: &'a mut dyn Subject,
     work: Lender,
+    net: Lender,
     output: Lender,
     pub tally: Tally,
 }
@@ -145,6 +149,7 @@ impl<'a> Comparison<'a> {
         Comparison {
             subject,
             work: Lender::default(),
+            net: Lender::default(),
             output: Lender::default(),
             tally: Tally::default(),
         }
@@ -160,25 +165,35 @@ impl<'a> Comparison<'a> {
 
     fn check_run(&mut self, case: &Case, book: &[u8]) -> Option<String> {
         let published = self.subject.published();
-        let work_len = case.work_len(published);
+        let lengths = case.lengths(published);
         let question = Question::of(case, book);
-        let expected = question.answer(work_len, case.output_len, published);
+        let expected = question.answer(lengths, published);
         self.tally.count_run(case.form, &expected);
         if let Ok(answer) = &expected {
             self.tally.repeats.count(&question);
             self.tally.days.count(&question, answer);
+            self.tally.nets.count(&question);
         }
-        let work = self.work.lend(work_len, case.junk);
-        let output = self.output.lend(case.output_len, !case.junk);
-        let found = self.subject.answer(&question, work, output);
-        let cleared = vec![0; work_len];
-        let (due, term, work): (Told, &[u8], &[u8]) = match &expected {
-            Ok(answer) => (Told::answered(answer), &answer.term, &cleared),
-            Err(number) => (Told::refused(*number), &[], &[]),
+        let mut lent = Lent {
+            work: self.work.lend(lengths.work, case.junk),
+            net: self.net.lend(lengths.net, case.junk.rotate_left(21)),
+            output: self.output.lend(lengths.output, !case.junk),
+        };
+        let found = self.subject.answer(&question, &mut lent);
+        let cleared = vec![0; lengths.work.max(lengths.net)];
+        let (due, term, work, net): (Told, &[u8], &[u8], &[u8]) = match &expected {
+            Ok(answer) => (
+                Told::answered(answer),
+                &answer.term,
+                &cleared[..lengths.work],
+                &cleared[..lengths.net],
+            ),
+            Err(number) => (Told::refused(*number), &[], &[], &[]),
         };
         compare_values(&due, &found)
             .or_else(|| self.output.difference("output", term))
             .or_else(|| self.work.difference("work area", work))
+            .or_else(|| self.net.difference("net's area", net))
     }
 
     fn check_writer(&mut self, case: &Case, book: &[u8]) -> Option<String> {
@@ -296,6 +311,7 @@ fn write_case(text: &mut Formatter, case: &Case) -> fmt::Result {
     writeln!(text, "day      {}", case.day)?;
     writeln!(text, "schedule {}", hexadecimal(&case.schedule))?;
     writeln!(text, "work     published length {:+}", case.work_offset)?;
+    writeln!(text, "net      published length {:+}", case.net_offset)?;
     writeln!(text, "output   {}", case.output_len)?;
     writeln!(
         text,
@@ -327,6 +343,6 @@ impl Display for Tally {
                 writeln!(text, "writer refused {number:2}  {count}")?;
             }
         }
-        write!(text, "{}{}", self.repeats, self.days)
+        write!(text, "{}{}{}", self.repeats, self.days, self.nets)
     }
 }

@@ -52,7 +52,7 @@ impl Days {
             book: &undated,
             ..*question
         };
-        let otherwise = otherwise.answer(0, model::OUTPUT_LEN, 0);
+        let otherwise = otherwise.answer_in_full();
         self.counts[CHANGED] += u64::from(otherwise.as_ref() != Ok(answer));
     }
 

@@ -1,7 +1,7 @@
 //! Books and whole cases as drafts: fields that may break any rule, so that
 //! they can be spoiled on purpose, encoded as they are, and shrunk.
 
-use crate::model::{Form, Packer, OUTPUT_LEN};
+use crate::model::{Form, Lengths, Packer, OUTPUT_LEN};
 
 #[derive(Clone, Copy, Debug, PartialEq, Eq)]
 pub enum Symbol {
@@ -178,9 +178,10 @@ pub struct Case {
     /// Named also where the book is undated, and has to be ignored there.
     pub day: u16,
     pub schedule: Vec<u8>,
-    /// The work area's length less the published length, which depends on
-    /// the implementation.
+    /// The lengths of the work area and of the net's less the published ones,
+    /// which depend on the implementation.
     pub work_offset: isize,
+    pub net_offset: isize,
     pub output_len: usize,
     /// The room lent to the book writer less the length of the written book.
     pub writer_offset: isize,
@@ -203,6 +204,7 @@ impl Case {
             day: 0,
             schedule,
             work_offset: 0,
+            net_offset: 0,
             output_len: OUTPUT_LEN,
             writer_offset: 0,
             junk: 0,
@@ -218,8 +220,13 @@ impl Case {
         bytes
     }
 
-    pub fn work_len(&self, published: usize) -> usize {
-        published.saturating_add_signed(self.work_offset)
+    /// The lengths of the buffers to lend if these are published.
+    pub fn lengths(&self, published: Lengths) -> Lengths {
+        Lengths {
+            work: published.work.saturating_add_signed(self.work_offset),
+            net: published.net.saturating_add_signed(self.net_offset),
+            output: self.output_len,
+        }
     }
 
     /// The program's input for this case, where the lengths fit their fields.

@@ -10,7 +10,7 @@ use crate::texts;
 pub fn spoil(random: &mut Random, case: &mut Case) {
     match random.below(16) {
         0 => case.units = *random.pick(&[0, 9, 10, 255]),
-        1 => spoil_work(random, case),
+        1 => spoil_areas(random, case),
         2 => spoil_output(random, case),
         3 | 4 => spoil_schedule(random, case),
         5..=7 => match case.form {
@@ -26,8 +26,16 @@ pub fn spoil(random: &mut Random, case: &mut Case) {
     }
 }
 
-fn spoil_work(random: &mut Random, case: &mut Case) {
-    case.work_offset = *random.pick(&[-1, -1, -100, isize::MIN, 1, 100]);
+/// One of the areas, or both.
+fn spoil_areas(random: &mut Random, case: &mut Case) {
+    let offsets = [-1, -1, -100, isize::MIN, 1, 100];
+    let which = random.below(3);
+    if which != 1 {
+        case.work_offset = *random.pick(&offsets);
+    }
+    if which != 0 {
+        case.net_offset = *random.pick(&offsets);
+    }
 }
 
 fn spoil_output(random: &mut Random, case: &mut Case) {

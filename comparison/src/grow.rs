@@ -273,6 +273,60 @@ pub fn split_operators(draft: &Draft, allowed: impl Fn(u8) -> bool) -> (Vec<Bran
 /// Left sides are planted in the line, so that rules find something to do.
 /// Without a constant in the book no line can be grown, and it stays empty.
 pub fn line(random: &mut Random, draft: &Draft) -> Vec<u8> {
+    planted(random, draft, |_, _| {})
+}
+
+/// A line in which some left sides are planted with one operator changed: it
+/// agrees with them up to there. Often one of them is the whole line, so that
+/// long ones have room.
+pub fn near_line(random: &mut Random, draft: &Draft) -> Vec<u8> {
+    let change = |random: &mut Random, branch: &mut Branch| {
+        if random.one_in(3) {
+            change_operator(random, draft, branch);
+        }
+    };
+    if draft.rules.is_empty() || random.one_in(3) {
+        return planted(random, draft, change);
+    }
+    let mut branch = holes_for_variables(&random.pick(&draft.rules).left);
+    change(random, &mut branch);
+    let (branches, constants) = split_operators(draft, |_| true);
+    let mut grower = Grower::new(random, branches, constants);
+    grower.arities = arities(draft);
+    let mut room = random.from_ranges(&[(0, 4), (0, 30), (100, TERM_LIMIT - branch.len())]);
+    let mut symbols = Vec::new();
+    let grown = grower.grow_branch(random, &branch, &mut room, &mut symbols);
+    grown.map_or(Vec::new(), |()| {
+        symbols.into_iter().map(operator_number).collect()
+    })
+}
+
+fn arities(draft: &Draft) -> Vec<usize> {
+    numbers(draft)
+        .map(|operator| draft.arity(Symbol::Operator(operator)))
+        .collect()
+}
+
+fn change_operator(random: &mut Random, draft: &Draft, branch: &mut Branch) {
+    let place = random.below(branch.len()).max(random.below(branch.len()));
+    let Place::Is(symbol) = branch[place] else {
+        return;
+    };
+    let arity = draft.arity(symbol);
+    let others: Vec<Symbol> = numbers(draft)
+        .map(Symbol::Operator)
+        .filter(|&other| other != symbol && draft.arity(other) == arity)
+        .collect();
+    if !others.is_empty() {
+        branch[place] = Place::Is(*random.pick(&others));
+    }
+}
+
+fn planted(
+    random: &mut Random,
+    draft: &Draft,
+    change: impl Fn(&mut Random, &mut Branch),
+) -> Vec<u8> {
     let limit = random.from_ranges(&[
         (1, 8),
         (3, 20),
@@ -290,13 +344,13 @@ pub fn line(random: &mut Random, draft: &Draft) -> Vec<u8> {
             } else {
                 random.pick(&draft.rules)
             };
-            branches.push(holes_for_variables(&rule.left));
+            let mut branch = holes_for_variables(&rule.left);
+            change(random, &mut branch);
+            branches.push(branch);
         }
     }
     let mut grower = Grower::new(random, branches, constants);
-    grower.arities = numbers(draft)
-        .map(|operator| draft.arity(Symbol::Operator(operator)))
-        .collect();
+    grower.arities = arities(draft);
     grower.stop = if limit > 60 {
         50
     } else {

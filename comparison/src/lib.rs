@@ -3,17 +3,20 @@
 //!
 //! - `model`: the definitions, written for reading.
 //! - `draft`: books and cases as fields that may break any rule.
-//! - `random`, `books`, `dates`, `texts`, `grow`, `faults`: random cases.
+//! - `random`, `books`, `branching`, `dates`, `texts`, `grow`, `faults`: random
+//!   cases.
 //! - `subject`: what an implementation under comparison must offer.
 //! - `compare`, `shrink`: the comparison, and how a difference is made small.
 //! - `repeats`: what the cases try of variables that stand again on the left.
 //! - `days`: what they try of rules with days.
+//! - `nets`: what they try of a net over the left sides.
 //! - `broken`: the model with one slip, to show that slips are found.
 //! - `library`: the static library as a subject, under the feature `library`.
 //! - `program`: the pages of the programs `reduce` and `payee`.
 //! - `vectors`: pages and written books from outside.
 
 pub mod books;
+pub mod branching;
 pub mod broken;
 pub mod compare;
 pub mod dates;
@@ -24,6 +27,7 @@ pub mod grow;
 #[cfg(feature = "library")]
 pub mod library;
 pub mod model;
+pub mod nets;
 pub mod program;
 pub mod random;
 pub mod repeats;

@@ -2,8 +2,8 @@
 
 use kurvneist::{raw, Request};
 
-use crate::model::Form;
-use crate::subject::{Question, Subject, Told, Written};
+use crate::model::{Form, Lengths};
+use crate::subject::{Lent, Question, Subject, Told, Written};
 
 /// What a value holds before the call, so that a zero that is due must be written.
 const JUNK: u64 = 0x5A5A_5A5A_5A5A_5A5A;
@@ -11,11 +11,11 @@ const JUNK: u64 = 0x5A5A_5A5A_5A5A_5A5A;
 pub struct Library;
 
 impl Subject for Library {
-    fn published(&self) -> usize {
-        raw::work_length()
+    fn published(&self) -> Lengths {
+        Lengths::of_areas(raw::work_length(), raw::net_length())
     }
 
-    fn answer(&mut self, question: &Question, work: &mut [u8], output: &mut [u8]) -> Told {
+    fn answer(&mut self, question: &Question, lent: &mut Lent) -> Told {
         let request = Request::new(question.book, question.line)
             .units(question.units)
             .budget(question.budget)
@@ -26,7 +26,7 @@ impl Subject for Library {
             Form::Text => raw::payee,
         };
         let mut values = [JUNK; raw::ANSWER_LENGTH];
-        let refusal = call(&request, work, output, &mut values);
+        let refusal = call(&request, lent.work, lent.net, lent.output, &mut values);
         let [ending, rewrites, entries, granted, kept, length] = values;
         Told {
             refusal,

@@ -31,7 +31,8 @@ pub mod refusal {
     pub const TERM_TOO_LONG: u8 = 12;
     pub const UNITS: u8 = 13;
     pub const SCHEDULE: u8 = 14;
-    pub const WORK_AREA: u8 = 15;
+    /// The work area, or the net's.
+    pub const AREA: u8 = 15;
     pub const OUTPUT: u8 = 16;
     pub const INPUT: u8 = 17;
     pub const TEXT_TOO_LONG: u8 = 18;
@@ -106,7 +107,7 @@ pub type Filling<'t> = [Option<&'t Term>; 16];
 impl Pattern {
     /// A variable matches any part at first, and where it stands again a part
     /// that is equal, symbol by symbol.
-    fn matches<'t>(&self, term: &'t Term, filling: &mut Filling<'t>) -> bool {
+    pub fn matches<'t>(&self, term: &'t Term, filling: &mut Filling<'t>) -> bool {
         match self {
             Pattern::Variable(variable) => {
                 let first = filling[usize::from(*variable)].get_or_insert(term);
@@ -1065,7 +1066,30 @@ pub struct Answer {
     pub term: Vec<u8>,
 }
 
-/// The answer to a line that is a term.
+/// The lengths of the buffers that a run writes to.
+#[derive(Clone, Copy, Debug, PartialEq, Eq)]
+pub struct Lengths {
+    pub work: usize,
+    pub net: usize,
+    pub output: usize,
+}
+
+impl Lengths {
+    /// Areas of these lengths, and the output that every run asks for.
+    pub const fn of_areas(work: usize, net: usize) -> Lengths {
+        Lengths {
+            work,
+            net,
+            output: OUTPUT_LEN,
+        }
+    }
+
+    /// What the model itself needs.
+    pub const LEAST: Lengths = Lengths::of_areas(0, 0);
+}
+
+/// The answer to a line that is a term. How long the work area and the net's
+/// have to be depends on the implementation: `asked` says it.
 #[allow(clippy::too_many_arguments)]
 pub fn answer(
     book: &[u8],
@@ -1074,9 +1098,8 @@ pub fn answer(
     budget: u32,
     day: u16,
     schedule: &[u8],
-    work_len: usize,
-    output_len: usize,
-    published: usize,
+    lent: Lengths,
+    asked: Lengths,
 ) -> Result<Answer, u8> {
     answer_to(
         Form::Line,
@@ -1086,9 +1109,8 @@ pub fn answer(
         budget,
         day,
         schedule,
-        work_len,
-        output_len,
-        published,
+        lent,
+        asked,
     )
 }
 
@@ -1101,11 +1123,10 @@ pub fn answer_to(
     budget: u32,
     day: u16,
     schedule: &[u8],
-    work_len: usize,
-    output_len: usize,
-    published: usize,
+    lent: Lengths,
+    asked: Lengths,
 ) -> Result<Answer, u8> {
-    check_frame(units, work_len, output_len, published)?;
+    check_frame(units, lent, asked)?;
     let book = read_book(book)?.on_day(day);
     let line = form.read(&book, line)?;
     check_schedule(schedule, units)?;
@@ -1114,17 +1135,12 @@ pub fn answer_to(
     Ok(machine.answer(ending))
 }
 
-pub fn check_frame(
-    units: u8,
-    work_len: usize,
-    output_len: usize,
-    published: usize,
-) -> Result<(), u8> {
+pub fn check_frame(units: u8, lent: Lengths, asked: Lengths) -> Result<(), u8> {
     if !(1..=8).contains(&units) {
         Err(refusal::UNITS)
-    } else if work_len < published {
-        Err(refusal::WORK_AREA)
-    } else if output_len < OUTPUT_LEN {
+    } else if lent.work < asked.work || lent.net < asked.net {
+        Err(refusal::AREA)
+    } else if lent.output < asked.output {
         Err(refusal::OUTPUT)
     } else {
         Ok(())
@@ -1171,7 +1187,8 @@ fn page_answer(form: Form, input: &[u8]) -> Result<Answer, u8> {
     if rest.len() > SCHEDULE_LIMIT {
         return Err(refusal::INPUT);
     }
-    answer_to(form, book, line, units, budget, day, rest, 0, OUTPUT_LEN, 0)
+    let lengths = Lengths::LEAST;
+    answer_to(form, book, line, units, budget, day, rest, lengths, lengths)
 }
 
 fn take_announced<'a>(rest: &mut &'a [u8]) -> Result<&'a [u8], u8> {

@@ -4,11 +4,12 @@
 //! to three faults, so that the order in which faults are told is met too.
 
 use crate::books::draft;
+use crate::branching;
 use crate::dates;
 use crate::draft::{Case, Draft};
 use crate::faults::spoil;
-use crate::grow::line;
-use crate::model::{Form, OUTPUT_LEN, SCHEDULE_LIMIT};
+use crate::grow::{line, near_line};
+use crate::model::{Form, SCHEDULE_LIMIT};
 use crate::subject::Question;
 use crate::texts;
 
@@ -87,11 +88,21 @@ pub fn numbered(seed: u64, number: u64) -> Case {
     case
 }
 
-/// A line that is a term.
+/// A line that is a term. One in five has a book that is for nets.
 pub fn case(random: &mut Random) -> Case {
+    if random.one_in(5) {
+        return net_case(random);
+    }
     let mut draft = draft(random);
     dates::date(random, &mut draft);
     let line = line(random, &draft);
+    completed(random, draft, Form::Line, line)
+}
+
+fn net_case(random: &mut Random) -> Case {
+    let mut draft = branching::draft(random);
+    dates::date(random, &mut draft);
+    let line = near_line(random, &draft);
     completed(random, draft, Form::Line, line)
 }
 
@@ -174,7 +185,7 @@ fn budget(random: &mut Random) -> u32 {
 /// Moves the budget or the schedule's end to where the run's ending turns.
 fn sharpen(random: &mut Random, case: &mut Case) {
     let book = case.book();
-    let Ok(answer) = Question::of(case, &book).answer(0, OUTPUT_LEN, 0) else {
+    let Ok(answer) = Question::of(case, &book).answer_in_full() else {
         return;
     };
     let less = random.below(2);

@@ -237,6 +237,7 @@ impl Shrinker<'_> {
 
     fn simpler_frame(&mut self) {
         self.try_change(|case| case.work_offset = 0);
+        self.try_change(|case| case.net_offset = 0);
         self.try_change(|case| case.output_len = OUTPUT_LEN);
         self.try_change(|case| case.writer_offset = 0);
         self.try_change(|case| case.junk = 0);

@@ -1,7 +1,7 @@
 //! What an implementation under comparison offers.
 
 use crate::draft::Case;
-use crate::model::{self, Answer, Form};
+use crate::model::{self, Answer, Form, Lengths};
 
 /// The parts of a run that are not lent buffers to write to.
 #[derive(Clone, Copy, Debug)]
@@ -30,13 +30,9 @@ impl<'a> Question<'a> {
         }
     }
 
-    /// What the model answers if buffers of these lengths are lent.
-    pub fn answer(
-        &self,
-        work_len: usize,
-        output_len: usize,
-        published: usize,
-    ) -> Result<Answer, u8> {
+    /// What the model answers if buffers of these lengths are lent, and of
+    /// those asked for.
+    pub fn answer(&self, lent: Lengths, asked: Lengths) -> Result<Answer, u8> {
         model::answer_to(
             self.form,
             self.book,
@@ -45,10 +41,31 @@ impl<'a> Question<'a> {
             self.budget,
             self.day,
             self.schedule,
-            work_len,
-            output_len,
-            published,
+            lent,
+            asked,
         )
+    }
+
+    /// The same in buffers that are long enough.
+    pub fn answer_in_full(&self) -> Result<Answer, u8> {
+        self.answer(Lengths::LEAST, Lengths::LEAST)
+    }
+}
+
+/// The lent buffers that a run writes to.
+pub struct Lent<'a> {
+    pub work: &'a mut [u8],
+    pub net: &'a mut [u8],
+    pub output: &'a mut [u8],
+}
+
+impl Lent<'_> {
+    pub fn lengths(&self) -> Lengths {
+        Lengths {
+            work: self.work.len(),
+            net: self.net.len(),
+            output: self.output.len(),
+        }
     }
 }
 
@@ -97,30 +114,31 @@ pub struct Written {
 /// Buffers are lent by the comparison, which also looks at what became of
 /// them; an implementation hands its values over as they come.
 pub trait Subject {
-    /// The published length of the work area, at most 65,536.
-    fn published(&self) -> usize;
+    /// The published lengths; of the work area and of the net's at most 65,536
+    /// each.
+    fn published(&self) -> Lengths;
 
-    /// Leaves the work area all zero unless it refuses.
-    fn answer(&mut self, question: &Question, work: &mut [u8], output: &mut [u8]) -> Told;
+    /// Leaves both areas all zero unless it refuses.
+    fn answer(&mut self, question: &Question, lent: &mut Lent) -> Told;
 
     fn written(&mut self, book: &[u8], output: &mut [u8]) -> Written;
 }
 
-/// The model needs no work area; it asks for the longest one allowed so that
-/// the comparison's own cost shows.
-pub const MODEL_PUBLISHED: usize = 65_536;
+/// The model needs no areas; it asks for the longest allowed so that the
+/// comparison's own cost shows.
+pub const MODEL_PUBLISHED: Lengths = Lengths::of_areas(65_536, 65_536);
 
 /// The model compared with itself.
 pub struct ModelSubject;
 
 impl Subject for ModelSubject {
-    fn published(&self) -> usize {
+    fn published(&self) -> Lengths {
         MODEL_PUBLISHED
     }
 
-    fn answer(&mut self, question: &Question, work: &mut [u8], output: &mut [u8]) -> Told {
-        let answer = question.answer(work.len(), output.len(), MODEL_PUBLISHED);
-        hand_over(answer, work, output)
+    fn answer(&mut self, question: &Question, lent: &mut Lent) -> Told {
+        let answer = question.answer(lent.lengths(), MODEL_PUBLISHED);
+        hand_over(answer, lent)
     }
 
     fn written(&mut self, book: &[u8], output: &mut [u8]) -> Written {
@@ -137,14 +155,15 @@ impl Subject for ModelSubject {
     }
 }
 
-/// Clears the work area, writes the term at the output's front and answers
-/// the values. Only a broken model's term can be longer than the output.
-pub fn hand_over(answer: Result<Answer, u8>, work: &mut [u8], output: &mut [u8]) -> Told {
+/// Clears both areas, writes the term at the output's front and answers the
+/// values. Only a broken model's term can be longer than the output.
+pub fn hand_over(answer: Result<Answer, u8>, lent: &mut Lent) -> Told {
     match answer {
         Err(number) => Told::refused(number),
         Ok(answer) => {
-            work.fill(0);
-            for (place, operator) in output.iter_mut().zip(&answer.term) {
+            lent.work.fill(0);
+            lent.net.fill(0);
+            for (place, operator) in lent.output.iter_mut().zip(&answer.term) {
                 *place = *operator;
             }
             Told::answered(&answer)

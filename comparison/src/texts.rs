@@ -3,7 +3,7 @@
 use crate::books::{self, right_side, RuleHabits};
 use crate::draft::{Draft, OperatorDraft, RuleDraft, Symbol};
 use crate::grow::numbers;
-use crate::model::{class, END, GAP, TERM_LIMIT};
+use crate::model::{class, END, GAP, SIDE_LIMIT, TERM_LIMIT};
 use crate::random::Random;
 
 /// The longest text that the program takes.
@@ -40,13 +40,17 @@ pub fn draft(random: &mut Random, alphabet: &[u8]) -> Draft {
         return books::draft(random);
     }
     let mut draft = Draft::new(operators(random), Vec::new());
-    let count = random.from_ranges(&[(0, 3), (1, 6), (1, 6), (4, 15), (10, 30)]);
+    let count = match random.below(12) {
+        0 => random.between(100, 255),
+        _ => random.from_ranges(&[(0, 3), (1, 6), (1, 6), (4, 15), (10, 30)]),
+    };
     let habits = RuleHabits::new(random);
     for _ in 0..count {
         let rule = match random.below(12) {
             0 | 1 => copying_rule(random, &draft, alphabet),
             2 => matching_rule(random, &draft),
             3 | 4 => other_rule(random, &draft, &habits),
+            5 | 6 => longer_rule(random, &draft, alphabet, &habits),
             _ => class_rule(random, &draft, alphabet, &habits),
         };
         draft.rules.extend(rule);
@@ -166,6 +170,36 @@ fn class_rule(
         .chain([last])
         .collect();
     if draft.part_end(&left, 0) != Some(left.len()) {
+        return None;
+    }
+    let right = right_side(random, draft, root, &left, habits)?;
+    Some(RuleDraft::new(left, right))
+}
+
+/// A rule for a row that goes on where another's ends, or leaves it before.
+fn longer_rule(
+    random: &mut Random,
+    draft: &Draft,
+    alphabet: &[u8],
+    habits: &RuleHabits,
+) -> Option<RuleDraft> {
+    if draft.rules.is_empty() {
+        return None;
+    }
+    let mut left = random.pick(&draft.rules).left.clone();
+    left.truncate(random.between(1, left.len()));
+    if let Some(Symbol::Variable(_)) = left.last() {
+        left.pop();
+    }
+    let further = random
+        .between(0, 3)
+        .min(SIDE_LIMIT - 1 - left.len().min(SIDE_LIMIT - 1));
+    left.extend((0..further).map(|_| Symbol::Operator(letter(random, alphabet))));
+    left.push(Symbol::Variable(random.below(16) as u8));
+    let Symbol::Operator(root) = left[0] else {
+        return None;
+    };
+    if left.len() > SIDE_LIMIT || draft.part_end(&left, 0) != Some(left.len()) {
         return None;
     }
     let right = right_side(random, draft, root, &left, habits)?;

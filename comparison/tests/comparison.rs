@@ -82,7 +82,7 @@ fn form_of(slip: Slip) -> Form {
 #[test]
 fn what_was_not_met_is_named() {
     let (tally, _) = compare(&mut ModelSubject, 31, 0..0);
-    assert_eq!(tally.missing().len(), 4 + 17 + 4 + 14 + 9 + 7 + 8);
+    assert_eq!(tally.missing().len(), 4 + 17 + 4 + 14 + 9 + 7 + 8 + 8);
     assert_eq!(
         tally.missing()[..5].join(", "),
         "ending 0, ending 1, ending 2, ending 3, refusal 1"
@@ -93,6 +93,10 @@ fn what_was_not_met_is_named() {
     );
     assert_eq!(tally.missing()[48], "parts of a repeated variable equal");
     assert_eq!(tally.missing()[55], "rules or runs of a later day");
+    assert_eq!(
+        tally.missing()[63],
+        "searches that go back to a variable's way"
+    );
     let (tally, _) = compare(&mut ModelSubject, 31, 0..2000);
     assert!(tally.missing().is_empty(), "{tally}");
 }

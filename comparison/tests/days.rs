@@ -80,9 +80,8 @@ fn rules_that_stand_are_in_book_order() {
             9,
             day,
             &schedule,
-            0,
-            OUTPUT_LEN,
-            0,
+            Lengths::LEAST,
+            Lengths::LEAST,
         );
         answer.unwrap().term
     };

@@ -22,9 +22,8 @@ fn runs(seed: u64) -> impl Iterator<Item = (Case, Answer)> {
             case.budget,
             case.day,
             &case.schedule,
-            0,
-            OUTPUT_LEN,
-            0,
+            Lengths::LEAST,
+            Lengths::LEAST,
         );
         answer.ok().map(|answer| (case, answer))
     })
@@ -119,7 +118,7 @@ fn work_lies_above_what_a_unit_waits_with() {
             }
         }
     }
-    assert!(helped > 500, "unit 0 took {helped} parts");
+    assert!(helped > 300, "unit 0 took {helped} parts");
     assert!(deepest > 3, "at most {deepest} parts on a list");
 }
 

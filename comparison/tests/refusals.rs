@@ -147,19 +147,22 @@ fn lines() {
 
 #[test]
 fn places_from_top_to_bottom() {
-    let refused = |units, work, output, book: &[u8], line: &[u8], schedule: &[u8]| {
-        answer(book, line, units, 9, 0, schedule, work, output, 100).unwrap_err()
-    };
+    let refused =
+        |units, [work, net, output]: [usize; 3], book: &[u8], line: &[u8], schedule: &[u8]| {
+            let (lent, asked) = (Lengths { work, net, output }, Lengths::of_areas(100, 50));
+            answer(book, line, units, 9, 0, schedule, lent, asked).unwrap_err()
+        };
     let book = book_p().encode();
     let long = [0; 1025];
-    assert_eq!(refused(0, 99, 1023, &[], &long, &[9]), 13);
-    assert_eq!(refused(1, 99, 1023, &[], &long, &[9]), 15);
-    assert_eq!(refused(1, 100, 1023, &[], &long, &[9]), 16);
-    assert_eq!(refused(1, 100, 1024, &[], &long, &[9]), 1);
-    assert_eq!(refused(1, 100, 1024, &book, &long, &[9]), 12);
-    assert_eq!(refused(1, 100, 1024, &book, &[0, 9], &[9]), 10);
-    assert_eq!(refused(1, 100, 1024, &book, &LINE_P, &[9]), 14);
-    assert_eq!(refused(1, 100, 1024, &book, &LINE_P, &[1]), 14);
+    assert_eq!(refused(0, [99, 49, 1023], &[], &long, &[9]), 13);
+    assert_eq!(refused(1, [99, 50, 1023], &[], &long, &[9]), 15);
+    assert_eq!(refused(1, [100, 49, 1023], &[], &long, &[9]), 15);
+    assert_eq!(refused(1, [100, 50, 1023], &[], &long, &[9]), 16);
+    assert_eq!(refused(1, [100, 50, 1024], &[], &long, &[9]), 1);
+    assert_eq!(refused(1, [100, 50, 1024], &book, &long, &[9]), 12);
+    assert_eq!(refused(1, [100, 50, 1024], &book, &[0, 9], &[9]), 10);
+    assert_eq!(refused(1, [100, 50, 1024], &book, &LINE_P, &[9]), 14);
+    assert_eq!(refused(1, [100, 50, 1024], &book, &LINE_P, &[1]), 14);
 }
 
 #[test]

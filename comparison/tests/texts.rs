@@ -25,7 +25,8 @@ fn with_arity(place: usize, arity: u8) -> Draft {
 /// Asks the model for a run from a text in a sound frame.
 fn ask_text(draft: &Draft, text: &[u8], schedule: &[u8]) -> Result<Answer, u8> {
     let book = draft.encode();
-    answer_to(Form::Text, &book, text, 1, 9, 0, schedule, 0, OUTPUT_LEN, 0)
+    let lengths = Lengths::LEAST;
+    answer_to(Form::Text, &book, text, 1, 9, 0, schedule, lengths, lengths)
 }
 
 /// The term of a text, as a run that is cut at once shows it.
@@ -217,22 +218,23 @@ fn operators_beyond_42_and_strategies_are_free() {
 
 #[test]
 fn places_from_top_to_bottom() {
-    let refused = |units, work, output, book: &[u8], text: &[u8]| {
-        let found = answer_to(Form::Text, book, text, units, 9, 0, &[9], work, output, 100);
-        found.unwrap_err()
+    let refused = |units, [work, net, output]: [usize; 3], book: &[u8], text: &[u8]| {
+        let (lent, asked) = (Lengths { work, net, output }, Lengths::of_areas(100, 50));
+        answer_to(Form::Text, book, text, units, 9, 0, &[9], lent, asked).unwrap_err()
     };
     let (lacking, sound) = (with_arity(42, 0).encode(), class_book(&[]).encode());
     let long = [b'a'; 1024];
-    assert_eq!(refused(0, 99, 1023, &[], &long), 13);
-    assert_eq!(refused(1, 99, 1023, &[], &long), 15);
-    assert_eq!(refused(1, 100, 1023, &[], &long), 16);
-    assert_eq!(refused(1, 100, 1024, &[], &long), 1);
+    assert_eq!(refused(0, [99, 49, 1023], &[], &long), 13);
+    assert_eq!(refused(1, [99, 50, 1023], &[], &long), 15);
+    assert_eq!(refused(1, [100, 49, 1023], &[], &long), 15);
+    assert_eq!(refused(1, [100, 50, 1023], &[], &long), 16);
+    assert_eq!(refused(1, [100, 50, 1024], &[], &long), 1);
     let padded = [&lacking[..], &[0]].concat();
-    assert_eq!(refused(1, 100, 1024, &padded, &long), 9);
-    assert_eq!(refused(1, 100, 1024, &lacking, &long), 19);
-    assert_eq!(refused(1, 100, 1024, &lacking, b"a"), 19);
-    assert_eq!(refused(1, 100, 1024, &sound, &long), 18);
-    assert_eq!(refused(1, 100, 1024, &sound, b"a"), 14);
+    assert_eq!(refused(1, [100, 50, 1024], &padded, &long), 9);
+    assert_eq!(refused(1, [100, 50, 1024], &lacking, &long), 19);
+    assert_eq!(refused(1, [100, 50, 1024], &lacking, b"a"), 19);
+    assert_eq!(refused(1, [100, 50, 1024], &sound, &long), 18);
+    assert_eq!(refused(1, [100, 50, 1024], &sound, b"a"), 14);
 }
 
 // ---------------------------------------------------------------------------

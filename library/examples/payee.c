@@ -20,6 +20,7 @@ static const uint8_t book[] = {43,   0x02, 0x22, 0x22, 0x22, 0x22, 0x22, 0x22, 0
 static const char *const payees[] = {"Caf\xE9 \xC9toile", "CAFE ETOILE", " caf\xE9-\xE9toile.", "CafeEtoile"};
 
 static uint8_t work[KURVNEIST_WORK_LENGTH];
+static uint8_t net[KURVNEIST_NET_LENGTH];
 static uint8_t output[KURVNEIST_OUTPUT_LENGTH];
 
 /* The letters of a term of letters: 1 is A. */
@@ -33,7 +34,8 @@ int main(void) {
     for (size_t payee = 0; payee < sizeof payees / sizeof *payees; payee++) {
         uint64_t answer[KURVNEIST_ANSWER_LENGTH];
         uint8_t refusal = kurvneist_payee(book, sizeof book, (const uint8_t *)payees[payee], strlen(payees[payee]), 1, 9, 0,
-                                          schedule, sizeof schedule, work, sizeof work, output, sizeof output, answer);
+                                          schedule, sizeof schedule, work, sizeof work, net, sizeof net, output, sizeof output,
+                                          answer);
         if (refusal != KURVNEIST_ACCEPTED) {
             printf("refused %u\n", refusal);
             return 1;

@@ -16,6 +16,7 @@ static const uint8_t book[] = {0x03, 0x02, 0x52, 0xc0, 0x94, 0x80, 0x10, 0x08, 0
 static const uint8_t line[] = {2, 1, 0, 1, 0};
 
 static uint8_t work[KURVNEIST_WORK_LENGTH];
+static uint8_t net[KURVNEIST_NET_LENGTH];
 static uint8_t output[KURVNEIST_OUTPUT_LENGTH];
 
 int main(void) {
@@ -25,7 +26,7 @@ int main(void) {
     /* day 0: the book is undated and ignores it */
     uint64_t answer[KURVNEIST_ANSWER_LENGTH];
     uint8_t refusal = kurvneist_reduce(book, sizeof book, line, sizeof line, 2, 9, 0, schedule, sizeof schedule,
-                                       work, sizeof work, output, sizeof output, answer);
+                                       work, sizeof work, net, sizeof net, output, sizeof output, answer);
     if (refusal != KURVNEIST_ACCEPTED) {
         printf("refused %u\n", refusal);
         return 1;

@@ -5,8 +5,8 @@
  * a book, a line, a text and a page are, bit by bit, and in which order faults are refused.
  *
  * Buffers. Each is lent as a pointer and its length in bytes. A null pointer is taken where the length is 0; answer and
- * length are never null. What is written to (work, output, answer, length) overlaps nothing else that is lent. Any bytes,
- * lengths and numbers are fine: what can't be used is refused by number.
+ * length are never null. What is written to (work, net, output, answer, length) overlaps nothing else that is lent. Any
+ * bytes, lengths and numbers are fine: what can't be used is refused by number.
  *
  * The functions keep nothing between calls, so several threads may call them, each with buffers of its own.
  */
@@ -20,8 +20,9 @@
 extern "C" {
 #endif
 
-/* Bytes of work area and of output that a run asks for; more is fine. */
+/* Bytes of work area, of the net's area and of output that a run asks for; more is fine. */
 #define KURVNEIST_WORK_LENGTH 24624
+#define KURVNEIST_NET_LENGTH 3840
 #define KURVNEIST_OUTPUT_LENGTH 1024
 
 /* No book is longer, and so no written one. */
@@ -50,10 +51,10 @@ enum kurvneist_ending {
 };
 
 /*
- * The refusals. Places are checked in this order: 13, 15, 16; the book, 1 to 9; the line, 12, 11, 10, or the text, 19, 18;
- * the schedule, 14. Only the programs tell 17. 6 is given no longer, since a variable that stands again in a left side
- * matches equal parts; it keeps its name for what an earlier version told, and is used for nothing else. A later version
- * may add numbers.
+ * The refusals. Places are checked in this order: 13; 15, for the work area, then for the net's; 16; the book, 1 to 9; the
+ * line, 12, 11, 10, or the text, 19, 18; the schedule, 14. Only the programs tell 17. 6 is given no longer, since a
+ * variable that stands again in a left side matches equal parts; it keeps its name for what an earlier version told, and is
+ * used for nothing else. A later version may add numbers.
  */
 enum kurvneist_refusal {
     KURVNEIST_ACCEPTED = 0,
@@ -86,7 +87,7 @@ enum kurvneist_refusal {
     KURVNEIST_BAD_UNITS = 13,
     /* a schedule entry names a unit that is not there */
     KURVNEIST_UNKNOWN_UNIT_IN_SCHEDULE = 14,
-    /* the work area has less than 24,624 bytes */
+    /* the work area has less than 24,624 bytes, or the net's area less than 3,840 */
     KURVNEIST_WORK_TOO_SHORT = 15,
     /* the output is too short: a run needs 1,024 bytes, the writer as many as the written book has */
     KURVNEIST_OUTPUT_TOO_SHORT = 16,
@@ -101,6 +102,9 @@ enum kurvneist_refusal {
 /* KURVNEIST_WORK_LENGTH. */
 size_t kurvneist_work_length(void);
 
+/* KURVNEIST_NET_LENGTH. */
+size_t kurvneist_net_length(void);
+
 /* KURVNEIST_OUTPUT_LENGTH. */
 size_t kurvneist_output_length(void);
 
@@ -108,19 +112,22 @@ size_t kurvneist_output_length(void);
  * Reduces a line by a book on `units` units, with at most `budget` rewrites, as the schedule says: each of its bytes is
  * the number of the unit that acts next.
  *
+ * In `net` the book's left sides are laid out so that the first rule that matches is found without trying one by one.
+ *
  * By a dated book, whose first byte is 0, only the rules that stand on `day` are tried. An undated book ignores the day.
  *
  * The result is KURVNEIST_ACCEPTED, 0, or the number of a refusal. `answer` has KURVNEIST_ANSWER_LENGTH elements.
  *
  * After 0 the present term stands at the front of `output`, one byte a symbol, and the output's other bytes are as they
- * were; `work` is all zero, whatever it held before. After a refusal `answer` is all zero, and `work` and `output` are
- * as they were.
+ * were; `work` and `net` are all zero, whatever they held before. After a refusal `answer` is all zero, and `work`, `net`
+ * and `output` are as they were.
  */
 uint8_t kurvneist_reduce(const uint8_t *book, size_t book_length,
                          const uint8_t *line, size_t line_length,
                          uint8_t units, uint32_t budget, uint16_t day,
                          const uint8_t *schedule, size_t schedule_length,
                          uint8_t *work, size_t work_length,
+                         uint8_t *net, size_t net_length,
                          uint8_t *output, size_t output_length,
                          uint64_t *answer);
 
@@ -143,6 +150,7 @@ uint8_t kurvneist_payee(const uint8_t *book, size_t book_length,
                         uint8_t units, uint32_t budget, uint16_t day,
                         const uint8_t *schedule, size_t schedule_length,
                         uint8_t *work, size_t work_length,
+                        uint8_t *net, size_t net_length,
                         uint8_t *output, size_t output_length,
                         uint64_t *answer);
 

@@ -1,13 +1,14 @@
 //! An engine with buffers of its own.
 
-use crate::{payee, reduce, Answer, Refusal, Request, OUTPUT_LENGTH, WORK_LENGTH};
+use crate::{payee, reduce, Answer, Refusal, Request, NET_LENGTH, OUTPUT_LENGTH, WORK_LENGTH};
 
-/// Owns one work area and one output and lends them to every run, so that posting allocates nothing.
+/// Owns one work area, one area for the net and one output and lends them to every run, so that posting allocates nothing.
 ///
-/// Each run that is not refused leaves the work area zero: nothing of one line is there when the next comes.
+/// Each run that is not refused leaves both areas zero: nothing of one line is there when the next comes.
 #[derive(Clone)]
 pub struct Engine {
     work: Box<[u8]>,
+    net: Box<[u8]>,
     output: Box<[u8]>,
 }
 
@@ -27,19 +28,20 @@ impl Engine {
     pub fn new() -> Engine {
         Engine {
             work: vec![0; WORK_LENGTH].into(),
+            net: vec![0; NET_LENGTH].into(),
             output: vec![0; OUTPUT_LENGTH].into(),
         }
     }
 
     /// Carries out one run whose line is a term; the refusals 15 and 16 can't come.
     pub fn post(&mut self, request: &Request) -> Result<Posting<'_>, Refusal> {
-        let answer = reduce(request, &mut self.work, &mut self.output)?;
+        let answer = reduce(request, &mut self.work, &mut self.net, &mut self.output)?;
         Ok(self.posting(answer))
     }
 
     /// Carries out one run whose line is a payee's text; the refusals 15 and 16 can't come.
     pub fn post_payee(&mut self, request: &Request) -> Result<Posting<'_>, Refusal> {
-        let answer = payee(request, &mut self.work, &mut self.output)?;
+        let answer = payee(request, &mut self.work, &mut self.net, &mut self.output)?;
         Ok(self.posting(answer))
     }
 

@@ -72,6 +72,10 @@ pub use request::Request;
 /// Bytes of work area that a run asks for.
 pub const WORK_LENGTH: usize = 24_624;
 
+/// Bytes of the net's area that a run asks for. The book's left sides are laid out in it, so that the first rule that matches
+/// is found without trying one by one.
+pub const NET_LENGTH: usize = 3840;
+
 /// Bytes of output that a run asks for: a term has at most 1,024 symbols.
 pub const OUTPUT_LENGTH: usize = 1024;
 
@@ -83,24 +87,31 @@ pub const LONGEST_BOOK: usize = {
     usize::div_ceil(8 + 8 + 255 * operator + 8 + 255 * rule, 8)
 };
 
-/// Carries out one run in lent buffers of at least [`WORK_LENGTH`] and [`OUTPUT_LENGTH`] bytes.
+/// Carries out one run in lent buffers of at least [`WORK_LENGTH`], [`NET_LENGTH`] and [`OUTPUT_LENGTH`] bytes. An
+/// [`Engine`] has them of its own.
 ///
-/// The present term is then at the front of the output, whose other bytes stay, and the work area is all zero, whatever
-/// it held before. After a refusal both are as they were.
+/// The present term is then at the front of the output, whose other bytes stay, and the work area and the net's are all
+/// zero, whatever they held before. After a refusal all three are as they were.
 ///
 /// ```
-/// use kurvneist::{reduce, Request, OUTPUT_LENGTH, WORK_LENGTH};
+/// use kurvneist::{reduce, Request, NET_LENGTH, OUTPUT_LENGTH, WORK_LENGTH};
 ///
 /// let request = Request::new(&[1, 0, 0], &[0]).schedule(&[0; 5]);
-/// let (mut work, mut output) = (vec![7; WORK_LENGTH], [7; OUTPUT_LENGTH]);
-/// let answer = reduce(&request, &mut work, &mut output)?;
+/// let (mut work, mut net) = (vec![7; WORK_LENGTH], vec![7; NET_LENGTH]);
+/// let mut output = [7; OUTPUT_LENGTH];
+/// let answer = reduce(&request, &mut work, &mut net, &mut output)?;
 /// assert_eq!((answer.entries, answer.length), (3, 1));
 /// assert_eq!(output[..3], [0, 7, 7]);
 /// # Ok::<(), kurvneist::Refusal>(())
 /// ```
-pub fn reduce(request: &Request, work: &mut [u8], output: &mut [u8]) -> Result<Answer, Refusal> {
+pub fn reduce(
+    request: &Request,
+    work: &mut [u8],
+    net: &mut [u8],
+    output: &mut [u8],
+) -> Result<Answer, Refusal> {
     let mut values = [0; raw::ANSWER_LENGTH];
-    Refusal::check(raw::reduce(request, work, output, &mut values))?;
+    Refusal::check(raw::reduce(request, work, net, output, &mut values))?;
     Ok(Answer::of(values))
 }
 
@@ -111,19 +122,25 @@ pub fn reduce(request: &Request, work: &mut [u8], output: &mut [u8]) -> Result<A
 /// over 1,024 symbols; 10, 11 and 12 never come.
 ///
 /// ```
-/// use kurvneist::{payee, Request, OUTPUT_LENGTH, WORK_LENGTH};
+/// use kurvneist::{payee, Request, NET_LENGTH, OUTPUT_LENGTH, WORK_LENGTH};
 ///
 /// let book = [&[43, 0x02][..], &[0x22; 20], &[0x20, 0x00]].concat(); // 43 operators, no rules
 /// let request = Request::new(&book, b"Wei\xDF").schedule(&[0; 20]);
-/// let (mut work, mut output) = (vec![7; WORK_LENGTH], [7; OUTPUT_LENGTH]);
-/// let answer = payee(&request, &mut work, &mut output)?;
+/// let (mut work, mut net) = (vec![7; WORK_LENGTH], vec![7; NET_LENGTH]);
+/// let mut output = [7; OUTPUT_LENGTH];
+/// let answer = payee(&request, &mut work, &mut net, &mut output)?;
 /// assert_eq!((answer.entries, answer.length), (11, 5));
 /// assert_eq!(output[..6], [23, 5, 9, 31, 0, 7]);
 /// # Ok::<(), kurvneist::Refusal>(())
 /// ```
-pub fn payee(request: &Request, work: &mut [u8], output: &mut [u8]) -> Result<Answer, Refusal> {
+pub fn payee(
+    request: &Request,
+    work: &mut [u8],
+    net: &mut [u8],
+    output: &mut [u8],
+) -> Result<Answer, Refusal> {
     let mut values = [0; raw::ANSWER_LENGTH];
-    Refusal::check(raw::payee(request, work, output, &mut values))?;
+    Refusal::check(raw::payee(request, work, net, output, &mut values))?;
     Ok(Answer::of(values))
 }
 

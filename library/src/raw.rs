@@ -15,6 +15,7 @@ use crate::Request;
 mod c {
     extern "C" {
         pub fn kurvneist_work_length() -> usize;
+        pub fn kurvneist_net_length() -> usize;
         pub fn kurvneist_output_length() -> usize;
         pub fn kurvneist_reduce(
             book: *const u8,
@@ -28,6 +29,8 @@ mod c {
             schedule_length: usize,
             work: *mut u8,
             work_length: usize,
+            net: *mut u8,
+            net_length: usize,
             output: *mut u8,
             output_length: usize,
             answer: *mut u64,
@@ -44,6 +47,8 @@ mod c {
             schedule_length: usize,
             work: *mut u8,
             work_length: usize,
+            net: *mut u8,
+            net_length: usize,
             output: *mut u8,
             output_length: usize,
             answer: *mut u64,
@@ -67,6 +72,12 @@ pub fn work_length() -> usize {
     unsafe { c::kurvneist_work_length() }
 }
 
+/// The bytes of the net's area that a run asks for, by the linked library.
+pub fn net_length() -> usize {
+    // SAFETY: no pointer is passed.
+    unsafe { c::kurvneist_net_length() }
+}
+
 /// The bytes of output that a run asks for, by the linked library.
 pub fn output_length() -> usize {
     // SAFETY: no pointer is passed.
@@ -77,6 +88,7 @@ pub fn output_length() -> usize {
 pub fn reduce(
     request: &Request,
     work: &mut [u8],
+    net: &mut [u8],
     output: &mut [u8],
     answer: &mut [u64; ANSWER_LENGTH],
 ) -> u8 {
@@ -94,6 +106,8 @@ pub fn reduce(
             request.schedule.len(),
             work.as_mut_ptr(),
             work.len(),
+            net.as_mut_ptr(),
+            net.len(),
             output.as_mut_ptr(),
             output.len(),
             answer.as_mut_ptr(),
@@ -105,6 +119,7 @@ pub fn reduce(
 pub fn payee(
     request: &Request,
     work: &mut [u8],
+    net: &mut [u8],
     output: &mut [u8],
     answer: &mut [u64; ANSWER_LENGTH],
 ) -> u8 {
@@ -122,6 +137,8 @@ pub fn payee(
             request.schedule.len(),
             work.as_mut_ptr(),
             work.len(),
+            net.as_mut_ptr(),
+            net.len(),
             output.as_mut_ptr(),
             output.len(),
             answer.as_mut_ptr(),

@@ -66,7 +66,7 @@ refusals! {
     12 LineTooLong "the line has over 1,024 bytes"
     13 BadUnits "the number of units is not 1 to 8"
     14 UnknownUnitInSchedule "a schedule entry names a unit that is not there"
-    15 WorkTooShort "the work area has less than 24,624 bytes"
+    15 WorkTooShort "the work area has less than 24,624 bytes, or the net's area less than 3,840"
     16 OutputTooShort "the output is too short: a run needs 1,024 bytes, the writer as many as the written book has"
     17 BadInput "the program's input is cut short, or over 32,768 schedule bytes follow"
     18 TextTooLong "the text's term would have over 1,024 symbols"

@@ -7,17 +7,21 @@ use std::thread;
 use common::*;
 use kurvneist::{
     raw, reduce, round_robin, write_book, written_book, Answer, Ending, Engine, Request,
-    LONGEST_BOOK, OUTPUT_LENGTH, WORK_LENGTH,
+    LONGEST_BOOK, NET_LENGTH, OUTPUT_LENGTH, WORK_LENGTH,
 };
 
-/// Runs in these buffers; sees that the work area is then zero and the output changed at its front only.
-fn run(request: &Request, work: &mut [u8], output_length: usize) -> (Answer, Vec<u8>) {
-    let mut output = junk(output_length);
-    let answer = reduce(request, work, &mut output).expect("nothing to refuse");
-    assert!(work.iter().all(|byte| *byte == 0));
-    let rest = output.split_off(answer.length);
-    assert!(rest == junk(output_length)[answer.length..]);
-    (answer, output)
+/// Runs in these buffers, whose output is full of junk; sees that the areas are then zero and the output changed at its
+/// front only.
+fn run_in(lent: &mut Lent, request: &Request) -> (Answer, Vec<u8>) {
+    let answer = reduce(request, &mut lent.work, &mut lent.net, &mut lent.output);
+    let answer = answer.expect("nothing to refuse");
+    lent.check_run(answer.length);
+    (answer, lent.output[..answer.length].to_vec())
+}
+
+/// Runs in buffers of their own, full of junk.
+fn run(request: &Request) -> (Answer, Vec<u8>) {
+    run_in(&mut Lent::new(LENGTHS), request)
 }
 
 /// Requests of every ending.
@@ -40,19 +44,26 @@ fn growing_book() -> Vec<u8> {
 #[test]
 fn lengths_are_those_of_the_linked_library() {
     assert_eq!(raw::work_length(), WORK_LENGTH);
+    assert_eq!(raw::net_length(), NET_LENGTH);
     assert_eq!(raw::output_length(), OUTPUT_LENGTH);
 }
 
 #[test]
-fn junk_in_the_work_area_does_not_matter() {
+fn junk_in_the_areas_does_not_matter() {
     let (book, growing) = (book_p(), growing_book());
+    let filled = |work, net| Lent {
+        work: vec![work; WORK_LENGTH],
+        net: vec![net; NET_LENGTH],
+        output: junk(OUTPUT_LENGTH),
+    };
     for request in requests(&book, &[0; 100], &growing) {
-        let due = run(&request, &mut [0; WORK_LENGTH], OUTPUT_LENGTH);
+        let due = run_in(&mut filled(0, 0), &request);
         for filler in [0x01, 0x5A, 0xFF] {
-            let mut work = [filler; WORK_LENGTH];
-            assert_eq!(run(&request, &mut work, OUTPUT_LENGTH), due);
+            for mut lent in [filled(filler, 0), filled(0, filler), filled(filler, filler)] {
+                assert_eq!(run_in(&mut lent, &request), due);
+            }
         }
-        assert_eq!(run(&request, &mut junk(WORK_LENGTH), OUTPUT_LENGTH), due);
+        assert_eq!(run(&request), due);
     }
 }
 
@@ -60,18 +71,27 @@ fn junk_in_the_work_area_does_not_matter() {
 fn longer_buffers_are_fine() {
     let book = book_p();
     let request = page(&book, &[0; 29]);
-    let due = run(&request, &mut junk(WORK_LENGTH), OUTPUT_LENGTH);
-    let longer = run(&request, &mut junk(WORK_LENGTH + 777), 3 * OUTPUT_LENGTH);
-    assert_eq!(longer, due);
+    let due = run(&request);
+    for lengths in [
+        [WORK_LENGTH + 777, NET_LENGTH, 3 * OUTPUT_LENGTH],
+        [WORK_LENGTH, NET_LENGTH + 1, OUTPUT_LENGTH],
+        [WORK_LENGTH + 1, NET_LENGTH + 777, OUTPUT_LENGTH + 1],
+        [WORK_LENGTH, 100_000, OUTPUT_LENGTH],
+    ] {
+        assert_eq!(run_in(&mut Lent::new(lengths), &request), due);
+    }
 }
 
 #[test]
-fn one_work_area_serves_run_after_run() {
+fn the_same_areas_serve_run_after_run() {
     let (book, growing) = (book_p(), growing_book());
     let requests = requests(&book, &[0; 100], &growing);
-    let mut work = junk(WORK_LENGTH);
-    let found = requests.map(|request| run(&request, &mut work, OUTPUT_LENGTH));
-    let alone = requests.map(|request| run(&request, &mut junk(WORK_LENGTH), OUTPUT_LENGTH));
+    let mut lent = Lent::new(LENGTHS);
+    let found = requests.map(|request| {
+        lent.output = junk(OUTPUT_LENGTH);
+        run_in(&mut lent, &request)
+    });
+    let alone = requests.map(|request| run(&request));
     assert_eq!(found, alone);
     let answers = found.map(|(answer, _)| answer);
     let endings = answers.map(|answer| answer.ending);
@@ -91,7 +111,7 @@ fn an_engine_posts_line_after_line() {
     let (book, growing) = (book_p(), growing_book());
     let mut engine = Engine::default();
     for request in requests(&book, &[0; 100], &growing) {
-        let (answer, term) = run(&request, &mut junk(WORK_LENGTH), OUTPUT_LENGTH);
+        let (answer, term) = run(&request);
         let posting = engine.post(&request).expect("nothing to refuse");
         assert_eq!((posting.answer, posting.term), (answer, &term[..]));
         // A refusal in between leaves no trace.
@@ -110,7 +130,7 @@ fn every_schedule_that_finishes_gives_the_same_posting() {
             .line(&line)
             .units(units)
             .budget(u32::MAX);
-        let (answer, term) = run(&request, &mut junk(WORK_LENGTH), OUTPUT_LENGTH);
+        let (answer, term) = run(&request);
         assert_eq!((answer.ending, answer.rewrites), (Ending::Finished, 15));
         assert_eq!(
             (answer.granted > 0, term),
@@ -126,7 +146,7 @@ fn engines_in_several_threads() {
         let mut engine = Engine::new();
         (0..50).for_each(|_| {
             for request in requests(&book, &[0; 100], &growing) {
-                let due = run(&request, &mut junk(WORK_LENGTH), OUTPUT_LENGTH);
+                let due = run(&request);
                 assert_eq!(engine.post(&request).unwrap().term, due.1);
             }
         });

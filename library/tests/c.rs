@@ -4,7 +4,7 @@ use std::fs;
 use std::path::{Path, PathBuf};
 use std::process::Command;
 
-use kurvneist::{raw, Ending, Refusal, LONGEST_BOOK, OUTPUT_LENGTH, WORK_LENGTH};
+use kurvneist::{raw, Ending, Refusal, LONGEST_BOOK, NET_LENGTH, OUTPUT_LENGTH, WORK_LENGTH};
 
 const STRICT: [&str; 5] = ["-std=c99", "-O2", "-Wall", "-Wextra", "-Werror"];
 
@@ -55,6 +55,7 @@ fn names_of_the_header_have_the_numbers_of_the_crate() {
     let lengths = [
         ("Accepted", 0),
         ("WorkLength", WORK_LENGTH),
+        ("NetLength", NET_LENGTH),
         ("OutputLength", OUTPUT_LENGTH),
         ("LongestBook", LONGEST_BOOK),
         ("AnswerLength", raw::ANSWER_LENGTH),

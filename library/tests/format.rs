@@ -6,8 +6,8 @@ use std::fs;
 
 use common::*;
 use kurvneist::{
-    written_book, Ending, Engine, Posting, Refusal, Request, LONGEST_BOOK, OUTPUT_LENGTH,
-    WORK_LENGTH,
+    written_book, Ending, Engine, Posting, Refusal, Request, LONGEST_BOOK, NET_LENGTH,
+    OUTPUT_LENGTH, WORK_LENGTH,
 };
 
 fn format() -> String {
@@ -292,7 +292,14 @@ fn which_fault_is_told() {
 #[test]
 fn lengths() {
     let format = format();
-    for length in [WORK_LENGTH, OUTPUT_LENGTH, 40_962, LONGEST_BOOK, 32_768] {
+    for length in [
+        WORK_LENGTH,
+        NET_LENGTH,
+        OUTPUT_LENGTH,
+        40_962,
+        LONGEST_BOOK,
+        32_768,
+    ] {
         let shown = format!("{},{:03}", length / 1000, length % 1000);
         assert!(format.contains(&shown), "{shown}");
     }

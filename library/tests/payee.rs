@@ -4,7 +4,8 @@ mod common;
 
 use common::*;
 use kurvneist::{
-    payee, raw, reduce, Answer, Ending, Engine, Refusal, Request, OUTPUT_LENGTH, WORK_LENGTH,
+    payee, raw, reduce, Answer, Ending, Engine, Refusal, Request, NET_LENGTH, OUTPUT_LENGTH,
+    WORK_LENGTH,
 };
 
 /// The class operators, each with its default strategy.
@@ -26,14 +27,13 @@ fn request<'a>(book: &'a [u8], text: &'a [u8], schedule: &'a [u8]) -> Request<'a
     page(book, schedule).line(text)
 }
 
-/// Runs in buffers full of junk; sees that the work area is then zero and the output changed at its front only.
+/// Runs in buffers full of junk; sees that the areas are then zero and the output changed at its front only.
 fn run(request: &Request) -> (Answer, Vec<u8>) {
-    let (mut work, mut output) = (junk(WORK_LENGTH), junk(OUTPUT_LENGTH));
-    let answer = payee(request, &mut work, &mut output).expect("nothing to refuse");
-    assert!(work.iter().all(|byte| *byte == 0));
-    let rest = output.split_off(answer.length);
-    assert!(rest == junk(OUTPUT_LENGTH)[answer.length..]);
-    (answer, output)
+    let mut lent = Lent::new(LENGTHS);
+    let answer = payee(request, &mut lent.work, &mut lent.net, &mut lent.output);
+    let answer = answer.expect("nothing to refuse");
+    lent.check_run(answer.length);
+    (answer, lent.output[..answer.length].to_vec())
 }
 
 fn term(text: &[u8]) -> Vec<u8> {
@@ -41,21 +41,24 @@ fn term(text: &[u8]) -> Vec<u8> {
 }
 
 /// Puts a text in buffers of these lengths and sees that it is refused and nothing changes.
-fn check_refused(due: u8, request: &Request, work_length: usize, output_length: usize) {
-    let (mut work, mut output) = (junk(work_length), junk(output_length));
+fn check_refused(due: u8, request: &Request, lengths: [usize; 3]) {
+    let Lent {
+        mut work,
+        mut net,
+        mut output,
+    } = Lent::new(lengths);
     let mut values = [u64::MAX; raw::ANSWER_LENGTH];
-    let number = raw::payee(request, &mut work, &mut output, &mut values);
+    let number = raw::payee(request, &mut work, &mut net, &mut output, &mut values);
     assert_eq!((number, values), (due, [0; raw::ANSWER_LENGTH]));
     assert_eq!(
-        payee(request, &mut work, &mut output).map_err(Refusal::number),
+        payee(request, &mut work, &mut net, &mut output).map_err(Refusal::number),
         Err(due)
     );
-    assert!(work == junk(work_length), "the work area of refusal {due}");
-    assert!(output == junk(output_length), "the output of refusal {due}");
+    Lent { work, net, output }.check_unchanged(due);
 }
 
 fn check_refused_in_sound_frame(due: u8, request: &Request) {
-    check_refused(due, request, WORK_LENGTH, OUTPUT_LENGTH);
+    check_refused(due, request, LENGTHS);
 }
 
 #[test]
@@ -80,9 +83,12 @@ fn a_run_from_a_text_is_that_of_its_term() {
     let (answer, term) = run(&of_text);
     assert_eq!((answer.ending, answer.rewrites), (Ending::Finished, 2));
     assert_eq!(term, [42, 2, 4, 0]);
-    let (mut work, mut output) = (junk(WORK_LENGTH), junk(OUTPUT_LENGTH));
-    assert_eq!(reduce(&of_term, &mut work, &mut output), Ok(answer));
-    assert_eq!(output[..answer.length], term);
+    let mut lent = Lent::new(LENGTHS);
+    assert_eq!(
+        reduce(&of_term, &mut lent.work, &mut lent.net, &mut lent.output),
+        Ok(answer)
+    );
+    assert_eq!(lent.output[..answer.length], term);
 }
 
 #[test]
@@ -174,21 +180,23 @@ fn lines_that_are_refused_are_texts() {
 fn places_from_top_to_bottom() {
     let (lacking, sound) = (with_arity(42, 0), class_book(&[]));
     let long = [b'a'; 1024];
-    let refused = |due, units, book: &[u8], text: &[u8], work, output| {
+    let refused = |due, units, book: &[u8], text: &[u8], lengths| {
         let request = request(book, text, &[9]).units(units);
-        check_refused(due, &request, work, output);
+        check_refused(due, &request, lengths);
     };
-    refused(13, 0, &[], &long, 0, 0);
-    refused(13, 9, &lacking, &long, 0, 0);
-    refused(15, 1, &[], &long, WORK_LENGTH - 1, 0);
-    refused(16, 1, &[], &long, WORK_LENGTH, OUTPUT_LENGTH - 1);
-    refused(1, 1, &[], &long, WORK_LENGTH, OUTPUT_LENGTH);
+    refused(13, 0, &[], &long, [0; 3]);
+    refused(13, 9, &lacking, &long, [0; 3]);
+    refused(15, 1, &[], &long, [WORK_LENGTH - 1, NET_LENGTH, 0]);
+    refused(15, 1, &[], &long, [WORK_LENGTH, NET_LENGTH - 1, 0]);
+    let short = [WORK_LENGTH, NET_LENGTH, OUTPUT_LENGTH - 1];
+    refused(16, 1, &[], &long, short);
+    refused(1, 1, &[], &long, LENGTHS);
     let further_byte = [&lacking[..], &[0]].concat();
-    refused(9, 1, &further_byte, &long, WORK_LENGTH, OUTPUT_LENGTH);
-    refused(19, 1, &lacking, &long, WORK_LENGTH, OUTPUT_LENGTH);
-    refused(19, 1, &lacking, b"a", WORK_LENGTH, OUTPUT_LENGTH);
-    refused(18, 1, &sound, &long, WORK_LENGTH, OUTPUT_LENGTH);
-    refused(14, 1, &sound, b"a", WORK_LENGTH, OUTPUT_LENGTH);
+    refused(9, 1, &further_byte, &long, LENGTHS);
+    refused(19, 1, &lacking, &long, LENGTHS);
+    refused(19, 1, &lacking, b"a", LENGTHS);
+    refused(18, 1, &sound, &long, LENGTHS);
+    refused(14, 1, &sound, b"a", LENGTHS);
 }
 
 #[test]

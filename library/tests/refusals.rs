@@ -4,8 +4,8 @@ mod common;
 
 use common::*;
 use kurvneist::{
-    raw, reduce, write_book, written_book, Ending, Engine, Refusal, Request, OUTPUT_LENGTH,
-    WORK_LENGTH,
+    raw, reduce, write_book, written_book, Ending, Engine, Refusal, Request, NET_LENGTH,
+    OUTPUT_LENGTH, WORK_LENGTH,
 };
 
 /// A book for each refusal of the book's places.
@@ -42,21 +42,24 @@ fn faulty_books() -> Vec<(u8, Vec<u8>)> {
 }
 
 /// Puts a request in buffers of these lengths and sees that it is refused and nothing changes.
-fn check_refused(due: u8, request: &Request, work_length: usize, output_length: usize) {
-    let (mut work, mut output) = (junk(work_length), junk(output_length));
+fn check_refused(due: u8, request: &Request, lengths: [usize; 3]) {
+    let Lent {
+        mut work,
+        mut net,
+        mut output,
+    } = Lent::new(lengths);
     let mut values = [u64::MAX; raw::ANSWER_LENGTH];
-    let number = raw::reduce(request, &mut work, &mut output, &mut values);
+    let number = raw::reduce(request, &mut work, &mut net, &mut output, &mut values);
     assert_eq!((number, values), (due, [0; raw::ANSWER_LENGTH]));
     assert_eq!(
-        reduce(request, &mut work, &mut output).map_err(Refusal::number),
+        reduce(request, &mut work, &mut net, &mut output).map_err(Refusal::number),
         Err(due)
     );
-    assert!(work == junk(work_length), "the work area of refusal {due}");
-    assert!(output == junk(output_length), "the output of refusal {due}");
+    Lent { work, net, output }.check_unchanged(due);
 }
 
 fn check_refused_in_sound_frame(due: u8, request: &Request) {
-    check_refused(due, request, WORK_LENGTH, OUTPUT_LENGTH);
+    check_refused(due, request, LENGTHS);
 }
 
 fn check_writer_refused(due: u8, book: &[u8], output_length: usize) {
@@ -148,7 +151,17 @@ fn schedules_14() {
 fn work_areas_15() {
     let book = book_p();
     for length in [0, 1, WORK_LENGTH - 1] {
-        check_refused(15, &page(&book, &[0; 29]), length, OUTPUT_LENGTH);
+        let lengths = [length, NET_LENGTH, OUTPUT_LENGTH];
+        check_refused(15, &page(&book, &[0; 29]), lengths);
+    }
+}
+
+#[test]
+fn areas_of_the_net_15() {
+    let book = book_p();
+    for length in [0, 1, NET_LENGTH - 1] {
+        let lengths = [WORK_LENGTH, length, OUTPUT_LENGTH];
+        check_refused(15, &page(&book, &[0; 29]), lengths);
     }
 }
 
@@ -156,7 +169,8 @@ fn work_areas_15() {
 fn outputs_16() {
     let book = book_p();
     for length in [0, 1, OUTPUT_LENGTH - 1] {
-        check_refused(16, &page(&book, &[0; 29]), WORK_LENGTH, length);
+        let lengths = [WORK_LENGTH, NET_LENGTH, length];
+        check_refused(16, &page(&book, &[0; 29]), lengths);
     }
     for length in 0..book.len() {
         check_writer_refused(16, &book, length);
@@ -169,9 +183,15 @@ fn places_from_top_to_bottom() {
     let request =
         |units, book, line, schedule| Request::new(book, line).units(units).schedule(schedule);
     let (long, short) = ([255; 1025], [0, 255]);
-    check_refused(13, &request(0, &empty, &long, &[9]), 0, 0);
-    check_refused(15, &request(1, &empty, &long, &[9]), WORK_LENGTH - 1, 0);
-    check_refused(16, &request(1, &empty, &long, &[9]), WORK_LENGTH, 1023);
+    check_refused(13, &request(0, &empty, &long, &[9]), [0; 3]);
+    for lengths in [
+        [WORK_LENGTH - 1, NET_LENGTH, 0],
+        [WORK_LENGTH, NET_LENGTH - 1, 0],
+    ] {
+        check_refused(15, &request(1, &empty, &long, &[9]), lengths);
+    }
+    let lengths = [WORK_LENGTH, NET_LENGTH, 1023];
+    check_refused(16, &request(1, &empty, &long, &[9]), lengths);
     check_refused_in_sound_frame(1, &request(1, &empty, &long, &[9]));
     check_refused_in_sound_frame(12, &request(1, &book, &long, &[9]));
     check_refused_in_sound_frame(10, &request(1, &book, &short, &[9]));

@@ -15,6 +15,7 @@ const RANDOM_CASES: usize = 60;
 /// Longer books and lines are passed over, so that the files stay small.
 const LONGEST: usize = 300;
 
+#[derive(Clone)]
 struct Case {
     book: Vec<u8>,
     line: Vec<u8>,
@@ -170,6 +171,7 @@ fn picked_cases() -> Vec<Case> {
     ]
     .into_iter()
     .chain(repeated_cases())
+    .chain(net_cases())
     .collect()
 }
 
@@ -232,6 +234,62 @@ fn matching_book() -> Vec<u8> {
         ],
     )
     .encode()
+}
+
+/// What a net over the left sides has to tell apart: a later rule on the way to an earlier one, ways by a variable to go back to, rules of one path.
+fn net_cases() -> Vec<Case> {
+    let book = net_book();
+    let lines: [&[u8]; 14] = [
+        &[5, 0, 1],
+        &[5, 0, 0],
+        &[5, 1, 1],
+        &[5, 1, 0],
+        &[6, 3, 0, 1, 2],
+        &[6, 3, 0, 3, 1, 2],
+        &[6, 3, 0, 3, 1, 1],
+        &[6, 3, 2, 3, 1, 1],
+        &[6, 0, 4, 4, 1, 0],
+        &[7, 1, 1, 1],
+        &[7, 1, 1, 2],
+        &[7, 2, 1, 1],
+        &[7, 2, 1, 2],
+        &[7, 2, 1, 0],
+    ];
+    let case = |line: &[u8]| Case {
+        book: book.clone(),
+        line: line.to_vec(),
+        offset: 0,
+    };
+    lines.map(case).to_vec()
+}
+
+/// Constants 0 to 2, 3 and 4 of one argument, 5 of two, 6 and 7 of three.
+fn net_book() -> Vec<u8> {
+    let symbol = Symbol::Operator;
+    let (x, y, z) = (
+        Symbol::Variable(0),
+        Symbol::Variable(1),
+        Symbol::Variable(2),
+    );
+    let arities = [0, 0, 0, 1, 1, 2, 3, 3];
+    // Every rule gives a chain of its own length.
+    let mut rules = Vec::new();
+    let mut add = |left: &[Symbol]| {
+        let right = [vec![symbol(3); rules.len()], vec![symbol(2)]].concat();
+        rules.push(RuleDraft::new(left.to_vec(), right));
+    };
+    add(&[symbol(5), x, symbol(1)]);
+    add(&[symbol(5), symbol(0), y]);
+    add(&[symbol(5), symbol(0), symbol(1)]);
+    add(&[symbol(6), symbol(3), symbol(0), x, symbol(2)]);
+    add(&[symbol(6), x, symbol(3), y, symbol(2)]);
+    add(&[symbol(6), symbol(3), x, symbol(3), y, z]);
+    add(&[symbol(6), x, symbol(4), symbol(4), y, z]);
+    add(&[symbol(7), x, y, x]);
+    add(&[symbol(7), x, x, y]);
+    add(&[symbol(7), y, x, x]);
+    add(&[symbol(7), x, y, x]);
+    Draft::new(arities.map(operator).to_vec(), rules).encode()
 }
 
 fn operator(arity: u8) -> OperatorDraft {

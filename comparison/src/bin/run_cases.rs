@@ -1,8 +1,8 @@
 //! Makes the cases of the program `run_cases` and what it is to print: the files `stdin` and `stdout` of a folder.
 //!
-//! A case is a head of 18 bytes (name length, 2 bytes book length, 2 bytes line length, units, 4 bytes budget, 2 bytes day, 2 bytes each for the
-//! lengths of schedule, work area and output), the name, the book, the line and the schedule. The day is there whatever the book's form. Both buffers are lent full of a byte that shows where they
-//! were written.
+//! A case is a head of 20 bytes (name length, 2 bytes book length, 2 bytes line length, units, 4 bytes budget, 2 bytes day, 2 bytes each for the
+//! lengths of schedule, work area, the net's area and output), the name, the book, the line and the schedule. The day is there whatever the book's form.
+//! The three buffers are lent full of a byte each that shows where they were written.
 //!
 //! With a seed and a count the files hold so many random cases, of any size, and no others.
 
@@ -12,12 +12,12 @@ use std::{env, fs, io};
 
 use comparison::broken::{BrokenModel, Slip};
 use comparison::draft::{Draft, OperatorDraft, RuleDraft, Symbol};
-use comparison::model::{self, Answer, Form, OUTPUT_LEN, SIDE_LIMIT, TERM_LIMIT};
+use comparison::model::{self, Answer, Form, Lengths, OUTPUT_LEN, SIDE_LIMIT, TERM_LIMIT};
 use comparison::random::{self, Random};
-use comparison::subject::{Question, Subject, Told, MODEL_PUBLISHED};
+use comparison::subject::{Lent, Question, Subject, Told, MODEL_PUBLISHED};
 
-/// The engine's published length of the work area.
-const PUBLISHED: usize = 24_624;
+/// The engine's published lengths.
+const PUBLISHED: Lengths = Lengths::of_areas(24_624, 3840);
 const SEED: u64 = 3;
 const RANDOM_CASES: usize = 40;
 /// Longer books and lines are passed over, and longer schedules, so that the files stay small.
@@ -33,8 +33,7 @@ struct Case {
     budget: u32,
     day: u16,
     schedule: Vec<u8>,
-    work: usize,
-    output: usize,
+    lent: Lengths,
 }
 
 fn main() -> io::Result<()> {
@@ -77,8 +76,9 @@ fn input(case: &Case) -> Vec<u8> {
         &case.budget.to_be_bytes(),
         &case.day.to_be_bytes(),
         &short(case.schedule.len()),
-        &short(case.work),
-        &short(case.output),
+        &short(case.lent.work),
+        &short(case.lent.net),
+        &short(case.lent.output),
         case.name.as_bytes(),
         &case.book,
         &case.line,
@@ -89,9 +89,9 @@ fn input(case: &Case) -> Vec<u8> {
 
 fn line(case: &Case) -> String {
     let answer = match answer(case) {
-        Err(number) => format!("refused {number} work kept"),
+        Err(number) => format!("refused {number} work kept net kept"),
         Ok(answer) => format!(
-            "end {} rewrites {} entries {} {} term {} work zero",
+            "end {} rewrites {} entries {} {} term {} work zero net zero",
             answer.ending,
             answer.rewrites,
             answer.entries,
@@ -114,8 +114,7 @@ fn answer(case: &Case) -> Result<Answer, u8> {
         case.budget,
         case.day,
         &case.schedule,
-        case.work,
-        case.output,
+        case.lent,
         PUBLISHED,
     )
 }
@@ -154,6 +153,9 @@ fn check(cases: &[Case]) {
         Slip::Lengths,
         Slip::Last,
         Slip::Anew,
+        Slip::Special,
+        Slip::Back,
+        Slip::Beside,
         Slip::Earlier,
         Slip::Own,
         Slip::Naming,
@@ -178,13 +180,19 @@ fn shows(case: &Case, slip: Slip) -> bool {
         day: case.day,
         schedule: &case.schedule,
     };
-    let mut work = vec![0; MODEL_PUBLISHED];
-    let mut output = vec![0; case.output];
-    let told = BrokenModel { slip }.answer(&question, &mut work, &mut output);
+    let mut work = vec![0; MODEL_PUBLISHED.work];
+    let mut net = vec![0; MODEL_PUBLISHED.net];
+    let mut output = vec![0; case.lent.output];
+    let mut lent = Lent {
+        work: &mut work,
+        net: &mut net,
+        output: &mut output,
+    };
+    let told = BrokenModel { slip }.answer(&question, &mut lent);
     match answer(case) {
         Ok(answer) => told != Told::answered(&answer) || !output.starts_with(&answer.term),
-        // The work area lent here is never too short.
-        Err(model::refusal::WORK_AREA) => false,
+        // The areas lent here are never too short.
+        Err(model::refusal::AREA) => false,
         Err(number) => told != Told::refused(number),
     }
 }
@@ -211,6 +219,7 @@ fn picked_cases() -> Vec<Case> {
         ],
         helping_cases(),
         matching_cases(),
+        net_cases(),
         dated_cases(),
         slip_cases(),
     ]
@@ -227,8 +236,7 @@ fn case(name: &str, book: impl Into<Vec<u8>>) -> Case {
         budget: 9,
         day: 0,
         schedule: vec![0; 29],
-        work: PUBLISHED,
-        output: OUTPUT_LEN,
+        lent: PUBLISHED,
     }
 }
 
@@ -269,12 +277,19 @@ impl Case {
         )
     }
 
-    fn work(self, work: usize) -> Case {
-        Case { work, ..self }
+    fn work(mut self, work: usize) -> Case {
+        self.lent.work = work;
+        self
     }
 
-    fn output(self, output: usize) -> Case {
-        Case { output, ..self }
+    fn net(mut self, net: usize) -> Case {
+        self.lent.net = net;
+        self
+    }
+
+    fn output(mut self, output: usize) -> Case {
+        self.lent.output = output;
+        self
     }
 }
 
@@ -375,15 +390,19 @@ fn frame_cases() -> Vec<Case> {
         p("U = 9").units(9),
         p("U = 255").units(255),
         p("U = 8").units(8).schedule([0, 0, 0, 7, 7, 1, 1, 1, 0]),
-        p("work area one byte short").work(PUBLISHED - 1),
+        p("work area one byte short").work(PUBLISHED.work - 1),
         p("work area of no byte").work(0),
-        p("work area one byte longer").work(PUBLISHED + 1),
+        p("work area one byte longer").work(PUBLISHED.work + 1),
         p("work area of 65535 bytes").work(65_535),
+        p("net one byte short").net(PUBLISHED.net - 1),
+        p("net of no byte").net(0),
+        p("net one byte longer").net(PUBLISHED.net + 1),
+        p("net of 65535 bytes").net(65_535),
         p("output one byte short").output(OUTPUT_LEN - 1),
         p("output of no byte").output(0),
         p("output one byte longer").output(OUTPUT_LEN + 1),
         p("output of 65535 bytes").output(65_535),
-        p("both buffers longer").work(40_000).output(3000),
+        p("all buffers longer").work(40_000).net(5000).output(3000),
     ]
 }
 
@@ -447,7 +466,15 @@ fn order_of_checks() -> Vec<Case> {
         p("13 before 15").units(0).work(0),
         p("13 before 16").units(9).output(0),
         bad("13 before the rest").units(9).line([]).schedule([9]),
-        p("15 before 16").work(PUBLISHED - 1).output(0),
+        p("13 before 15 of the net").units(0).net(0),
+        p("15 before 16").work(PUBLISHED.work - 1).output(0),
+        p("15 of the net before 16")
+            .net(PUBLISHED.net - 1)
+            .output(0),
+        bad("15 of the net before the rest")
+            .net(0)
+            .line([])
+            .schedule([9]),
         bad("15 before the rest").work(0).line([]).schedule([9]),
         bad("16 before the rest")
             .output(OUTPUT_LEN - 1)
@@ -506,6 +533,61 @@ fn sizes_book() -> Vec<u8> {
             rule(&[op(6), X], &[op(6), op(3), X]),
         ],
     )
+}
+
+/// Constants 0 to 9, 10 of one argument, 11 of two, 12 of three; no argument is reduced. Each rule gives the constant of its own number.
+fn branching_book(lefts: &[&[Symbol]]) -> Vec<u8> {
+    let constants = vec![plain(0); 10];
+    let others = [1, 2, 3].map(|arity| given(arity, &[0]));
+    let rules = lefts
+        .iter()
+        .zip(0..)
+        .map(|(left, number)| rule(left, &[op(number)]));
+    let rules: Vec<RuleDraft> = rules.collect();
+    book(&[&constants[..], &others].concat(), &rules)
+}
+
+/// What a net over the left sides has to tell apart.
+fn net_cases() -> Vec<Case> {
+    let (one, two, three, z) = (op(10), op(11), op(12), Symbol::Variable(2));
+    let ways = branching_book(&[
+        &[three, one, op(5), X, op(6)],
+        &[three, X, one, Y, op(7)],
+        &[three, one, X, one, Y, z],
+        &[three, X, Y, z],
+    ]);
+    let way = |name, line: &[u8]| case(name, &ways[..]).line(line).zeros(9);
+    let order = branching_book(&[&[two, X, op(6)], &[two, op(5), Y], &[two, op(5), op(6)]]);
+    let same = branching_book(&[
+        &[three, X, Y, X],
+        &[three, X, X, Y],
+        &[three, Y, X, X],
+        &[three, X, X, Y],
+    ]);
+    let same = |name, line: &[u8]| case(name, &same[..]).line(line).zeros(9);
+    let long = |last: u8| [vec![op(10); 62], vec![op(last)]].concat();
+    let late = branching_book(&[&long(3), &long(4), &[one, one, one, X], &long(5)]);
+    let late = |name, last: u8| {
+        let line = [vec![10; 62], vec![last]].concat();
+        case(name, &late[..]).line(line).zeros(9)
+    };
+    vec![
+        case("net: the first in the book, not the most special", order)
+            .line([11, 5, 6])
+            .zeros(9),
+        way("net: by operators", &[12, 10, 5, 3, 6]),
+        way("net: back to a variable", &[12, 10, 5, 10, 4, 7]),
+        way("net: back to a later variable", &[12, 10, 5, 10, 4, 8]),
+        way("net: back twice", &[12, 10, 5, 4, 8]),
+        way("net: variables alone", &[12, 11, 1, 2, 11, 3, 4, 11, 5, 6]),
+        same("net: the first of a path", &[12, 5, 5, 5]),
+        same("net: the second of a path", &[12, 5, 5, 6]),
+        same("net: the third of a path", &[12, 6, 5, 5]),
+        same("net: none of a path", &[12, 6, 5, 4]),
+        late("net: the last of 63 symbols", 4),
+        late("net: a later rule than one on the way", 5),
+        late("net: back from the last of 63 symbols", 6),
+    ]
 }
 
 fn full_cases() -> Vec<Case> {
@@ -951,13 +1033,12 @@ fn random_case(seed: u64, number: u64) -> Case {
     Case {
         name: format!("random {seed} {number}"),
         book: case.book(),
-        work: case.work_len(PUBLISHED),
+        lent: case.lengths(PUBLISHED),
         line: case.line,
         units: case.units,
         budget: case.budget,
         day: case.day,
         schedule: case.schedule,
-        output: case.output_len,
     }
 }
 

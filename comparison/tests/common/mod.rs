@@ -3,7 +3,7 @@
 #![allow(dead_code)]
 
 use comparison::draft::{Draft, OperatorDraft, RuleDraft, Symbol};
-use comparison::model::{answer, Answer, OUTPUT_LEN};
+use comparison::model::{answer, Answer, Lengths};
 
 pub const X: Symbol = Symbol::Variable(0);
 pub const Y: Symbol = Symbol::Variable(1);
@@ -62,7 +62,8 @@ pub fn ask_bytes(
     budget: u32,
     schedule: &[u8],
 ) -> Result<Answer, u8> {
-    answer(book, line, units, budget, 0, schedule, 0, OUTPUT_LEN, 0)
+    let lengths = Lengths::LEAST;
+    answer(book, line, units, budget, 0, schedule, lengths, lengths)
 }
 
 /// The program's input.

@@ -9,7 +9,7 @@ pub extern "C" fn bench_book_read(
     bytes: &[u8],
     day: u16,
     operators: &mut [u8; 4352],
-    rules: &mut [u32; 1024],
+    rules: &mut [u32; 512],
 ) -> u8
     requires { ⌜ length (now operators) ≡ 4352 ⌝ }
 {

@@ -2,6 +2,5 @@ pub mod Readers
 pub mod Forms
 pub mod Grow
 pub mod Operators
-pub mod Chains
 pub mod Rules
 pub mod Parts

@@ -22,19 +22,20 @@ use Rattle.paper.proofs.Dated.{read-any-good, on-day-good}
 use Rattle.paper.proofs.Tests.{eqb-true, eqb-false, ltb-true, ltb-false}
 use Rattle.paper.proofs.Readers.{refused-accepted, bind-return}
 use Rattle.bits.proofs.Reading.{Got, bits-left}
-use Rattle.tables.specs.Layout.{day-in, with-day}
-use Rattle.tables.specs.Tables.{accepted-book, any-book, book-of, Operators, Unlinked}
-use Rattle.tables.proofs.Grow.{day-is, day-sides, day-unlinked}
+use Rattle.tables.specs.Layout.{day-in, with-day, with-count}
+use Rattle.tables.specs.Tables.{accepted-book, any-book, book-of, Operators, Sides, Rules}
+use Rattle.tables.proofs.Grow as G
 use Rattle.strategy.proofs.Reading.{bind-refused}
 use Rattle.side.specs.Contracts.{AritiesIn, bitsAt}
 use Rattle.standing.specs.Dates.{Dates, dated-of, dated-book, rules-of, AllDated}
 use Rattle.standing.specs.Contracts.{Kept}
 use Rattle.book.specs.Contracts.{OperatorsTaken, read-rule-of, undated-rules, RulesTaken, ended, EndsAt, read-tail, TailAt}
-use Rattle.book.specs.Contracts.{begins, in-form, AllRead, Standing-kept, Linked, BookAt}
+use Rattle.book.specs.Contracts.{begins, in-form, AllRead, Standing-kept, BookAt}
 use Rattle.book.specs.declared.Part.{Part}
 use Rattle.book.specs.declared.Tail.{Tail}
 use Rattle.book.specs.declared.Book as D
 use Rattle.book.proofs.Forms.{read-parts, answer-of, any-parts, form-operators}
+use Rattle.book.proofs.Rules.{day-put}
 
 -- The arities that the table holds
 
@@ -124,7 +125,7 @@ dated-all {bytes} {rules} {day} {m} l a =
     let same : D ≡ dated-of (any-book bytes) = sym (ap dated-of (a .is)) in (
       record {
         short = l;
-        unlinked = subst (λ (E : DatedBook). Unlinked bytes (undated-rules (E .rules)) rules) same (a .rules-in .unlinked);
+        sides = subst (λ (E : DatedBook). Sides bytes (undated-rules (E .rules)) rules) same (a .rules-in .sides);
         dates = subst (λ (E : DatedBook). Dates bytes (E .rules) rules) same (a .rules-in .dates refl);
         good = subst GoodDated same (subst GoodAny (a .is) (a .good));
       },
@@ -139,11 +140,9 @@ dated-kept {bytes} {rules} {rules′} {day} {m} {k} a h =
     let f : book-of bytes rules′ ≡ record { operators = a .book .operators; rules = standing day [] (a .book .rules) } =
     ap₂ on-day d (a .is) in
     record {
-      linkable = record {
-        count = rw f (subst (λ (E : DatedBook). length (standing day [] (E .rules)) ≡ k) e (h .count));
-        unlinked = rw f (subst (λ (E : DatedBook). Unlinked bytes (standing day [] (E .rules)) rules′) e (h .unlinked));
-        good = on-day-good (day-in rules′) (any-book bytes) (a .good);
-      };
+      count = rw f (subst (λ (E : DatedBook). length (standing day [] (E .rules)) ≡ k) e (h .count));
+      sides = rw f (subst (λ (E : DatedBook). Sides bytes (standing day [] (E .rules)) rules′) e (h .sides));
+      good = on-day-good (day-in rules′) (any-book bytes) (a .good);
       day-is = d;
     }
 
@@ -153,13 +152,26 @@ unfolding on-day
 undated-kept {bytes} {rules} {day} {m} a =
     let f : book-of bytes rules ≡ record { operators = a .book .operators; rules = undated-rules (a .book .rules) } = ap (on-day (day-in rules)) (a .is) in
     record {
-      linkable = record {
-        count = rw f (length-map (a .book .rules) (λ r. r .rule) ∙ a .count);
-        unlinked = rw f (a .rules-in .unlinked);
-        good = on-day-good (day-in rules) (any-book bytes) (a .good);
-      };
+      count = rw f (length-map (a .book .rules) (λ r. r .rule) ∙ a .count);
+      sides = rw f (a .rules-in .sides);
+      good = on-day-good (day-in rules) (any-book bytes) (a .good);
       day-is = a .day-is;
     }
+
+-- a book of either form has at most 255 rules, and so has what stands of it
+few-rules : (dated : Bool) (D : DatedBook) → GoodAny (in-form dated D) → length (D .rules) < 256
+few-rules true D g = g .few-rules
+few-rules false D g = omega (arith, length-map (D .rules) (λ r. r .rule), g .few-rules)
+
+pub kept-few : {bytes rules : List ℕ} {day k : ℕ} → Standing-kept bytes day k rules → k < 256
+kept-few s = omega (arith, s .count, s .good .few-rules)
+
+-- with their number put, the table is that of the book on the day
+count-put : {bytes rules : List ℕ} {day k : ℕ} → Standing-kept bytes day k rules → Rules bytes (book-of bytes rules .rules) (with-count rules k)
+count-put {rules = rules} {k = k} s = record {
+  sides = G.count-sides rules k (omega (arith, s .good .few-rules)) (s .sides);
+  counted = G.count-is rules k (s .sides .long) ∙ sym (s .count);
+}
 
 -- The whole book
 
@@ -220,22 +232,21 @@ module _ (bytes : List ℕ) {dated : Bool} {at : ℕ} (form : dated ≡ is-dated
           pub all-read : {rules′ : List ℕ} {day : ℕ} → rules′ ≡ with-day rules day → AllRead bytes dated day m rules′
           all-read {rules′} {day} e =
               let i = t .is ops arities .4 in
+              let g : GoodAny (in-form dated B) = read-any-good bytes (in-form dated B) accepts in
               rw e (record {
                 book = B;
                 is = same;
-                good = subst GoodAny (sym same) (read-any-good bytes (in-form dated B) accepts);
+                good = subst GoodAny (sym same) g;
                 count = t .is ops arities .3;
-                rules-in = record {
-                  unlinked = day-unlinked rules day (i .unlinked);
-                  dates = λ f. record { each = λ j l. rw (day-sides rules day j .0, day-sides rules day j .1) (i .dates f .each j l) };
-                };
-                day-is = day-is rules day (i .unlinked .sides .long);
+                rules-in = day-put day (few-rules dated B g) i;
+                day-is = G.day-is rules day (i .sides .long);
               })
 
-          pub book-is : {rules₁ rules₂ : List ℕ} {day k : ℕ} → Standing-kept bytes day k rules₁ → Linked bytes rules₁ rules₂ →
+          pub book-is : {rules₁ rules₂ : List ℕ} {day k : ℕ} → Standing-kept bytes day k rules₁ → rules₂ ≡ with-count rules₁ k →
               BookAt bytes day operators rules₂ (D.Book.Read n)
-          book-is {rules₁} {rules₂} {day} s h =
-              let e : book-of bytes rules₂ ≡ book-of bytes rules₁ = ap (λ (d : ℕ). on-day d (any-book bytes)) (h .same-day) in
+          book-is {rules₁} {rules₂} {day} {k} s h =
+              let d : day-in rules₂ ≡ day-in rules₁ = ap day-in h ∙ G.count-day rules₁ k in
+              let e : book-of bytes rules₂ ≡ book-of bytes rules₁ = ap (λ (d : ℕ). on-day d (any-book bytes)) d in
               let o : book-of bytes rules₂ .operators ≡ ops =
               ap (λ (A : AnyBook). on-day (day-in rules₂) A .operators) same ∙ form-operators (day-in rules₂) dated B in
               record {
@@ -244,11 +255,11 @@ module _ (bytes : List ℕ) {dated : Bool} {at : ℕ} (form : dated ≡ is-dated
                     read = accepts ∙ ap accepted (sym same);
                     tables = record {
                       operators-in = rw o (q .are .2 .1);
-                      rules-in = rw e (h .are);
-                      good = rw e (s .linkable .good);
+                      rules-in = rw e (rw h (count-put s));
+                      good = rw e (s .good);
                     };
                   },
-                  h .same-day ∙ s .day-is,
+                  d ∙ s .day-is,
                   rw o (sym (q .are .2 .0)),
                 );
               }

@@ -5,17 +5,17 @@ use mathlib.Core.Path.{_≡_, refl, sym, ap, _∙_, subst}
 use Prim.Native.Nat.{ℕ, zero, suc, _+_, _-_, _*_, _^_, _≤_, _<_}
 use native.Mathlib.Nat.{le-antisymm}
 use native.Mathlib.Omega.{arith}
-use lib.ListN.{length, getD, set, replicate, length-append, length-map, length-set, length-replicate, getD-replicate}
+use lib.ListN.{length, getD, set, replicate, length-append, length-map, length-set, length-replicate}
 use lib.Seq.{getD-set-same, getD-set-other}
 use Rattle.paper.specs.Result.{return, _>>=_, repeat}
 use Rattle.paper.specs.Book.{Operator, Rule, arityAt}
 use Rattle.paper.specs.Dated.{DatedRule, read-dated-rule}
 use Rattle.paper.specs.Writer.{write-side}
 use Rattle.paper.proofs.Rules.{then-is}
-use Rattle.tables.specs.Layout.{arity-in, left-in, right-in, with-sides}
-use Rattle.tables.specs.Tables.{RuleIn, Unlinked}
+use Rattle.tables.specs.Layout.{arity-in, left-in, right-in, with-sides, with-day}
+use Rattle.tables.specs.Tables.{RuleIn, Sides}
 use Rattle.tables.proofs.Laws.{stand-inside}
-use Rattle.tables.proofs.Grow.{snoc-each, rules-grow}
+use Rattle.tables.proofs.Grow.{snoc-each, rules-grow, day-sides}
 use Rattle.side.specs.Contracts as S
 use Rattle.side.specs.Contracts.{bitsAt}
 use Rattle.side.specs.declared.Rule as Ru
@@ -58,31 +58,41 @@ with-says operators k (suc n) (suc o) i l e = with-says operators (suc k) n o i 
 -- a rule's days and sides, which the table takes behind those that it holds
 module _ (bytes : List ℕ) (dated : Bool) (r : DatedRule) (i l e : ℕ) (rules : List ℕ) (b : i < 255) (here : RuleIn bytes (r .rule) l e)
     (day : dated ≡ true → DatedIn bytes r l e) where
-  dates-grow : length rules ≡ 1024 → (rs : List DatedRule) → length rs ≡ i → Dates bytes rs rules → dated ≡ true → Dates bytes (rs ++ (r ∷ [])) (with-sides rules i l e)
+  dates-grow : length rules ≡ 512 → (rs : List DatedRule) → length rs ≡ i → Dates bytes rs rules → dated ≡ true → Dates bytes (rs ++ (r ∷ [])) (with-sides rules i l e)
   dates-grow long rs count d f =
-      let mid : List ℕ = set rules (512 + i) l in
-      let other : (k : ℕ) → (k ≡ 512 + i → ⊥) → (k ≡ 768 + i → ⊥) → getD (with-sides rules i l e) k 0 ≡ getD rules k 0 =
-      λ k m n. getD-set-other mid (768 + i) k e 0 n ∙ getD-set-other rules (512 + i) k l 0 m in
+      let mid : List ℕ = set rules i l in
+      let other : (k : ℕ) → (k ≡ i → ⊥) → (k ≡ 256 + i → ⊥) → getD (with-sides rules i l e) k 0 ≡ getD rules k 0 =
+      λ k m n. getD-set-other mid (256 + i) k e 0 n ∙ getD-set-other rules i k l 0 m in
       record {
         each = snoc-each _ rs r i
             (λ j a. DatedIn bytes a (left-in rules j) (right-in rules j))
             (λ j a. DatedIn bytes a (left-in (with-sides rules i l e) j) (right-in (with-sides rules i l e) j))
             count (d .each)
-            (λ j a c p. rw (other (512 + j) (λ q. omega arith) (λ q. omega arith), other (768 + j) (λ q. omega arith) (λ q. omega arith)) p)
+            (λ j a c p. rw (other j (λ q. omega arith) (λ q. omega arith), other (256 + j) (λ q. omega arith) (λ q. omega arith)) p)
             (rw (
-              getD-set-other mid (768 + i) (512 + i) e 0 (λ q. omega arith),
-              getD-set-same rules (512 + i) l 0 (omega arith),
-              getD-set-same mid (768 + i) e 0 (omega (arith, length-set rules (512 + i) l)),
+              getD-set-other mid (256 + i) i e 0 (λ q. omega arith),
+              getD-set-same rules i l 0 (omega arith),
+              getD-set-same mid (256 + i) e 0 (omega (arith, length-set rules i l)),
             ) (day f));
       }
 
   all-grow : (rs : List DatedRule) → length rs ≡ i → RulesIn dated bytes rs rules → RulesIn dated bytes (rs ++ (r ∷ [])) (with-sides rules i l e)
   all-grow rs count u = record {
-    unlinked =
-        subst (λ (qs : List Rule). Unlinked bytes qs (with-sides rules i l e)) (sym (map-append (λ (r : DatedRule). r .rule) rs (r ∷ [])))
-        (rules-grow bytes (r .rule) i l e rules b here (undated-rules rs) (length-map rs (λ r. r .rule) ∙ count) (u .unlinked));
-    dates = λ f. dates-grow (u .unlinked .sides .long) rs count (u .dates f) f;
+    sides =
+        subst (λ (qs : List Rule). Sides bytes qs (with-sides rules i l e)) (sym (map-append (λ (r : DatedRule). r .rule) rs (r ∷ [])))
+        (rules-grow bytes (r .rule) i l e rules b here (undated-rules rs) (length-map rs (λ r. r .rule) ∙ count) (u .sides));
+    dates = λ f. dates-grow (u .sides .long) rs count (u .dates f) f;
   }
+
+-- the sides and days of at most 255 rules stay where the day of the table is put
+pub day-put : {bytes : List ℕ} {dated : Bool} {rs : List DatedRule} {rules : List ℕ} (day : ℕ) → length rs < 256 → RulesIn dated bytes rs rules →
+    RulesIn dated bytes rs (with-day rules day)
+day-put {rs = rs} {rules = rules} day few u = record {
+  sides = day-sides rules day (omega (arith, length-map rs (λ r. r .rule))) (u .sides);
+  dates = λ f. record {
+    each = λ j l. rw (getD-set-other rules 255 j day 0 (λ q. omega arith), getD-set-other rules 255 (256 + j) day 0 (λ q. omega arith)) (u .dates f .each j l);
+  };
+}
 
 module _ {bytes : List ℕ} {at n : ℕ} {operators : List ℕ} {e : RuleEnd} (q : S.RuleAt bytes at n operators (Ru.Rule.Read e)) where
   -- its positions are small
@@ -145,7 +155,7 @@ rule-refused {bytes} {at} {left} {n} {i} {k} {operators} {rules} {dated} p q = g
 -- One by one
 
 module _ {bytes : List ℕ} {at n : ℕ} {dated : Bool} {operators rules : List ℕ} where
-  pub rules-none : rules ≡ replicate 1024 0 → RulesTaken bytes at dated n operators 0 rules (Part.Read at)
+  pub rules-none : rules ≡ replicate 512 0 → RulesTaken bytes at dated n operators 0 rules (Part.Read at)
   unfolding repeat
   rules-none e = rw e (record {
     are = λ ops t. (
@@ -154,10 +164,7 @@ module _ {bytes : List ℕ} {at n : ℕ} {dated : Bool} {operators rules : List 
       (
         refl,
         record {
-          unlinked = record {
-            sides = record { each = λ i l. absurd (omega arith); long = length-replicate {A = ℕ} 1024 0 };
-            none = λ o l. rw (getD-replicate {A = ℕ} 1024 o 0 0 (omega arith));
-          };
+          sides = record { each = λ i l. absurd (omega arith); long = length-replicate {A = ℕ} 512 0 };
           dates = λ f. record { each = λ i l. absurd (omega arith) };
         },
       ),

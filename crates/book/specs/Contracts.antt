@@ -12,7 +12,7 @@ use Rattle.paper.specs.Reader.{read-operator, read-rule, all-zero, read-end}
 use Rattle.paper.specs.Dated.{DatedRule, DatedBook, AnyBook, read-dated-rule, readAny}
 use Rattle.paper.specs.WellFormed.{GoodBook, GoodAny}
 use Rattle.tables.specs.Layout.{day-in}
-use Rattle.tables.specs.Tables.{any-book, book-of, Operators, Unlinked, Rules, TablesOf}
+use Rattle.tables.specs.Tables.{any-book, book-of, Operators, Sides, TablesOf}
 use Rattle.side.specs.Contracts.{AritiesIn, bitsAt}
 use Rattle.standing.specs.Dates.{Dates}
 use Rattle.book.specs.declared.Part.{Part}
@@ -60,7 +60,7 @@ undated-rules rs = map (λ r. r .rule) rs
 
 -- the table says where the rules' sides stand, and their days where they have them
 pub record RulesIn (dated : Bool) (bytes : List ℕ) (rs : List DatedRule) (rules : List ℕ) : Type 0 where
-  pub unlinked : Unlinked bytes (undated-rules rs) rules
+  pub sides : Sides bytes (undated-rules rs) rules
   pub dates : dated ≡ true → Dates bytes rs rules
 
 -- rule i, which the table takes behind those that it holds
@@ -121,21 +121,12 @@ pub record AllRead (bytes : List ℕ) (dated : Bool) (day m : ℕ) (rules : List
   pub rules-in : RulesIn dated bytes (book .rules) rules
   pub day-is : day-in rules ≡ day
 
--- the rules of the book that the bytes are on the table's day, m of them, may be linked
-pub record Linkable (bytes : List ℕ) (m : ℕ) (rules : List ℕ) : Type 0 where
-  pub count : length (book-of bytes rules .rules) ≡ m
-  pub unlinked : Unlinked bytes (book-of bytes rules .rules) rules
-  pub good : GoodBook (book-of bytes rules)
-
--- those of the rules that stand on the day, m of them, may be linked
+-- the table has the rules of the book that the bytes are on the day, m of them
 pub record Standing-kept (bytes : List ℕ) (day m : ℕ) (rules : List ℕ) : Type 0 where
-  pub linkable : Linkable bytes m rules
+  pub count : length (book-of bytes rules .rules) ≡ m
+  pub sides : Sides bytes (book-of bytes rules .rules) rules
+  pub good : GoodBook (book-of bytes rules)
   pub day-is : day-in rules ≡ day
-
--- they are linked, and the table's day stays
-pub record Linked (bytes rules rules′ : List ℕ) : Type 0 where
-  pub are : Rules bytes (book-of bytes rules .rules) rules′
-  pub same-day : day-in rules′ ≡ day-in rules
 
 -- a book that is read has its tables on the day and n operators
 abbrev pub BookIs : List ℕ → ℕ → List ℕ → List ℕ → D.Book → Type 0

@@ -1,15 +1,13 @@
 // A book in one pass over its bytes: the refusal, or the tables that a run needs (document 01, 'The book, bit by bit'; refusals 1 to 9 but 6). Of a
-// dated book (document 02, Change 5) the table keeps the rules that stand on the day. A second pass over the rules, from the last one to the first, links
-// those of one root.
+// dated book (document 02, Change 5) the table keeps the rules that stand on the day.
 use bits::Bits;
 use side::Rule;
-use side::Standing;
 use strategy::Strategy;
 ghost use mathlib.Core.Path.{_≡_};
 ghost use Prim.Native.Nat.{_<_, _≤_};
 ghost use lib.ListN.{length};
 ghost use Rattle.paper.specs.Dated.{is-dated};
-ghost use Rattle.book.specs.Contracts.{OperatorTaken, OperatorsTaken, DayPassed, RuleTaken, RulesTaken, EndsAt, TailAt, begins, AllRead, Linkable, Standing-kept, Linked, BookAt};
+ghost use Rattle.book.specs.Contracts.{OperatorTaken, OperatorsTaken, DayPassed, RuleTaken, RulesTaken, EndsAt, TailAt, begins, AllRead, Standing-kept, BookAt};
 
 // How many operators there are, or a refusal.
 pub enum Book {
@@ -93,7 +91,7 @@ fn read_rule(
     n: usize,
     operators: &[u8; 4352],
     i: usize,
-    rules: &mut [u32; 1024],
+    rules: &mut [u32; 512],
 ) -> Part
     requires { ⌜ (length (now book) ≤ 65536) × (i < 255) ⌝ }
     ensures { λ r. ⌜ RuleTaken (now (book .entry)) at dated n (now (operators .entry)) i (now (rules .entry)) (now (rules .exit)) r ⌝ }
@@ -118,12 +116,12 @@ fn read_rules(
     n: usize,
     operators: &[u8; 4352],
     m: usize,
-    rules: &mut [u32; 1024],
+    rules: &mut [u32; 512],
 ) -> Part
     requires { ⌜ (length (now book) ≤ 65536) × (m ≤ 255) ⌝ }
     ensures { λ r. ⌜ RulesTaken (now (book .entry)) at dated n (now (operators .entry)) m (now (rules .exit)) r ⌝ }
 {
-    *rules = [0; 1024];
+    *rules = [0; 512];
     let mut p = at;
     let mut i = 0;
     while i < m {
@@ -162,7 +160,7 @@ fn read_tail(
     dated: bool,
     n: usize,
     operators: &[u8; 4352],
-    rules: &mut [u32; 1024],
+    rules: &mut [u32; 512],
 ) -> Tail
     requires { ⌜ length (now book) ≤ 65536 ⌝ }
     ensures { λ r. ⌜ TailAt (now (book .entry)) at dated n (now (operators .entry)) (now (rules .exit)) r ⌝ }
@@ -183,7 +181,7 @@ fn read_tail(
 }
 
 // Keeps those of the m rules that stand on the day: all of an undated book, which ignores it. How many they are.
-fn keep_standing(book: &[u8], dated: bool, day: u16, m: usize, rules: &mut [u32; 1024]) -> usize
+fn keep_standing(book: &[u8], dated: bool, day: u16, m: usize, rules: &mut [u32; 512]) -> usize
     requires { ⌜ (length (now book) ≤ 65536) × AllRead (now book) dated day m (now rules) ⌝ }
     ensures { λ r. ⌜ Standing-kept (now (book .entry)) day r (now (rules .exit)) ⌝ }
 {
@@ -191,23 +189,6 @@ fn keep_standing(book: &[u8], dated: bool, day: u16, m: usize, rules: &mut [u32;
         return standing::keep(book, day, m, rules);
     }
     m
-}
-
-// Links the m rules of a book that was read, the last one first, so that each is put before those of its root that follow it.
-fn link_rules(book: &[u8], m: usize, rules: &mut [u32; 1024])
-    requires { ⌜ (length (now book) ≤ 65536) × Linkable (now book) m (now rules) ⌝ }
-    ensures { λ _. ⌜ Linked (now (book .entry)) (now (rules .entry)) (now (rules .exit)) ⌝ }
-{
-    let mut i = m;
-    while 0 < i {
-        i -= 1;
-        match side::symbol_at(book, tables::left_side(rules, i)) {
-            Standing::Operator(root, _) => {
-                tables::link(rules, i, root);
-            }
-            Standing::Variable(_, _) => {}
-        }
-    }
 }
 
 // Is it a dated book, which begins with a byte 0?
@@ -225,7 +206,7 @@ fn start(dated: bool) -> usize
 }
 
 // The book: the first refusal in reading order, or the tables of its operators and of its rules on a day. What the answer means, BookAt says.
-pub fn read_book(book: &[u8], day: u16, operators: &mut [u8; 4352], rules: &mut [u32; 1024]) -> Book
+pub fn read_book(book: &[u8], day: u16, operators: &mut [u8; 4352], rules: &mut [u32; 512]) -> Book
     requires { ⌜ (length (now book) ≤ 65536) × (length (now operators) ≡ 4352) ⌝ }
     ensures { λ r. ⌜ BookAt (now (book .entry)) day (now (operators .exit)) (now (rules .exit)) r ⌝ }
 {
@@ -244,7 +225,7 @@ pub fn read_book(book: &[u8], day: u16, operators: &mut [u8; 4352], rules: &mut 
             Tail::Rules(m) => {
                 tables::put_day(rules, day);
                 let k = keep_standing(book, dated, day, m, rules);
-                link_rules(book, k, rules);
+                tables::put_count(rules, k);
                 Book::Read(n)
             }
         },

@@ -9,38 +9,19 @@ ghost use mathlib.Core.Path.{_≡_};
 ghost use Prim.Native.Nat.{_<_, _≤_};
 ghost use lib.ListN.{length};
 
-fn one_if(there: bool) -> usize
-    ensures { λ r. ⌜ r ≤ 1 ⌝ }
-{
-    if there { 1 } else { 0 }
-}
-
-// How many rules stand: each is the first of its root, or the next behind another.
-fn count_rules(rules: &[u32; 1024]) -> usize {
-    let mut m = 0;
-    let mut o: u8 = 0;
-    while o < 255 {
-        let first = tables::first_rule(rules, o);
-        let next = tables::next_rule(rules, casts::index(o));
-        m += one_if(first != 0) + one_if(next != 0);
-        o += 1;
-    }
-    m
-}
-
 // What the reader answers.
 fn try_reader(bytes: &[u8], day: u16)
     requires { ⌜ length (now bytes) ≤ 65536 ⌝ }
 {
     let mut operators = [0u8; 4352];
-    let mut rules = [0u32; 1024];
+    let mut rules = [0u32; 512];
     match book::read_book(bytes, day, &mut operators, &mut rules) {
         Book::Refused(k) => say_refused(k),
         Book::Read(n) => {
             say(b"read ");
             say_number(n);
             say(b" ");
-            say_number(count_rules(&rules));
+            say_number(tables::count(&rules));
         }
     }
 }

@@ -70,12 +70,12 @@ module _ (read : LineReader) (q : Request) where
         by-run e = of-run ∙ rw (e, run-checked)
 
 -- a refusal, with the buffers as they were
-pub refuses : {read : LineReader} {book line : List ℕ} {units budget day : ℕ} {schedule work output : List ℕ} (k : ℕ) →
-    answeredBy read book line units budget day schedule work output ≡ refused k →
-    ReducedBy read book line units budget day schedule work output work output (D.Answer.Refused k)
+pub refuses : {read : LineReader} {book line : List ℕ} {units budget day : ℕ} {schedule work net output : List ℕ} (k : ℕ) →
+    answeredBy read book line units budget day schedule work net output ≡ refused k →
+    ReducedBy read book line units budget day schedule work net output work net output (D.Answer.Refused k)
 refuses k e = record {
   answer = ap values-of (sym e);
-  unchanged = λ j h. (refl, refl);
+  unchanged = λ j h. (refl, refl, refl);
   cleared = λ A h. absurd (refused-accepted (sym e ∙ h));
   written = λ A h. absurd (refused-accepted (sym e ∙ h));
   run-of = λ A h. absurd (refused-accepted (sym e ∙ h));
@@ -83,9 +83,9 @@ refuses k e = record {
 
 -- ANOTHER BOOK OR LINE that is answered alike
 
-module _ {read read₂ : LineReader} {book book₂ line line₂ : List ℕ} {units budget day : ℕ} {schedule work output : List ℕ} where
-  pub run-as : {A : Answer} (r : RunBy read book line units budget day schedule work output A) → readAny book₂ ≡ accepted (r .given) →
-      read₂ (r .rules) line₂ ≡ accepted (r .term) → RunBy read₂ book₂ line₂ units budget day schedule work output A
+module _ {read read₂ : LineReader} {book book₂ line line₂ : List ℕ} {units budget day : ℕ} {schedule work net output : List ℕ} where
+  pub run-as : {A : Answer} (r : RunBy read book line units budget day schedule work net output A) → readAny book₂ ≡ accepted (r .given) →
+      read₂ (r .rules) line₂ ≡ accepted (r .term) → RunBy read₂ book₂ line₂ units budget day schedule work net output A
   run-as r b l = record {
     given = r .given;
     rules = r .rules;
@@ -97,11 +97,11 @@ module _ {read read₂ : LineReader} {book book₂ line line₂ : List ℕ} {uni
     holds = r .holds;
   }
 
-  pub reduced-as : {work′ output′ : List ℕ} {r : D.Answer} →
-      answeredBy read book line units budget day schedule work output ≡ answeredBy read₂ book₂ line₂ units budget day schedule work output →
-      ((A : Answer) → RunBy read book line units budget day schedule work output A → RunBy read₂ book₂ line₂ units budget day schedule work output A) →
-      ReducedBy read book line units budget day schedule work output work′ output′ r →
-      ReducedBy read₂ book₂ line₂ units budget day schedule work output work′ output′ r
+  pub reduced-as : {work′ net′ output′ : List ℕ} {r : D.Answer} →
+      answeredBy read book line units budget day schedule work net output ≡ answeredBy read₂ book₂ line₂ units budget day schedule work net output →
+      ((A : Answer) → RunBy read book line units budget day schedule work net output A → RunBy read₂ book₂ line₂ units budget day schedule work net output A) →
+      ReducedBy read book line units budget day schedule work net output work′ net′ output′ r →
+      ReducedBy read₂ book₂ line₂ units budget day schedule work net output work′ net′ output′ r
   reduced-as e f h = record {
     answer = h .answer ∙ ap values-of e;
     unchanged = λ k x. h .unchanged k (e ∙ x);
@@ -111,17 +111,17 @@ module _ {read read₂ : LineReader} {book book₂ line line₂ : List ℕ} {uni
   }
 
 -- what stands behind a book's first 65,536 bytes is not looked at
-same-answer : (read : LineReader) (book line : List ℕ) (units budget day : ℕ) (schedule work output : List ℕ) → 65536 ≤ length book →
-    answeredBy read book line units budget day schedule work output ≡ answeredBy read (take 65536 book) line units budget day schedule work output
+same-answer : (read : LineReader) (book line : List ℕ) (units budget day : ℕ) (schedule work net output : List ℕ) → 65536 ≤ length book →
+    answeredBy read book line units budget day schedule work net output ≡ answeredBy read (take 65536 book) line units budget day schedule work net output
 unfolding answerBy frame-fault run-checked
-same-answer read book line units budget day schedule work output long =
-    let q : Request = request book line units budget day schedule work output in
+same-answer read book line units budget day schedule work net output long =
+    let q : Request = request book line units budget day schedule work net output in
     ap (λ (x : Result AnyBook). unless (frame-fault published q) (for-book read q x)) (read-any-prefix book long)
 
-pub reduced-prefix : {read : LineReader} {book line : List ℕ} {units budget day : ℕ} {schedule work output work′ output′ : List ℕ} {r : D.Answer} →
+pub reduced-prefix : {read : LineReader} {book line : List ℕ} {units budget day : ℕ} {schedule work net output work′ net′ output′ : List ℕ} {r : D.Answer} →
     65536 ≤ length book →
-    ReducedBy read (take 65536 book) line units budget day schedule work output work′ output′ r →
-    ReducedBy read book line units budget day schedule work output work′ output′ r
-reduced-prefix {read} {book} {line} {units} {budget} {day} {schedule} {work} {output} long =
-    reduced-as (sym (same-answer read book line units budget day schedule work output long))
+    ReducedBy read (take 65536 book) line units budget day schedule work net output work′ net′ output′ r →
+    ReducedBy read book line units budget day schedule work net output work′ net′ output′ r
+reduced-prefix {read} {book} {line} {units} {budget} {day} {schedule} {work} {net} {output} long =
+    reduced-as (sym (same-answer read book line units budget day schedule work net output long))
     (λ A r. run-as r (read-any-prefix book long ∙ r .book-read) (r .line-read))

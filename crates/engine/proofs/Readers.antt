@@ -1,7 +1,7 @@
 -- A line or a text, once it is checked, is a term in front of the symbols, and the run of that term answers it. Assumes nothing.
 use mathlib.Core.List.{List, _++_}
-use mathlib.Core.Path.{_≡_, refl, sym, ap, _∙_, subst}
-use Prim.Native.Nat.{ℕ, _≤_}
+use mathlib.Core.Path.{_≡_, refl, sym, ap, _∙_, subst, subst₂}
+use Prim.Native.Nat.{ℕ, _≤_, _<_}
 use native.Mathlib.Omega.{arith}
 use lib.ListN.{length, take, drop, length-append, length-drop}
 use lib.Seq.{take-at}
@@ -80,33 +80,37 @@ pub by-tables : {read : LineReader} {book operators rules line symbols : List �
 by-tables {book = book} {rules = rules} tables e q = q .is (book-of book rules) (sym e) (tables .tables .operators-in)
 
 pub loaded : {read : LineReader} {book operators rules line symbols : List ℕ} {n : ℕ} → TablesOf book operators rules →
-    Taken read (book-of book rules) line symbols n → Loaded book operators rules symbols n
-loaded tables t = record { tables = tables; long = t .long; most = t .most; term = t .term; term-read = t .term-read }
+    day-in rules < 65536 → Taken read (book-of book rules) line symbols n → Loaded book operators rules symbols n
+loaded tables d t = record { tables = tables; day = d; long = t .long; most = t .most; term = t .term; term-read = t .term-read }
 
 -- THE RUN of the term answers what it is read from
 
-module _ {read : LineReader} {line symbols : List ℕ} {m : ℕ} (budget : ℕ) (schedule : List ℕ) {book operators rules work output : List ℕ} {units : ℕ}
-    (f : Framed book units work output) (tables : TablesOf book operators rules) (t : Taken read (book-of book rules) line symbols m) where
+module _ {read : LineReader} {line symbols : List ℕ} {m : ℕ} (budget : ℕ) (schedule : List ℕ) {book operators rules work net output : List ℕ} {units : ℕ}
+    (f : Framed book units work net output) (tables : TablesOf book operators rules) (t : Taken read (book-of book rules) line symbols m) where
   abbrev front : List ℕ
   front = take m symbols
 
-  same-term : answeredBy read book line units budget (day-in rules) schedule work output ≡ answered book front units budget (day-in rules) schedule work output
+  same-term : answeredBy read book line units budget (day-in rules) schedule work net output ≡ answered book front units budget (day-in rules) schedule work net output
   unfolding run-checked
   same-term =
       let b = tables .read in
-      of-run read (request book line units budget (day-in rules) schedule work output) (framed _ (f .faultless)) (any-book book) b (t .term) (t .line-read)
-      ∙ sym (of-run readLine (request book front units budget (day-in rules) schedule work output) (framed _ (f .faultless)) (any-book book) b (t .term) (t .term-read))
+      of-run read (request book line units budget (day-in rules) schedule work net output) (framed _ (f .faultless)) (any-book book) b (t .term) (t .line-read)
+      ∙ sym (of-run readLine (request book front units budget (day-in rules) schedule work net output) (framed _ (f .faultless)) (any-book book) b (t .term) (t .term-read))
 
-  pub reduced-alike : {work′ output′ : List ℕ} {r : D.Answer} → Reduced book front units budget (day-in rules) schedule work output work′ output′ r →
-      ReducedBy read book line units budget (day-in rules) schedule work output work′ output′ r
+  pub reduced-alike : {work′ net′ output′ : List ℕ} {r : D.Answer} → Reduced book front units budget (day-in rules) schedule work net output work′ net′ output′ r →
+      ReducedBy read book line units budget (day-in rules) schedule work net output work′ net′ output′ r
   reduced-alike = reduced-as (sym same-term) (λ A r.
       let e : book-of book rules ≡ r .rules = ap (on-day (day-in rules)) (accepted-injective (sym (tables .read) ∙ r .book-read)) ∙ sym (r .of-day) in
       run-as r (r .book-read)
       (ap (λ (B : Book). read B line) (sym e) ∙ t .line-read ∙ sym (t .term-read) ∙ ap (λ (B : Book). readLine B front) e ∙ r .line-read))
 
--- on the day that was asked for, if the tables are of it
-pub on-its-day : {read : LineReader} {book line : List ℕ} {units budget day table : ℕ} {schedule work output work′ output′ : List ℕ} {r : D.Answer} →
-    table ≡ day → ReducedBy read book line units budget table schedule work output work′ output′ r →
-    ReducedBy read book line units budget day schedule work output work′ output′ r
-on-its-day {read} {book} {line} {units} {budget} {schedule = schedule} {work} {output} {work′} {output′} {r} =
-    subst (λ (d : ℕ). ReducedBy read book line units budget d schedule work output work′ output′ r)
+-- with as many units
+pub framed-as : {book work net output : List ℕ} {units few : ℕ} → few ≡ units → Framed book units work net output → Framed book few work net output
+framed-as {book} {work} {net} {output} e = subst (λ (u : ℕ). Framed book u work net output) (sym e)
+
+-- on the day that was asked for, if the tables are of it, and with as many units
+pub as-asked : {read : LineReader} {book line : List ℕ} {units few budget day table : ℕ} {schedule work net output work′ net′ output′ : List ℕ} {r : D.Answer} →
+    few ≡ units → table ≡ day → ReducedBy read book line few budget table schedule work net output work′ net′ output′ r →
+    ReducedBy read book line units budget day schedule work net output work′ net′ output′ r
+as-asked {read} {book} {line} {budget = budget} {schedule = schedule} {work} {net} {output} {work′} {net′} {output′} {r} =
+    subst₂ (λ (u d : ℕ). ReducedBy read book line u budget d schedule work net output work′ net′ output′ r)

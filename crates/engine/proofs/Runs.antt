@@ -34,7 +34,9 @@ use Rattle.term.specs.Present.{operators-in, sizes-in}
 use Rattle.term.specs.Contracts as T
 use Rattle.term.proofs.Skipping.{sizes-book, spells-book}
 use Rattle.term.proofs.Sized.{loaded-length, loaded-operators, loaded-sized}
-use Rattle.units.specs.Stacks.{store, units-in}
+use Rattle.net.specs.Net.{book-by}
+use Rattle.insertion.specs.Contracts.{Built}
+use Rattle.units.specs.Stacks.{store}
 use Rattle.units.specs.Contracts.{Started}
 use Rattle.whole.specs.declared.Limits.{Limits}
 use Rattle.entry.specs.State.{limited, state, Arrays}
@@ -48,8 +50,14 @@ use Rattle.engine.proofs.Schedule.{named}
 use Rattle.engine.proofs.Frame.{Frame, framed, frame-of}
 use Rattle.engine.proofs.Answers.{by-run}
 
-module _ (budget : ℕ) (schedule : List ℕ) {book table rules bytes work output : List ℕ} {n units : ℕ} (f : Framed book units work output)
-    (s : Loaded book table rules bytes n) (names : all-below units schedule ≡ true) where
+module _ (l : Limits) (schedule : List ℕ) {book table rules bytes work net output : List ℕ} {n : ℕ} (f : Framed book (l .units) work net output)
+    (s : Loaded book table rules bytes n) (names : all-below (l .units) schedule ≡ true) where
+  abbrev units : ℕ
+  units = l .units
+
+  abbrev budget : ℕ
+  budget = l .budget
+
   abbrev B : Book
   B = book-of book rules
 
@@ -57,7 +65,7 @@ module _ (budget : ℕ) (schedule : List ℕ) {book table rules bytes work outpu
   abbrev line : List ℕ
   line = take n bytes
 
-  abbrev fits : Frame units (length work) (length output)
+  abbrev fits : Frame units (length work) (length net) (length output)
   fits = frame-of (f .faultless)
 
   -- they are a correct term's preorder, of known operators
@@ -82,9 +90,9 @@ module _ (budget : ℕ) (schedule : List ℕ) {book table rules bytes work outpu
   unfolding flat-start
   known-first = of-line .3
 
-  -- behind load and start: the line's symbols with their sizes, and the units of the start, as many as there are
-  module _ {symbols w cells : List ℕ} {l : Limits} (loaded : T.Loaded (arity-in table) line n symbols) (started : Started (store w cells))
-      (same : l .units ≡ units) (limit : l .budget ≡ budget) (small : budget < 2 ^ 32) where
+  -- behind build, load and start: the net of the book's rules, the line's symbols with their sizes, and the units of the start, as many as there are
+  module _ {ways symbols w cells : List ℕ} (built : Built book table rules net ways) (loaded : T.Loaded (arity-in table) line n symbols)
+      (started : Started (store w cells)) (small : budget < 2 ^ 32) where
     abbrev first : FlatState
     first = state symbols w cells beginning l
 
@@ -98,7 +106,7 @@ module _ (budget : ℕ) (schedule : List ℕ) {book table rules bytes work outpu
 
     first-is : first ≡ flat-start (arity B) units line
     unfolding flat-start
-    first-is = rw (operators-are, sizes-are, ap (units-in (store w cells)) same ∙ started .units units (fits .some-units) (fits .few))
+    first-is = rw (operators-are, sizes-are, started .units units (fits .some-units) (fits .few))
 
     arrays : (scratch : List ℕ) → length scratch ≡ 1024 → Arrays symbols scratch w cells l
     arrays scratch k = record {
@@ -106,25 +114,26 @@ module _ (budget : ℕ) (schedule : List ℕ) {book table rules bytes work outpu
       scratch-long = k;
       most = omega (arith, loaded-length (arity-in table) line n symbols (s .most) one-term loaded, s .most);
       fit = started .fit;
-      few = omega (arith, same, fits .few);
+      few = omega (arith, fits .few);
     }
 
-    runnable : Runnable book table rules l schedule first
+    runnable : Runnable book table ways l schedule first
     runnable = record {
       running = record {
-        tables = s .tables;
+        netted = built .of-book;
         short = f .short;
-        reached = subst₂ (λ (b : ℕ) (x : FlatState). Reached B (limited b) x) (sym limit) (sym first-is) reached-first;
-        known = subst (λ (x : FlatState). All (λ o. o < length (B .operators)) (x .symbols)) (sym first-is) known-first;
+        reached = subst₂ (λ (C : Book) (x : FlatState). Reached C (limited budget) x) (sym (built .same-book)) (sym first-is) reached-first;
+        known =
+            subst₂ (λ (C : Book) (x : FlatState). All (λ o. o < length (C .operators)) (x .symbols)) (sym (built .same-book)) (sym first-is) known-first;
       };
-      named = rw same (named units schedule names);
-      small = rw limit small;
+      named = named units schedule names;
+      small = small;
     }
 
-    pub ready : (scratch : List ℕ) → length scratch ≡ 1024 → Arrays symbols scratch w cells l × Runnable book table rules l schedule first
+    pub ready : (scratch : List ℕ) → length scratch ≡ 1024 → Arrays symbols scratch w cells l × Runnable book table ways l schedule first
     ready scratch k = (arrays scratch k, runnable)
 
-    module _ {symbols′ : List ℕ} {r : R.Run} (is : Run.answer r symbols′ ≡ flat-run-from B (limited (l .budget)) 0 schedule first)
+    module _ {symbols′ : List ℕ} {r : R.Run} (is : Run.answer r symbols′ ≡ flat-run-from (book-by book ways) (limited budget) 0 schedule first)
         (bounded : Bounded l schedule symbols′ r) where
       abbrev A : Answer
       A = run B (limited budget) units schedule (s .term)
@@ -133,7 +142,7 @@ module _ (budget : ℕ) (schedule : List ℕ) {book table rules bytes work outpu
       answer-is : Run.answer r symbols′ ≡ flatten A
       unfolding flat-run
       answer-is =
-          is ∙ ap₂ (λ (b : ℕ) (x : FlatState). flat-run-from B (limited b) 0 schedule x) limit first-is
+          is ∙ ap₂ (λ (C : Book) (x : FlatState). flat-run-from C (limited budget) 0 schedule x) (built .same-book) first-is
           ∙ same-run-read book line (any-book book) (day-in rules) (s .term) (s .tables .read) (s .term-read) (limited budget) units schedule
 
       term-is : operators (take (r .length) symbols′) ≡ preorder (A .term)
@@ -158,7 +167,7 @@ module _ (budget : ℕ) (schedule : List ℕ) {book table rules bytes work outpu
           ap₂ (λ (a : FlatAnswer) (n : ℕ).
           accepted (record { ending = a .ending; rewrites = a .rewrites; entries = a .entries; granted = a .granted; kept = a .kept; length = n })) answer-is length-is
 
-      run-of : RunOf book line units budget (day-in rules) schedule work output A
+      run-of : RunOf book line units budget (day-in rules) schedule work net output A
       unfolding run
       run-of =
           let d = demand-3 book line (any-book book) (day-in rules) (s .term) (s .tables .read) (s .term-read) units budget schedule in
@@ -178,28 +187,29 @@ module _ (budget : ℕ) (schedule : List ℕ) {book table rules bytes work outpu
               posting = d .posting;
               grants = grants B sound (s .term) (of-line .0) (limited budget) units schedule;
               accounted = accounted B sound (s .term) (of-line .0) (limited budget) units schedule;
-              allowed = omega (arith, rewrites-are, bounded .allowed, limit);
+              allowed = omega (arith, rewrites-are, bounded .allowed);
               used = omega (arith, entries-are, bounded .used);
               forks-within = forks-within B sound (s .term) (of-line .0) (limited budget) units schedule;
               fits = omega (arith, length-is, bounded .most);
             };
           }
 
-      pub reduced : {work′ output′ : List ℕ} → work′ ≡ replicate (length work) 0 → output′ ≡ operators (take (r .length) symbols′) ++ drop (r .length) output →
-          Reduced book line units budget (day-in rules) schedule work output work′ output′ (D.Answer.Ran r)
-      reduced {output′ = output′} e o = record {
+      pub reduced : {work′ net′ output′ : List ℕ} → work′ ≡ replicate (length work) 0 → net′ ≡ replicate (length ways) 0 →
+          output′ ≡ operators (take (r .length) symbols′) ++ drop (r .length) output →
+          Reduced book line units budget (day-in rules) schedule work net output work′ net′ output′ (D.Answer.Ran r)
+      reduced {output′ = output′} e z o = record {
         answer = values-are ∙ ap values-of (sym told);
         unchanged = λ k h. absurd (refused-accepted (sym h ∙ told));
-        cleared = λ A′ h. e;
+        cleared = λ A′ h. (e, z ∙ ap (λ (k : ℕ). replicate k 0) (built .long));
         written = λ A′ h. subst (λ (x : Answer). output′ ≡ preorder (x .term) ++ drop (length (preorder (x .term))) output) (only h)
             (o ∙ ap₂ (λ (xs : List ℕ) (n : ℕ). xs ++ drop n output) term-is length-is);
-        run-of = λ A′ h. subst (RunOf book line units budget (day-in rules) schedule work output) (only h) run-of;
+        run-of = λ A′ h. subst (RunOf book line units budget (day-in rules) schedule work net output) (only h) run-of;
       }
         where
-          told : answered book line units budget (day-in rules) schedule work output ≡ accepted A
+          told : answered book line units budget (day-in rules) schedule work net output ≡ accepted A
           told =
-              let q : Request = request book line units budget (day-in rules) schedule work output in
+              let q : Request = request book line units budget (day-in rules) schedule work net output in
               by-run readLine q (framed q (f .faultless)) (any-book book) (s .tables .read) (s .term) (s .term-read) names
 
-          only : {A′ : Answer} → answered book line units budget (day-in rules) schedule work output ≡ accepted A′ → A ≡ A′
+          only : {A′ : Answer} → answered book line units budget (day-in rules) schedule work net output ≡ accepted A′ → A ≡ A′
           only h = accepted-injective (sym told ∙ h)

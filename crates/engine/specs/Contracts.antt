@@ -2,12 +2,13 @@
 use mathlib.Core.List.{List, []}
 use mathlib.Core.Option.{Option, none, some}
 use mathlib.Core.Path.{_≡_}
-use Prim.Native.Nat.{ℕ, _≤_}
+use Prim.Native.Nat.{ℕ, _≤_, _<_}
 use lib.ListN.{length, take}
 use Rattle.paper.specs.Result.{refused, accepted}
 use Rattle.paper.specs.Book.{Term, Book}
 use Rattle.paper.specs.Line.{readLine}
-use Rattle.paper.specs.Page.{LineReader, frame-fault}
+use Rattle.paper.specs.Page.{Request, LineReader, frame-fault}
+use Rattle.tables.specs.Layout.{day-in}
 use Rattle.tables.specs.Tables.{book-of, Operators, TablesOf}
 use Rattle.text.specs.declared.Text as T
 use Rattle.engine.specs.Spec.{published}
@@ -17,18 +18,23 @@ abbrev pub fault-number : Option ℕ → ℕ
 fault-number none = 0
 fault-number (some k) = k
 
-abbrev pub fault : ℕ → ℕ → ℕ → ℕ
-fault units work output =
-    fault-number (frame-fault published (record { book = []; line = []; units = units; budget = 0; day = 0; schedule = []; work = work; output = output }))
+-- what the frame's check looks at
+abbrev pub frame : ℕ → ℕ → ℕ → ℕ → Request
+frame units work net output =
+    record { book = []; line = []; units = units; budget = 0; day = 0; schedule = []; work = work; net = net; output = output }
+
+abbrev pub fault : ℕ → ℕ → ℕ → ℕ → ℕ
+fault units work net output = fault-number (frame-fault published (frame units work net output))
 
 -- the run's frame is without fault, and the book no longer than any book is
-pub record Framed (book : List ℕ) (units : ℕ) (work output : List ℕ) : Type 0 where
-  pub faultless : fault units (length work) (length output) ≡ 0
+pub record Framed (book : List ℕ) (units : ℕ) (work net output : List ℕ) : Type 0 where
+  pub faultless : fault units (length work) (length net) (length output) ≡ 0
   pub short : length book ≤ 65536
 
--- these are the book's tables on a day, and the first n symbols are a term by it
+-- these are the book's tables on a day of 16 bits, and the first n symbols are a term by it
 pub record Loaded (book operators rules symbols : List ℕ) (n : ℕ) : Type 0 where
   pub tables : TablesOf book operators rules
+  pub day : day-in rules < 65536
   pub long : length symbols ≡ 1024
   pub most : n ≤ 1024
   pub term : Term

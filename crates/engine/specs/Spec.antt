@@ -1,5 +1,5 @@
 -- The entry points of a run: which definition their answers equal, and what becomes of the lent buffers (document 01, 'What is checked where', 'How a
--- run ends', 'What a reviewer will try, in order'; document 02, Changes 1 to 3 and 5). Assumes nothing.
+-- run ends', 'What a reviewer will try, in order'; document 02, Changes 1 to 3, 5 and 8). Assumes nothing.
 use mathlib.Core.Bool.{true}
 use mathlib.Core.List.{List, _++_}
 use mathlib.Core.Path.{_≡_}
@@ -17,16 +17,16 @@ use Rattle.paper.specs.Run.{Answer, run}
 use Rattle.paper.specs.OneUnit.{Grants, Accounted}
 use Rattle.paper.specs.Demand3.{Demand3}
 use Rattle.paper.specs.Idle.{Helps}
-use Rattle.paper.specs.Page.{Request, LineReader, all-below, answerBy}
+use Rattle.paper.specs.Page.{Request, Lengths, LineReader, all-below, answerBy}
 use Rattle.entry.specs.State.{limited}
 use Rattle.run.specs.Contracts.{ending}
 use Rattle.run.specs.declared.Run as C
 use Rattle.engine.specs.declared.Answer as D
 use Rattle.engine.specs.declared.Form as F
 
--- the published length of the work area: eight stacks of 1,026 frames of three bytes
-abbrev pub published : ℕ
-published = 24624
+-- the published lengths of the work area, eight stacks of 1,026 frames of three bytes, and of the net's area, 3,840 bytes
+abbrev pub published : Lengths
+published = record { work = 24624; net = 3840 }
 
 -- ANSWERS
 
@@ -76,9 +76,9 @@ abbrev pub reader : F.Form → LineReader
 reader F.Form.Term = readLine
 reader F.Form.Text = readText
 
--- of the two buffers that are lent to be written, only their lengths are asked with
-abbrev pub request : List ℕ → List ℕ → ℕ → ℕ → ℕ → List ℕ → List ℕ → List ℕ → Request
-request book line units budget day schedule work output = record {
+-- of the three buffers that are lent to be written, only their lengths are asked with
+abbrev pub request : List ℕ → List ℕ → ℕ → ℕ → ℕ → List ℕ → List ℕ → List ℕ → List ℕ → Request
+request book line units budget day schedule work net output = record {
   book = book;
   line = line;
   units = units;
@@ -86,6 +86,7 @@ request book line units budget day schedule work output = record {
   day = day;
   schedule = schedule;
   work = length work;
+  net = length net;
   output = length output;
 }
 
@@ -111,9 +112,9 @@ pub record RunHolds (rules : Book) (term : Term) (units budget : ℕ) (schedule 
   pub fits : length (preorder (A .term)) ≤ 1024
 
 -- by either reader
-module _ (read : LineReader) (book line : List ℕ) (units budget day : ℕ) (schedule work output : List ℕ) where
+module _ (read : LineReader) (book line : List ℕ) (units budget day : ℕ) (schedule work net output : List ℕ) where
   abbrev pub answeredBy : Result Answer
-  answeredBy = answerBy read published (request book line units budget day schedule work output)
+  answeredBy = answerBy read published (request book line units budget day schedule work net output)
 
   -- A is the answer of a run by the book that was read, in its form, with the rules that stand on the run's day (an undated book has the same on every
   -- day), from the term that the line is read as
@@ -128,29 +129,29 @@ module _ (read : LineReader) (book line : List ℕ) (units budget day : ℕ) (sc
     pub holds : RunHolds rules term units budget schedule A
 
   -- Book, line and schedule are lent to be read, so they are unchanged. The answer and the output are said by `answeredBy`, which is asked with the
-  -- work area's length alone, so nothing depends on what it held (proofs/Laws, forgets).
-  pub record ReducedBy (work′ output′ : List ℕ) (r : D.Answer) : Type 0 where
+  -- lengths of work area and net alone, so nothing depends on what they held (proofs/Laws, forgets).
+  pub record ReducedBy (work′ net′ output′ : List ℕ) (r : D.Answer) : Type 0 where
     -- the answer is the definition's
     pub answer : values r ≡ values-of answeredBy
     -- on a refusal every lent buffer is unchanged
-    pub unchanged : (k : ℕ) → answeredBy ≡ refused k → (work′ ≡ work) × (output′ ≡ output)
-    -- after an accepted run the work area is all zero, at its full length
-    pub cleared : (A : Answer) → answeredBy ≡ accepted A → work′ ≡ replicate (length work) 0
+    pub unchanged : (k : ℕ) → answeredBy ≡ refused k → (work′ ≡ work) × (net′ ≡ net) × (output′ ≡ output)
+    -- after an accepted run work area and net are all zero, at their full lengths
+    pub cleared : (A : Answer) → answeredBy ≡ accepted A → (work′ ≡ replicate (length work) 0) × (net′ ≡ replicate (length net) 0)
     -- the output has the present term in front, and its other bytes as they were
     pub written : (A : Answer) → answeredBy ≡ accepted A → output′ ≡ preorder (A .term) ++ drop (length (preorder (A .term))) output
     -- the answer is that of a run, of which demand 3 holds
     pub run-of : (A : Answer) → answeredBy ≡ accepted A → RunBy A
 
 -- of a line
-abbrev pub answered : List ℕ → List ℕ → ℕ → ℕ → ℕ → List ℕ → List ℕ → List ℕ → Result Answer
+abbrev pub answered : List ℕ → List ℕ → ℕ → ℕ → ℕ → List ℕ → List ℕ → List ℕ → List ℕ → Result Answer
 answered = answeredBy readLine
 
-abbrev pub RunOf : List ℕ → List ℕ → ℕ → ℕ → ℕ → List ℕ → List ℕ → List ℕ → Answer → Type 0
+abbrev pub RunOf : List ℕ → List ℕ → ℕ → ℕ → ℕ → List ℕ → List ℕ → List ℕ → List ℕ → Answer → Type 0
 RunOf = RunBy readLine
 
-abbrev pub Reduced : List ℕ → List ℕ → ℕ → ℕ → ℕ → List ℕ → List ℕ → List ℕ → List ℕ → List ℕ → D.Answer → Type 0
+abbrev pub Reduced : List ℕ → List ℕ → ℕ → ℕ → ℕ → List ℕ → List ℕ → List ℕ → List ℕ → List ℕ → List ℕ → List ℕ → D.Answer → Type 0
 Reduced = ReducedBy readLine
 
 -- of a payee's text
-abbrev pub PayeeReduced : List ℕ → List ℕ → ℕ → ℕ → ℕ → List ℕ → List ℕ → List ℕ → List ℕ → List ℕ → D.Answer → Type 0
+abbrev pub PayeeReduced : List ℕ → List ℕ → ℕ → ℕ → ℕ → List ℕ → List ℕ → List ℕ → List ℕ → List ℕ → List ℕ → List ℕ → D.Answer → Type 0
 PayeeReduced = ReducedBy readText

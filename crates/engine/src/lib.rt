@@ -1,4 +1,4 @@
-// The entry points of a run: any book, line or text, units, budget, schedule, work area and output are taken. What is asked is checked in the order
+// The entry points of a run: any book, line or text, units, budget, schedule, work area, net and output are taken. What is asked is checked in the order
 // of document 01's table, then the run is made; nothing lent is written before the last check has passed.
 use book::Book;
 use line::Line;
@@ -8,8 +8,8 @@ use whole::Limits;
 ghost use mathlib.Core.Bool.{true};
 ghost use mathlib.Core.List.{_++_};
 ghost use mathlib.Core.Path.{_≡_};
-ghost use Prim.Native.Nat.{ℕ, _≤_, _<_};
-ghost use lib.ListN.{length, take, drop};
+ghost use Prim.Native.Nat.{ℕ, _^_, _≤_, _<_};
+ghost use lib.ListN.{length, take, drop, replicate};
 ghost use Rattle.paper.specs.Page.{all-below};
 ghost use Rattle.symbol.specs.Record as S;
 ghost use Rattle.tables.specs.Layout.{day-in};
@@ -17,8 +17,10 @@ ghost use Rattle.engine.specs.Spec as R;
 ghost use Rattle.engine.specs.Contracts as C;
 ghost use Rattle.engine.specs.declared.Answer as D;
 
-// The published length of the work area, and the length that an output must have; published in specs/Spec is the same number.
+// The published lengths of the work area and of the net's, and the length that an output must have; published in specs/Spec has the same numbers.
 pub const WORK: usize = 24624;
+
+pub const NET: usize = net::NET;
 
 pub const OUTPUT: usize = 1024;
 
@@ -41,7 +43,7 @@ fn larger(x: u8, y: u8) -> u8
 }
 
 // Does every entry name one of the units? The largest is looked for, which takes no early leave, so that many are compared at a time.
-fn names_units(schedule: &[u8], units: u8) -> bool
+fn names_units(schedule: &[u8], units: usize) -> bool
     requires { ⌜ 0 < units ⌝ }
     ensures { λ r. ⌜ r ≡ all-below units (now (schedule .entry)) ⌝ }
 {
@@ -51,7 +53,7 @@ fn names_units(schedule: &[u8], units: u8) -> bool
         most = larger(most, schedule[i]);
         i += 1;
     }
-    most < units
+    casts::index(most) < units
 }
 
 // The line's symbols, to the front of the array.
@@ -78,38 +80,49 @@ fn hand_out(symbols: &[u32; 1024], n: usize, output: &mut [u8])
     }
 }
 
-// The run of the term in front of the line, whose symbols get their sizes here. The work area is cleared whole behind it.
+// Every byte becomes 0.
+fn clear(area: &mut [u8])
+    ensures { λ _. ⌜ now (area .exit) ≡ replicate (length (now (area .entry))) 0 ⌝ }
+{
+    let mut at = 0;
+    while at < area.len() {
+        area[at] = 0;
+        at += 1;
+    }
+}
+
+// The run of the term in front of the line, whose symbols get their sizes here, by the net of the book's rules. Work area and net are cleared whole behind
+// it.
 fn post(
     book: &[u8],
     operators: &[u8; 4352],
-    rules: &[u32; 1024],
+    rules: &[u32; 512],
     line: &[u8; 1024],
     length: usize,
-    units: u8,
-    budget: u32,
+    limits: Limits,
     schedule: &[u8],
     work: &mut [u8],
+    net: &mut [u8],
     output: &mut [u8],
 ) -> Run
-    requires { ⌜ C.Framed (now book) units (now work) (now output) ⌝ }
+    requires { ⌜ C.Framed (now book) (limits .units) (now work) (now net) (now output) ⌝ }
     requires { ⌜ C.Loaded (now book) (now operators) (now rules) (now line) length ⌝ }
-    requires { ⌜ all-below units (now schedule) ≡ true ⌝ }
-    ensures { λ r. ⌜ R.Reduced (now (book .entry)) (take length (now (line .entry))) units budget (day-in (now (rules .entry)))
-        (now (schedule .entry)) (now (work .entry)) (now (output .entry)) (now (work .exit)) (now (output .exit)) (D.Answer.Ran r) ⌝ }
+    requires { ⌜ limits .budget < 2 ^ 32 ⌝ }
+    requires { ⌜ all-below (limits .units) (now schedule) ≡ true ⌝ }
+    ensures { λ r. ⌜ R.Reduced (now (book .entry)) (take length (now (line .entry))) (limits .units) (limits .budget) (day-in (now (rules .entry)))
+        (now (schedule .entry)) (now (work .entry)) (now (net .entry)) (now (output .entry)) (now (work .exit)) (now (net .exit))
+        (now (output .exit)) (D.Answer.Ran r) ⌝ }
 {
+    insertion::build(book, operators, rules, net);
     let mut symbols = [0u32; 1024];
     term::load(&mut symbols, operators, line, length);
     let mut scratch = [0u32; 1024];
     let mut cells = [0; 8];
     units::start(work, &mut cells);
-    let limits = Limits {
-        units: casts::index(units),
-        budget,
-    };
     let run = run::run_schedule(
         book,
         operators,
-        rules,
+        net,
         &mut symbols,
         &mut scratch,
         work,
@@ -118,7 +131,8 @@ fn post(
         schedule,
     );
     hand_out(&symbols, run.length, output);
-    units::clear(work);
+    clear(work);
+    clear(net);
     run
 }
 
@@ -126,21 +140,22 @@ fn post(
 fn run_checked(
     book: &[u8],
     operators: &[u8; 4352],
-    rules: &[u32; 1024],
+    rules: &[u32; 512],
     line: &[u8; 1024],
     length: usize,
-    units: u8,
-    budget: u32,
+    limits: Limits,
     schedule: &[u8],
     work: &mut [u8],
+    net: &mut [u8],
     output: &mut [u8],
 ) -> Answer
-    requires { ⌜ C.Framed (now book) units (now work) (now output) ⌝ }
+    requires { ⌜ C.Framed (now book) (limits .units) (now work) (now net) (now output) ⌝ }
     requires { ⌜ C.Loaded (now book) (now operators) (now rules) (now line) length ⌝ }
-    ensures { λ r. ⌜ R.Reduced (now (book .entry)) (take length (now (line .entry))) units budget (day-in (now (rules .entry)))
-        (now (schedule .entry)) (now (work .entry)) (now (output .entry)) (now (work .exit)) (now (output .exit)) r ⌝ }
+    requires { ⌜ limits .budget < 2 ^ 32 ⌝ }
+    ensures { λ r. ⌜ R.Reduced (now (book .entry)) (take length (now (line .entry))) (limits .units) (limits .budget) (day-in (now (rules .entry)))
+        (now (schedule .entry)) (now (work .entry)) (now (net .entry)) (now (output .entry)) (now (work .exit)) (now (net .exit)) (now (output .exit)) r ⌝ }
 {
-    if !names_units(schedule, units) {
+    if !names_units(schedule, limits.units) {
         return Answer::Refused(14);
     }
     Answer::Ran(post(
@@ -149,10 +164,10 @@ fn run_checked(
         rules,
         line,
         length,
-        units,
-        budget,
+        limits,
         schedule,
         work,
+        net,
         output,
     ))
 }
@@ -190,11 +205,12 @@ fn reduce_book(
     day: u16,
     schedule: &[u8],
     work: &mut [u8],
+    net: &mut [u8],
     output: &mut [u8],
 ) -> Answer
-    requires { ⌜ C.Framed (now book) units (now work) (now output) ⌝ }
+    requires { ⌜ C.Framed (now book) units (now work) (now net) (now output) ⌝ }
     ensures { λ r. ⌜ R.ReducedBy (R.reader form) (now (book .entry)) (now (given .entry)) units budget day (now (schedule .entry)) (now (work .entry))
-        (now (output .entry)) (now (work .exit)) (now (output .exit)) r ⌝ }
+        (now (net .entry)) (now (output .entry)) (now (work .exit)) (now (net .exit)) (now (output .exit)) r ⌝ }
 {
     let mut operators = [0u8; tables::OPERATORS];
     let mut rules = [0u32; tables::RULES];
@@ -209,19 +225,22 @@ fn reduce_book(
                 &rules,
                 &line,
                 length,
-                units,
-                budget,
+                Limits {
+                    units: casts::index(units),
+                    budget,
+                },
                 schedule,
                 work,
+                net,
                 output,
             ),
         },
     }
 }
 
-// The refusal's number of the run's frame, or 0: 13, units not 1 to 8; 15, work area too short; 16, output too short.
-fn frame_fault(units: u8, work: usize, output: usize) -> u8
-    ensures { λ r. ⌜ r ≡ C.fault units work output ⌝ }
+// The refusal's number of the run's frame, or 0: 13, units not 1 to 8; 15, work area or net too short; 16, output too short.
+fn frame_fault(units: u8, work: usize, net: usize, output: usize) -> u8
+    ensures { λ r. ⌜ r ≡ C.fault units work net output ⌝ }
 {
     if units == 0 {
         return 13;
@@ -229,7 +248,7 @@ fn frame_fault(units: u8, work: usize, output: usize) -> u8
     if 8 < units {
         return 13;
     }
-    if work < WORK {
+    if work < WORK || net < NET {
         return 15;
     }
     if output < OUTPUT {
@@ -249,12 +268,13 @@ pub fn reduce_form(
     day: u16,
     schedule: &[u8],
     work: &mut [u8],
+    net: &mut [u8],
     output: &mut [u8],
 ) -> Answer
     ensures { λ r. ⌜ R.ReducedBy (R.reader form) (now (book .entry)) (now (line .entry)) units budget day (now (schedule .entry)) (now (work .entry))
-        (now (output .entry)) (now (work .exit)) (now (output .exit)) r ⌝ }
+        (now (net .entry)) (now (output .entry)) (now (work .exit)) (now (net .exit)) (now (output .exit)) r ⌝ }
 {
-    let fault = frame_fault(units, work.len(), output.len());
+    let fault = frame_fault(units, work.len(), net.len(), output.len());
     if fault != 0 {
         return Answer::Refused(fault);
     }
@@ -269,10 +289,22 @@ pub fn reduce_form(
             day,
             schedule,
             work,
+            net,
             output,
         );
     }
-    reduce_book(form, book, line, units, budget, day, schedule, work, output)
+    reduce_book(
+        form,
+        book,
+        line,
+        units,
+        budget,
+        day,
+        schedule,
+        work,
+        net,
+        output,
+    )
 }
 
 // The run of a line by a book.
@@ -284,10 +316,11 @@ pub fn reduce(
     day: u16,
     schedule: &[u8],
     work: &mut [u8],
+    net: &mut [u8],
     output: &mut [u8],
 ) -> Answer
-    ensures { λ r. ⌜ R.Reduced (now (book .entry)) (now (line .entry)) units budget day (now (schedule .entry)) (now (work .entry)) (now (output .entry))
-        (now (work .exit)) (now (output .exit)) r ⌝ }
+    ensures { λ r. ⌜ R.Reduced (now (book .entry)) (now (line .entry)) units budget day (now (schedule .entry)) (now (work .entry))
+        (now (net .entry)) (now (output .entry)) (now (work .exit)) (now (net .exit)) (now (output .exit)) r ⌝ }
 {
     reduce_form(
         Form::Term,
@@ -298,6 +331,7 @@ pub fn reduce(
         day,
         schedule,
         work,
+        net,
         output,
     )
 }
@@ -311,10 +345,11 @@ pub fn payee(
     day: u16,
     schedule: &[u8],
     work: &mut [u8],
+    net: &mut [u8],
     output: &mut [u8],
 ) -> Answer
-    ensures { λ r. ⌜ R.PayeeReduced (now (book .entry)) (now (text .entry)) units budget day (now (schedule .entry)) (now (work .entry)) (now (output .entry))
-        (now (work .exit)) (now (output .exit)) r ⌝ }
+    ensures { λ r. ⌜ R.PayeeReduced (now (book .entry)) (now (text .entry)) units budget day (now (schedule .entry)) (now (work .entry))
+        (now (net .entry)) (now (output .entry)) (now (work .exit)) (now (net .exit)) (now (output .exit)) r ⌝ }
 {
     reduce_form(
         Form::Text,
@@ -325,6 +360,7 @@ pub fn payee(
         day,
         schedule,
         work,
+        net,
         output,
     )
 }

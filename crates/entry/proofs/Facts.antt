@@ -26,13 +26,14 @@ use Rattle.flat.proofs.Tops.{stack-some}
 use Rattle.symbol.specs.Record.{operator}
 use Rattle.symbol.proofs.Record.{front-length, operator-front}
 use Rattle.tables.specs.Layout.{step, step-of, code-in, arity-in, steps-in, Rowed}
-use Rattle.tables.specs.Tables.{book-of}
 use Rattle.tables.specs.declared.Step as D
 use Rattle.tables.proofs.Step.{the-type}
 use Rattle.tables.proofs.Rows.{here-is}
 use Rattle.tables.proofs.Laws.{all-at, steps-at, rowed-at}
 use Rattle.term.specs.Present.{length-in, Sized}
 use Rattle.term.proofs.Skipping.{sizes-book, spells-book}
+use Rattle.net.specs.Net.{book-by}
+use Rattle.net.proofs.Laws.{tables-by}
 use Rattle.units.specs.Stacks.{store, height-in, busy-in, unit-in}
 use Rattle.units.specs.Contracts.{Top-is, Has-frame}
 use Rattle.units.specs.declared.frames.Job.{Job}
@@ -44,10 +45,10 @@ use Rattle.entry.specs.State.{limited, state, Arrays}
 use Rattle.entry.specs.Contracts.{Running, Turn, Working}
 
 -- a state of a run, and unit u whose turn it is
-module _ {bytes operators rules symbols scratch work units : List ℕ} {u : ℕ} {p : Progress} {l : Limits} (z : Arrays symbols scratch work units l)
-    (r : Running bytes operators rules l (state symbols work units p l)) (t : Turn l u (state symbols work units p l)) where
+module _ {bytes operators net symbols scratch work units : List ℕ} {u : ℕ} {p : Progress} {l : Limits} (z : Arrays symbols scratch work units l)
+    (r : Running bytes operators net l (state symbols work units p l)) (t : Turn l u (state symbols work units p l)) where
   abbrev pub B : Book
-  B = book-of bytes rules
+  B = book-by bytes net
 
   abbrev pub L : paper.Limits
   L = limited (l .budget)
@@ -58,16 +59,16 @@ module _ {bytes operators rules symbols scratch work units : List ℕ} {u : ℕ}
   -- THE STATE
 
   pub is-sound : Sound B
-  is-sound = good-book-sound B (r .tables .tables .good)
+  is-sound = good-book-sound B (tables-by (r .netted) .good)
 
   pub is-settled : Settled B
-  is-settled = good-settled B (r .tables .tables .good)
+  is-settled = good-settled B (tables-by (r .netted) .good)
 
   pub rules-hold : Rules B L s
   rules-hold = reached.rules B is-sound is-settled L s (r .reached)
 
   pub numbers-hold : Numbers s
-  numbers-hold = reached.numbers B (r .tables .tables .good) L s rules-hold
+  numbers-hold = reached.numbers B (tables-by (r .netted) .good) L s rules-hold
 
   pub length-is : length (s .symbols) ≡ length-in symbols
   length-is = front-length operator (length-in symbols) symbols (omega (arith, z .most, z .symbols-long))
@@ -75,7 +76,7 @@ module _ {bytes operators rules symbols scratch work units : List ℕ} {u : ℕ}
   -- the present term has true sizes by the table's arities too
   pub sized : Sized (arity-in operators) symbols
   sized =
-      let t = r .tables .tables .operators-in in
+      let t = tables-by (r .netted) .operators-in in
       record {
         long = z .symbols-long;
         most = z .most;
@@ -161,10 +162,10 @@ module _ {bytes operators rules symbols scratch work units : List ℕ} {u : ℕ}
         (all-at (λ q. q < length (B .operators)) 0 (s .symbols) (x .offset) (r .known) (omega (arith, length-is, offset-inside)))
 
     pub rowed : Rowed operators o
-    rowed = rowed-at (r .tables .tables) o operator-known
+    rowed = rowed-at (tables-by (r .netted)) o operator-known
 
     pub steps-are : steps-in operators o ≡ steps B o
-    steps-are = steps-at (r .tables .tables) o operator-known
+    steps-are = steps-at (tables-by (r .netted)) o operator-known
 
     pub can-proceed : Can-proceed x u (store work units)
     can-proceed = record {

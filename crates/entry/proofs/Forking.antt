@@ -16,6 +16,7 @@ use Rattle.flat.specs.Rules.{stack}
 use Rattle.flat.proofs.Idle.{idle-is, idle-other}
 use Rattle.flat.proofs.Inside.{fork-within}
 use Rattle.tables.specs.Layout.{step-of, code-in, steps-in}
+use Rattle.net.proofs.Laws.{tables-by}
 use Rattle.units.specs.Stacks.{store, height-in, units-in}
 use Rattle.units.specs.declared.frames.Job.{Job}
 use Rattle.orders.specs.Contracts as O
@@ -28,8 +29,8 @@ use Rattle.entry.specs.Contracts.{Running, Turn, Working, forked}
 use Rattle.entry.proofs.Facts as F
 use Rattle.entry.proofs.Orders as orders
 
-module _ {bytes operators rules symbols scratch work units : List ℕ} {u : ℕ} {p : Progress} {l : Limits} (z : Arrays symbols scratch work units l)
-    (r : Running bytes operators rules l (state symbols work units p l)) (t : Turn l u (state symbols work units p l)) {x : Job}
+module _ {bytes operators net symbols scratch work units : List ℕ} {u : ℕ} {p : Progress} {l : Limits} (z : Arrays symbols scratch work units l)
+    (r : Running bytes operators net l (state symbols work units p l)) (t : Turn l u (state symbols work units p l)) {x : Job}
     (w : Working work units u x) (one : 1 ≤ x .next) {i : ℕ} (e : some (Step.fork i) ≡ step-of (code-in operators (F.o z r t w) (x .next - 1))) where
   abbrev s : FlatState
   s = state symbols work units p l
@@ -45,7 +46,7 @@ module _ {bytes operators rules symbols scratch work units : List ℕ} {u : ℕ}
 
   fork-there : i < arity (F.B z r t) (F.o z r t w)
   fork-there =
-      fork-within (F.B z r t) (r .tables .tables .good) (F.o z r t w) (x .next - 1) i (drop (x .next) (steps (F.B z r t) (F.o z r t w)))
+      fork-within (F.B z r t) (tables-by (r .netted) .good) (F.o z r t w) (x .next - 1) i (drop (x .next) (steps (F.B z r t) (F.o z r t w)))
       (F.operator-known z r t w) (F.step-is z r t w one e)
 
   pub fork-place : O.Argument-rowed operators symbols x i
@@ -55,7 +56,7 @@ module _ {bytes operators rules symbols scratch work units : List ℕ} {u : ℕ}
   there = orders.argument-there z r t w one fork-there
 
   said : a ≡ argument-by (F.B z r t) (s .symbols) x i
-  said = argument-said (r .tables .tables) (s .symbols) (r .known) x i there
+  said = argument-said (tables-by (r .netted)) (s .symbols) (r .known) x i there
 
   -- by the answer of the search for an idle unit
   by-idle : (v : Option ℕ) → idle (s .units) ≡ v →
@@ -108,7 +109,7 @@ module _ {bytes operators rules symbols scratch work units : List ℕ} {u : ℕ}
       subst (λ (q : Progress). (going (state symbols work′ units′ q l) ≡ flat-entry (F.B z r t) (F.L z r t) u s) × Arrays symbols scratch work′ units′ l) (sym h) (
         sym (
             F.entry-is z r t (w .busy) (w .top)
-            ∙ entries.fork-entry (F.B z r t) (F.L z r t) u (l .units) s (store work units) refl (t .one) _ fs (F.unit-is z r t (w .busy) (w .top)) (r .tables .tables)
+            ∙ entries.fork-entry (F.B z r t) (F.L z r t) u (l .units) s (store work units) refl (t .one) _ fs (F.unit-is z r t (w .busy) (w .top)) (tables-by (r .netted))
             (r .known) x (omega (arith, F.offset-inside z r t w, F.length-is z r t)) one (omega (arith, F.next-most z r t w)) i
             (subst (λ (q : ℕ). some (Step.fork i) ≡ step-of (code-in operators q (x .next - 1))) (sym (F.operator-is z r t w)) e) there
             (subst (λ (q : ℕ). O.Forked (steps-in operators q) x a (l .units) u (store work units) (store work′ units′) g) (sym (F.operator-is z r t w)) d)

@@ -17,6 +17,7 @@ use Rattle.flat.specs.Rules.{stack}
 use Rattle.flat.proofs.Inside.{visit-within, exit-unit}
 use Rattle.flat.proofs.Sizes.{arguments-inside}
 use Rattle.tables.specs.Layout.{step-of, code-in, steps-in, Rowed}
+use Rattle.net.proofs.Laws.{tables-by}
 use Rattle.units.specs.Stacks.{store, busy-in, units-in, unit-in}
 use Rattle.units.specs.Contracts.{Top-is, Stacks-fit, Has-frame, Cell-changed, idled}
 use Rattle.units.specs.declared.frames.Job.{Job}
@@ -30,8 +31,8 @@ use Rattle.entry.specs.State.{state, Arrays}
 use Rattle.entry.specs.Contracts.{Running, Turn, Working}
 use Rattle.entry.proofs.Facts as F
 
-module _ {bytes operators rules symbols scratch work units : List ℕ} {u : ℕ} {p : Progress} {l : Limits} (z : Arrays symbols scratch work units l)
-    (r : Running bytes operators rules l (state symbols work units p l)) (t : Turn l u (state symbols work units p l)) where
+module _ {bytes operators net symbols scratch work units : List ℕ} {u : ℕ} {p : Progress} {l : Limits} (z : Arrays symbols scratch work units l)
+    (r : Running bytes operators net l (state symbols work units p l)) (t : Turn l u (state symbols work units p l)) where
   abbrev s : FlatState
   s = state symbols work units p l
 
@@ -107,7 +108,7 @@ module _ {bytes operators rules symbols scratch work units : List ℕ} {u : ℕ}
         went-on (d .change .fit)
         (F.entry-is z r t (w .busy) (w .top)
         ∙ ap (λ (k : ℕ). carry-out (F.B z r t) (F.L z r t) u s fs (Frame.job (x .offset) k (x .count))) none
-        ∙ entries.visit-entry (F.B z r t) (F.L z r t) u (l .units) s (store work units) refl (t .one) _ fs (F.unit-is z r t (w .busy) (w .top)) (r .tables .tables)
+        ∙ entries.visit-entry (F.B z r t) (F.L z r t) u (l .units) s (store work units) refl (t .one) _ fs (F.unit-is z r t (w .busy) (w .top)) (tables-by (r .netted))
         (r .known) (x .offset) (x .count) inside
         (by-operator (λ (q : ℕ). O.Visited (steps-in operators q) (x .offset) u (store work units) (store work′ units′)) d))
 
@@ -118,7 +119,7 @@ module _ {bytes operators rules symbols scratch work units : List ℕ} {u : ℕ}
           do-step (F.B z r t) (F.L z r t) u s (x .offset) (x .next) (x .count) (y ∷ drop (x .next) (steps-in operators o)) fs
       step-entry {y} e =
           F.entry-is z r t (w .busy) (w .top)
-          ∙ entries.step-entry (F.B z r t) (F.L z r t) u (l .units) s (store work units) refl (t .one) _ fs (F.unit-is z r t (w .busy) (w .top)) (r .tables .tables)
+          ∙ entries.step-entry (F.B z r t) (F.L z r t) u (l .units) s (store work units) refl (t .one) _ fs (F.unit-is z r t (w .busy) (w .top)) (tables-by (r .netted))
           (r .known) x inside one (omega (arith, F.next-most z r t w)) y (by-operator (λ (q : ℕ). some y ≡ step-of (code-in operators q (x .next - 1))) e)
           ∙ ap (λ (q : ℕ). do-step (F.B z r t) (F.L z r t) u s (x .offset) (x .next) (x .count) (y ∷ drop (x .next) (steps-in operators q)) fs)
           (F.operator-is z r t w)
@@ -141,14 +142,14 @@ module _ {bytes operators rules symbols scratch work units : List ℕ} {u : ℕ}
 
         pub argument-asks : O.Argument-rowed operators symbols x i
         argument-asks =
-            argument-place (r .tables .tables) symbols x i (r .known) (F.sized z r t) (F.offset-inside z r t w)
+            argument-place (tables-by (r .netted)) symbols x i (r .known) (F.sized z r t) (F.offset-inside z r t w)
             (by-operator (λ (q : ℕ). i < arity (F.B z r t) q) there)
 
       -- VISIT of argument i
       module _ {i : ℕ} (e : some (Step.visit i) ≡ step-of (code-in operators o (x .next - 1))) where
         visit-there : i < arity (F.B z r t) o
         visit-there =
-            visit-within (F.B z r t) (r .tables .tables .good) o (x .next - 1) i (drop (x .next) (steps (F.B z r t) o)) (F.operator-known z r t w)
+            visit-within (F.B z r t) (tables-by (r .netted) .good) o (x .next - 1) i (drop (x .next) (steps (F.B z r t) o)) (F.operator-known z r t w)
             (F.step-is z r t w one e)
 
         pub visit-place : O.Argument-rowed operators symbols x i
@@ -161,7 +162,7 @@ module _ {bytes operators rules symbols scratch work units : List ℕ} {u : ℕ}
         visit-fits : O.Room-for (O.visits (steps-in operators o) x a) u (store work units)
         unfolding do-step visit
         visit-fits =
-            let said = argument-said (r .tables .tables) (s .symbols) (r .known) x i (argument-there visit-there) in
+            let said = argument-said (tables-by (r .netted)) (s .symbols) (r .known) x i (argument-there visit-there) in
             subst₂ (λ (b : O.Argument) (gs : List Frame). length (O.visits (steps-in operators o) x b gs) ≤ 1026) (sym said)
             (sym (F.stack-kept z r t u (t .one)))
             (next-fits true (O.visits (steps-in operators o) x (argument-by (F.B z r t) (s .symbols) x i) (stack s u)) (step-entry e))
@@ -174,7 +175,7 @@ module _ {bytes operators rules symbols scratch work units : List ℕ} {u : ℕ}
             went-on (d .change .fit)
             (F.entry-is z r t (w .busy) (w .top)
             ∙ entries.visit-argument-entry (F.B z r t) (F.L z r t) u (l .units) s (store work units) refl (t .one) _ fs (F.unit-is z r t (w .busy) (w .top))
-            (r .tables .tables) (r .known) x inside one (omega (arith, F.next-most z r t w)) i
+            (tables-by (r .netted)) (r .known) x inside one (omega (arith, F.next-most z r t w)) i
             (by-operator (λ (q : ℕ). some (Step.visit i) ≡ step-of (code-in operators q (x .next - 1))) e)
             (argument-there visit-there)
             (by-operator (λ (q : ℕ). O.Argument-visited (steps-in operators q) x a u (store work units) (store work′ units′)) d))
@@ -185,7 +186,7 @@ module _ {bytes operators rules symbols scratch work units : List ℕ} {u : ℕ}
       joined {c} e {work′} {units′} d =
           went-on (d .change .fit)
           (F.entry-is z r t (w .busy) (w .top)
-          ∙ entries.join-entry (F.B z r t) (F.L z r t) u (l .units) s (store work units) refl (t .one) _ fs (F.unit-is z r t (w .busy) (w .top)) (r .tables .tables)
+          ∙ entries.join-entry (F.B z r t) (F.L z r t) u (l .units) s (store work units) refl (t .one) _ fs (F.unit-is z r t (w .busy) (w .top)) (tables-by (r .netted))
           (r .known) x inside one (omega (arith, F.next-most z r t w)) c
           (by-operator (λ (q : ℕ). some (Step.join c) ≡ step-of (code-in operators q (x .next - 1))) e) refl
           (by-operator (λ (q : ℕ). O.Joined (steps-in operators q) x u (store work units) (store work′ units′)) d))
@@ -197,7 +198,7 @@ module _ {bytes operators rules symbols scratch work units : List ℕ} {u : ℕ}
       missed e h {work′} {units′} d =
           went-on (d .change .fit)
           (F.entry-is z r t (w .busy) (w .top)
-          ∙ entries.whole-entry (F.B z r t) (F.L z r t) u (l .units) s (store work units) refl (t .one) _ fs (F.unit-is z r t (w .busy) (w .top)) (r .tables .tables)
+          ∙ entries.whole-entry (F.B z r t) (F.L z r t) u (l .units) s (store work units) refl (t .one) _ fs (F.unit-is z r t (w .busy) (w .top)) (tables-by (r .netted))
           (r .known) x inside one (omega (arith, F.next-most z r t w))
           (by-operator (λ (q : ℕ). some Step.whole ≡ step-of (code-in operators q (x .next - 1))) e) h
           (by-operator (λ (q : ℕ). O.Proceeded (steps-in operators q) x u (store work units) (store work′ units′)) d))

@@ -8,7 +8,7 @@ use mathlib.Core.Bool.{true, false}
 use Prim.Native.Nat.{ℕ, suc, _+_, _-_, _^_, _≤_, _<_}
 use native.Mathlib.Nat.{le-trans}
 use native.Mathlib.Omega.{arith}
-use lib.ListN.{length, drop}
+use lib.ListN.{length, getD, drop}
 use Rattle.paper.specs.Strategy.{Step}
 use Rattle.paper.specs.Book.{Book, arity}
 use Rattle.paper.specs.Machine as paper
@@ -19,13 +19,14 @@ use Rattle.flat.specs.Symbols.{Hit, rewrite}
 use Rattle.flat.specs.Machine.{Frame, FlatUnit, unit, FlatState, FlatOutcome, going, ended, with-unit, with-units, proceed, do-step, do-whole, flat-entry}
 use Rattle.flat.specs.Rules.{stack, Rules}
 use Rattle.flat.proofs.Tallies.{Tallied, tallied-next}
+use Rattle.symbol.specs.Record.{operator}
 use Rattle.tables.specs.Layout.{step-of, code-in, steps-in, Rowed}
 use Rattle.term.specs.Present.{length-in}
+use Rattle.lookup.specs.Contracts.{Present}
 use Rattle.units.specs.Stacks.{store, Below, Offsets, units-in}
 use Rattle.units.proofs.Units.{at-is}
 use Rattle.units.specs.declared.frames.Job.{Job}
 use Rattle.orders.specs.Contracts as O
-use Rattle.rule.specs.Contracts.{Present}
 use Rattle.whole.specs.State as whole
 use Rattle.whole.specs.Contracts as W
 use Rattle.whole.specs.declared.Whole as D
@@ -56,22 +57,26 @@ offsets-of m fs h = all-of _ fs below
 offsets-inside : {B : Book} {L : paper.Limits} {s : FlatState} → Rules B L s → All (λ (x : FlatUnit). Offsets (length (s .symbols)) (x .stack)) (s .units)
 offsets-inside {s = s} r = all-units _ (s .units) (λ v. offsets-of (length (s .symbols)) (stack s v) (r .offsets v))
 
-module _ {bytes operators rules symbols scratch work units : List ℕ} {u : ℕ} {p : Progress} {l : Limits} (z : Arrays symbols scratch work units l)
-    (r : Running bytes operators rules l (state symbols work units p l)) (t : Turn l u (state symbols work units p l)) {x : Job}
-    (w : Working work units u x) (n : Next operators symbols x Step.whole) {y : Place} (at : y .unit ≡ u) (off : y .offset ≡ x .offset) where
+module _ {bytes operators net symbols scratch work units : List ℕ} {u : ℕ} {p : Progress} {l : Limits} (z : Arrays symbols scratch work units l)
+    (r : Running bytes operators net l (state symbols work units p l)) (t : Turn l u (state symbols work units p l)) {x : Job}
+    (w : Working work units u x) (n : Next operators symbols x Step.whole) {y : Place} (at : y .unit ≡ u) (off : y .offset ≡ x .offset)
+    (named : y .operator ≡ operator (getD symbols (x .offset) 0)) where
   abbrev s : FlatState
   s = state symbols work units p l
 
   -- WHAT IS ASKED
 
-  pub whole-present : Present bytes operators rules symbols (y .offset)
+  pub whole-present : Present bytes operators net symbols (y .offset)
   whole-present = record {
-    tables = r .tables;
+    netted = r .netted;
     short = le-trans (r .short) (omega arith);
     sized = F.sized z r t;
     inside = omega (arith, off, F.offset-inside z r t w);
     known = r .known;
   }
+
+  pub whole-operator : y .operator ≡ operator (getD symbols (y .offset) 0)
+  whole-operator = rw off named
 
   -- with one unit the jobs below stand before the one on top
   before : l .units ≡ 1 → Offsets (y .offset) (drop 1 (stack s (y .unit)))

@@ -12,7 +12,7 @@ use Rattle.flat.specs.Machine.{Frame, FlatState, FlatOutcome, going, ended, fla
 use Rattle.flat.specs.Run.{Reached}
 use Rattle.symbol.specs.Record.{operator}
 use Rattle.tables.specs.Layout.{step-of, code-in}
-use Rattle.tables.specs.Tables.{book-of, TablesOf}
+use Rattle.net.specs.Net.{book-by, NetOf}
 use Rattle.units.specs.Stacks.{busy-in, store}
 use Rattle.units.specs.Contracts.{Top-is}
 use Rattle.units.specs.declared.frames.Job.{Job}
@@ -21,12 +21,12 @@ use Rattle.whole.specs.declared.Limits.{Limits}
 use Rattle.entry.specs.State.{limited}
 use Rattle.entry.specs.declared.Entry.{Entry}
 
--- the tables are a book's, and s is a state that runs by it reach
-pub record Running (bytes operators rules : List ℕ) (l : Limits) (s : FlatState) : Type 0 where
-  pub tables : TablesOf bytes operators rules
+-- the operators and the net are of a book, and s is a state that runs by it reach
+pub record Running (bytes operators net : List ℕ) (l : Limits) (s : FlatState) : Type 0 where
+  pub netted : NetOf bytes operators net
   pub short : length bytes ≤ 65536
-  pub reached : Reached (book-of bytes rules) (limited (l .budget)) s
-  pub known : All (λ o. o < length (book-of bytes rules .operators)) (s .symbols)
+  pub reached : Reached (book-by bytes net) (limited (l .budget)) s
+  pub known : All (λ o. o < length (book-by bytes net .operators)) (s .symbols)
 
 -- u is one of the units, and there is a next number for each count
 pub record Turn (l : Limits) (u : ℕ) (s : FlatState) : Type 0 where
@@ -66,4 +66,4 @@ pub record Next (operators symbols : List ℕ) (x : Job) (y : Step) : Type 0 whe
 
 -- what the machine on lists does for unit u in the state s
 abbrev pub entered : List ℕ → List ℕ → Limits → ℕ → FlatState → FlatOutcome
-entered bytes rules l u s = flat-entry (book-of bytes rules) (limited (l .budget)) u s
+entered bytes net l u s = flat-entry (book-by bytes net) (limited (l .budget)) u s

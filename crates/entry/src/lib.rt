@@ -14,7 +14,6 @@ ghost use Rattle.paper.specs.Strategy as P;
 ghost use Rattle.flat.specs.Machine.{FlatState, flat-entry};
 ghost use Rattle.symbol.specs.Record.{operator};
 ghost use Rattle.tables.specs.Layout.{step-of, code-in};
-ghost use Rattle.tables.specs.Tables.{book-of};
 ghost use Rattle.whole.specs.State.{progress};
 ghost use Rattle.whole.specs.declared.Whole as W;
 ghost use Rattle.entry.specs.State as S;
@@ -65,7 +64,7 @@ fn rewritten(p: Progress) -> Progress
 fn rewrite(
     book: &[u8],
     operators: &[u8; 4352],
-    rules: &[u32; 1024],
+    net: &[u8],
     symbols: &mut [u32; 1024],
     scratch: &mut [u32; 1024],
     work: &mut [u8],
@@ -77,20 +76,24 @@ fn rewrite(
     ghost { FlatState }
     requires { λ s. ⌜ S.state (now symbols) (now work) (now units) p l ≡ s ⌝ }
     requires { λ s. ⌜ S.Arrays (now symbols) (now scratch) (now work) (now units) l ⌝ }
-    requires { λ s. ⌜ E.Running (now book) (now operators) (now rules) l s × E.Turn l (task .unit) s × E.Working (now work) (now units) (task .unit) (task .job) × (task .operator ≡ operator (getD (now symbols) (task .job .offset) 0)) ⌝ }
+    requires { λ s. ⌜ E.Running (now book) (now operators) (now net) l s × E.Turn l (task .unit) s × E.Working (now work) (now units) (task .unit) (task .job) × (task .operator ≡ operator (getD (now symbols) (task .job .offset) 0)) ⌝ }
     requires { λ s. ⌜ E.Next (now operators) (now symbols) (task .job) P.Step.whole ⌝ }
-    ensures { λ s r. ⌜ E.outcome r (S.state (now (symbols .exit)) (now (work .exit)) (now (units .exit)) (E.after p r) l) ≡ E.entered (now (book .entry)) (now (rules .entry)) l (task .unit) s ⌝ }
+    ensures { λ s r. ⌜ E.outcome r (S.state (now (symbols .exit)) (now (work .exit)) (now (units .exit)) (E.after p r) l) ≡ E.entered (now (book .entry)) (now (net .entry)) l (task .unit) s ⌝ }
     ensures { λ s r. ⌜ S.Arrays (now (symbols .exit)) (now (scratch .exit)) (now (work .exit)) (now (units .exit)) l ⌝ }
 {
     let u = task.unit;
     let job = task.job;
     let a = casts::offset(job.offset);
     let o = task.operator;
-    let place = Place { unit: u, offset: a };
+    let place = Place {
+        unit: u,
+        offset: a,
+        operator: o,
+    };
     match whole::rewrite(
         book,
         operators,
-        rules,
+        net,
         symbols,
         scratch,
         work,
@@ -113,7 +116,7 @@ fn rewrite(
 fn step(
     book: &[u8],
     operators: &[u8; 4352],
-    rules: &[u32; 1024],
+    net: &[u8],
     symbols: &mut [u32; 1024],
     scratch: &mut [u32; 1024],
     work: &mut [u8],
@@ -125,9 +128,9 @@ fn step(
     ghost { FlatState }
     requires { λ s. ⌜ S.state (now symbols) (now work) (now units) p l ≡ s ⌝ }
     requires { λ s. ⌜ S.Arrays (now symbols) (now scratch) (now work) (now units) l ⌝ }
-    requires { λ s. ⌜ E.Running (now book) (now operators) (now rules) l s × E.Turn l (task .unit) s × E.Working (now work) (now units) (task .unit) (task .job) × (task .operator ≡ operator (getD (now symbols) (task .job .offset) 0)) ⌝ }
+    requires { λ s. ⌜ E.Running (now book) (now operators) (now net) l s × E.Turn l (task .unit) s × E.Working (now work) (now units) (task .unit) (task .job) × (task .operator ≡ operator (getD (now symbols) (task .job .offset) 0)) ⌝ }
     requires { λ s. ⌜ 1 ≤ task .job .next ⌝ }
-    ensures { λ s r. ⌜ E.outcome r (S.state (now (symbols .exit)) (now (work .exit)) (now (units .exit)) (E.after p r) l) ≡ E.entered (now (book .entry)) (now (rules .entry)) l (task .unit) s ⌝ }
+    ensures { λ s r. ⌜ E.outcome r (S.state (now (symbols .exit)) (now (work .exit)) (now (units .exit)) (E.after p r) l) ≡ E.entered (now (book .entry)) (now (net .entry)) l (task .unit) s ⌝ }
     ensures { λ s r. ⌜ S.Arrays (now (symbols .exit)) (now (scratch .exit)) (now (work .exit)) (now (units .exit)) l ⌝ }
 {
     let u = task.unit;
@@ -150,7 +153,7 @@ fn step(
         _ => rewrite(
             book,
             operators,
-            rules,
+            net,
             symbols,
             scratch,
             work,
@@ -166,7 +169,7 @@ fn step(
 fn carry_out(
     book: &[u8],
     operators: &[u8; 4352],
-    rules: &[u32; 1024],
+    net: &[u8],
     symbols: &mut [u32; 1024],
     scratch: &mut [u32; 1024],
     work: &mut [u8],
@@ -178,8 +181,8 @@ fn carry_out(
     ghost { FlatState }
     requires { λ s. ⌜ S.state (now symbols) (now work) (now units) p l ≡ s ⌝ }
     requires { λ s. ⌜ S.Arrays (now symbols) (now scratch) (now work) (now units) l ⌝ }
-    requires { λ s. ⌜ E.Running (now book) (now operators) (now rules) l s × E.Turn l (task .unit) s × E.Working (now work) (now units) (task .unit) (task .job) × (task .operator ≡ operator (getD (now symbols) (task .job .offset) 0)) ⌝ }
-    ensures { λ s r. ⌜ E.outcome r (S.state (now (symbols .exit)) (now (work .exit)) (now (units .exit)) (E.after p r) l) ≡ E.entered (now (book .entry)) (now (rules .entry)) l (task .unit) s ⌝ }
+    requires { λ s. ⌜ E.Running (now book) (now operators) (now net) l s × E.Turn l (task .unit) s × E.Working (now work) (now units) (task .unit) (task .job) × (task .operator ≡ operator (getD (now symbols) (task .job .offset) 0)) ⌝ }
+    ensures { λ s r. ⌜ E.outcome r (S.state (now (symbols .exit)) (now (work .exit)) (now (units .exit)) (E.after p r) l) ≡ E.entered (now (book .entry)) (now (net .entry)) l (task .unit) s ⌝ }
     ensures { λ s r. ⌜ S.Arrays (now (symbols .exit)) (now (scratch .exit)) (now (work .exit)) (now (units .exit)) l ⌝ }
 {
     let u = task.unit;
@@ -191,7 +194,7 @@ fn carry_out(
     step(
         book,
         operators,
-        rules,
+        net,
         symbols,
         scratch,
         work,
@@ -206,7 +209,7 @@ fn carry_out(
 pub fn enter(
     book: &[u8],
     operators: &[u8; 4352],
-    rules: &[u32; 1024],
+    net: &[u8],
     symbols: &mut [u32; 1024],
     scratch: &mut [u32; 1024],
     work: &mut [u8],
@@ -218,8 +221,8 @@ pub fn enter(
     ghost { FlatState }
     requires { λ s. ⌜ S.state (now symbols) (now work) (now units) p l ≡ s ⌝ }
     requires { λ s. ⌜ S.Arrays (now symbols) (now scratch) (now work) (now units) l ⌝ }
-    requires { λ s. ⌜ E.Running (now book) (now operators) (now rules) l s × E.Turn l u s ⌝ }
-    ensures { λ s r. ⌜ E.outcome r (S.state (now (symbols .exit)) (now (work .exit)) (now (units .exit)) (E.after p r) l) ≡ E.entered (now (book .entry)) (now (rules .entry)) l u s ⌝ }
+    requires { λ s. ⌜ E.Running (now book) (now operators) (now net) l s × E.Turn l u s ⌝ }
+    ensures { λ s r. ⌜ E.outcome r (S.state (now (symbols .exit)) (now (work .exit)) (now (units .exit)) (E.after p r) l) ≡ E.entered (now (book .entry)) (now (net .entry)) l u s ⌝ }
     ensures { λ s r. ⌜ S.Arrays (now (symbols .exit)) (now (scratch .exit)) (now (work .exit)) (now (units .exit)) l ⌝ }
 {
     if !units::is_busy(units, u) {
@@ -231,7 +234,7 @@ pub fn enter(
             carry_out(
                 book,
                 operators,
-                rules,
+                net,
                 symbols,
                 scratch,
                 work,

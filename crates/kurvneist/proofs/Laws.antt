@@ -38,10 +38,10 @@ six (u ∷ v ∷ w ∷ x ∷ y ∷ z ∷ l) a b c d e f h = ap (λ l. a ∷ b �
     none (x ∷ l) h = absurd (omega arith)
 
 -- a run's answer as numbers
-pub reduced : {read : LineReader} {book line : List ℕ} {units budget day : ℕ} {schedule work output work′ output′ answer′ : List ℕ} {n : ℕ} {r : A.Answer} →
-    R.ReducedBy read book line units budget day schedule work output work′ output′ r →
+pub reduced : {read : LineReader} {book line : List ℕ} {units budget day : ℕ} {schedule work net output work′ net′ output′ answer′ : List ℕ} {n : ℕ} {r : A.Answer} →
+    R.ReducedBy read book line units budget day schedule work net output work′ net′ output′ r →
     (n ≡ X.refusal (R.values r)) × (answer′ ≡ X.value-numbers (R.values r)) →
-    X.Reduced-in-numbers-by read book line units budget day schedule work output work′ output′ answer′ n
+    X.Reduced-in-numbers-by read book line units budget day schedule work net output work′ net′ output′ answer′ n
 reduced {r = r} q e =
     record { number = e .0 ∙ ap X.refusal (q .answer); values = e .1 ∙ ap X.value-numbers (q .answer); answer = r; buffers = q }
 
@@ -52,12 +52,12 @@ wrote r l q h = record { answer = r; is = q; number = refl; length = one l (X.wr
 
 -- NEVER 6
 
-module _ {book line : List ℕ} {units budget day : ℕ} {schedule work output work′ output′ answer′ : List ℕ} {r : ℕ} where
-  never : (read : LineReader) → R.answeredBy read book line units budget day schedule work output ≢ refused 6 →
-      X.Reduced-in-numbers-by read book line units budget day schedule work output work′ output′ answer′ r → r ≢ 6
-  never read n h e = go (R.answeredBy read book line units budget day schedule work output) refl
+module _ {book line : List ℕ} {units budget day : ℕ} {schedule work net output work′ net′ output′ answer′ : List ℕ} {r : ℕ} where
+  never : (read : LineReader) → R.answeredBy read book line units budget day schedule work net output ≢ refused 6 →
+      X.Reduced-in-numbers-by read book line units budget day schedule work net output work′ net′ output′ answer′ r → r ≢ 6
+  never read n h e = go (R.answeredBy read book line units budget day schedule work net output) refl
     where
-      go : (x : Result Answer) → R.answeredBy read book line units budget day schedule work output ≡ x → ⊥
+      go : (x : Result Answer) → R.answeredBy read book line units budget day schedule work net output ≡ x → ⊥
       go (refused k) f =
           let i : r ≡ k = h .number ∙ ap (λ (x : Result Answer). X.refusal (R.values-of x)) f in
           n (f ∙ ap refused (sym i ∙ e))
@@ -65,11 +65,11 @@ module _ {book line : List ℕ} {units budget day : ℕ} {schedule work output w
           let i : r ≡ 0 = h .number ∙ ap (λ (x : Result Answer). X.refusal (R.values-of x)) f in
           omega arith
 
-  pub reduced-not-six : X.Reduced-in-numbers book line units budget day schedule work output work′ output′ answer′ r → r ≢ 6
-  reduced-not-six = never readLine (answer-not-six R.published (R.request book line units budget day schedule work output))
+  pub reduced-not-six : X.Reduced-in-numbers book line units budget day schedule work net output work′ net′ output′ answer′ r → r ≢ 6
+  reduced-not-six = never readLine (answer-not-six R.published (R.request book line units budget day schedule work net output))
 
-  pub payee-reduced-not-six : X.Payee-in-numbers book line units budget day schedule work output work′ output′ answer′ r → r ≢ 6
-  payee-reduced-not-six = never readText (payee-not-six R.published (R.request book line units budget day schedule work output))
+  pub payee-reduced-not-six : X.Payee-in-numbers book line units budget day schedule work net output work′ net′ output′ answer′ r → r ≢ 6
+  payee-reduced-not-six = never readText (payee-not-six R.published (R.request book line units budget day schedule work net output))
 
 pub wrote-not-six : {book output output′ length′ : List ℕ} {r : ℕ} → X.Wrote-in-numbers book output output′ length′ r → r ≢ 6
 wrote-not-six {r = r} h e = go (h .answer) refl

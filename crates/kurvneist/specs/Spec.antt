@@ -23,21 +23,21 @@ value-numbers (refused k) = 0 ∷ 0 ∷ 0 ∷ 0 ∷ 0 ∷ 0 ∷ []
 value-numbers (accepted v) = ending-number (v .ending) ∷ v .rewrites ∷ v .entries ∷ v .granted ∷ v .kept ∷ v .length ∷ []
 
 -- by either reader
-module _ (read : LineReader) (book line : List ℕ) (units budget day : ℕ) (schedule work output : List ℕ) where
-  pub record Reduced-in-numbers-by (work′ output′ answer′ : List ℕ) (r : ℕ) : Type 0 where
+module _ (read : LineReader) (book line : List ℕ) (units budget day : ℕ) (schedule work net output : List ℕ) where
+  pub record Reduced-in-numbers-by (work′ net′ output′ answer′ : List ℕ) (r : ℕ) : Type 0 where
     -- the definition's number and values
-    pub number : r ≡ refusal (R.values-of (R.answeredBy read book line units budget day schedule work output))
-    pub values : answer′ ≡ value-numbers (R.values-of (R.answeredBy read book line units budget day schedule work output))
+    pub number : r ≡ refusal (R.values-of (R.answeredBy read book line units budget day schedule work net output))
+    pub values : answer′ ≡ value-numbers (R.values-of (R.answeredBy read book line units budget day schedule work net output))
     -- what becomes of the lent buffers, clause by clause
     pub answer : A.Answer
-    pub buffers : R.ReducedBy read book line units budget day schedule work output work′ output′ answer
+    pub buffers : R.ReducedBy read book line units budget day schedule work net output work′ net′ output′ answer
 
 -- of a line
-abbrev pub Reduced-in-numbers : List ℕ → List ℕ → ℕ → ℕ → ℕ → List ℕ → List ℕ → List ℕ → List ℕ → List ℕ → List ℕ → ℕ → Type 0
+abbrev pub Reduced-in-numbers : List ℕ → List ℕ → ℕ → ℕ → ℕ → List ℕ → List ℕ → List ℕ → List ℕ → List ℕ → List ℕ → List ℕ → List ℕ → ℕ → Type 0
 Reduced-in-numbers = Reduced-in-numbers-by readLine
 
 -- of a payee's text
-abbrev pub Payee-in-numbers : List ℕ → List ℕ → ℕ → ℕ → ℕ → List ℕ → List ℕ → List ℕ → List ℕ → List ℕ → List ℕ → ℕ → Type 0
+abbrev pub Payee-in-numbers : List ℕ → List ℕ → ℕ → ℕ → ℕ → List ℕ → List ℕ → List ℕ → List ℕ → List ℕ → List ℕ → List ℕ → List ℕ → ℕ → Type 0
 Payee-in-numbers = Reduced-in-numbers-by readText
 
 -- the writer's answer

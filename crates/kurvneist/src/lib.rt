@@ -15,9 +15,17 @@ ghost use Rattle.kurvneist.specs.Spec as X;
 // The bytes of a work area.
 #[no_mangle]
 pub extern "C" fn kurvneist_work_length() -> usize
-    ensures { λ r. ⌜ r ≡ published ⌝ }
+    ensures { λ r. ⌜ r ≡ published .work ⌝ }
 {
     engine::WORK
+}
+
+// The bytes of a net's area.
+#[no_mangle]
+pub extern "C" fn kurvneist_net_length() -> usize
+    ensures { λ r. ⌜ r ≡ published .net ⌝ }
+{
+    engine::NET
 }
 
 // The bytes that an output must have.
@@ -95,14 +103,15 @@ pub extern "C" fn kurvneist_reduce(
     day: u16,
     schedule: &[u8],
     work: &mut [u8],
+    net: &mut [u8],
     output: &mut [u8],
     answer: &mut [u64; 6],
 ) -> u8
     requires { ⌜ length (now answer) ≡ 6 ⌝ }
     ensures { λ r. ⌜ X.Reduced-in-numbers (now (book .entry)) (now (line .entry)) units budget day (now (schedule .entry)) (now (work .entry))
-        (now (output .entry)) (now (work .exit)) (now (output .exit)) (now (answer .exit)) r ⌝ }
+        (now (net .entry)) (now (output .entry)) (now (work .exit)) (now (net .exit)) (now (output .exit)) (now (answer .exit)) r ⌝ }
 {
-    let a = engine::reduce(book, line, units, budget, day, schedule, work, output);
+    let a = engine::reduce(book, line, units, budget, day, schedule, work, net, output);
     put_answer(a, answer)
 }
 
@@ -116,14 +125,15 @@ pub extern "C" fn kurvneist_payee(
     day: u16,
     schedule: &[u8],
     work: &mut [u8],
+    net: &mut [u8],
     output: &mut [u8],
     answer: &mut [u64; 6],
 ) -> u8
     requires { ⌜ length (now answer) ≡ 6 ⌝ }
     ensures { λ r. ⌜ X.Payee-in-numbers (now (book .entry)) (now (text .entry)) units budget day (now (schedule .entry)) (now (work .entry))
-        (now (output .entry)) (now (work .exit)) (now (output .exit)) (now (answer .exit)) r ⌝ }
+        (now (net .entry)) (now (output .entry)) (now (work .exit)) (now (net .exit)) (now (output .exit)) (now (answer .exit)) r ⌝ }
 {
-    let a = engine::payee(book, text, units, budget, day, schedule, work, output);
+    let a = engine::payee(book, text, units, budget, day, schedule, work, net, output);
     put_answer(a, answer)
 }
 

@@ -8,7 +8,7 @@ use lib.Seq.{take-at}
 use Rattle.paper.specs.Result.{Result, refused, accepted, Read, then}
 use Rattle.paper.specs.Tree.{preorder}
 use Rattle.paper.specs.Run.{Answer}
-use Rattle.paper.specs.Page.{Request, LineReader, frame-fault, run-checked, answerBy, read-request, line, refused-word, answer-lines, pageBy}
+use Rattle.paper.specs.Page.{Request, LineReader, frame-fault, run-checked, answerBy, own-lengths, read-request, line, refused-word, answer-lines, pageBy}
 use Rattle.engine.specs.Spec as R
 use Rattle.engine.specs.declared.Answer as A
 use Rattle.page.specs.Spec.{Paged, fixed-line}
@@ -49,38 +49,39 @@ fits-as (A.Answer.Ran r) (accepted a) output e l h =
     let m : r .length ≡ length (preorder (a .term)) = ap (λ (v : R.Values). v .length) (same-values e) in
     (omega (arith, h a refl), omega arith)
 
--- with buffers of the lengths that are asked for, the published length of the work area does not matter
-same-answer : (read : LineReader) (q : Request) → q .work ≡ R.published → q .output ≡ 1024 →
-    answerBy read R.published q ≡ answerBy read 0 (asked (q .book) (q .line) (q .units) (q .budget) (q .day) (q .schedule))
+-- with buffers of the lengths that are asked for, the published lengths do not matter
+same-answer : (read : LineReader) (q : Request) → q .work ≡ R.published .work → q .net ≡ R.published .net → q .output ≡ 1024 →
+    answerBy read R.published q ≡ answerBy read own-lengths (asked (q .book) (q .line) (q .units) (q .budget) (q .day) (q .schedule))
 unfolding answerBy frame-fault run-checked
-same-answer read q e f = rw (e, f)
+same-answer read q e n f = rw (e, n, f)
 
-module _ {read : LineReader} {book line : List ℕ} {units budget day : ℕ} {schedule work output work′ output′ : List ℕ} {r : A.Answer}
-    (d : R.ReducedBy read book line units budget day schedule work output work′ output′ r) where
-  front : (a : Answer) → R.answeredBy read book line units budget day schedule work output ≡ accepted a →
+module _ {read : LineReader} {book line : List ℕ} {units budget day : ℕ} {schedule work net output work′ net′ output′ : List ℕ} {r : A.Answer}
+    (d : R.ReducedBy read book line units budget day schedule work net output work′ net′ output′ r) where
+  front : (a : Answer) → R.answeredBy read book line units budget day schedule work net output ≡ accepted a →
       take (length (preorder (a .term))) output′ ≡ preorder (a .term)
   front a e = ap (take (length (preorder (a .term)))) (d .written a e) ∙ take-at (preorder (a .term)) _ _ refl
 
   pub reduced-fits : length output′ ≡ 1024 → Term-fits r output′
   reduced-fits l = fits-as r _ output′ (d .answer) l (λ a e. d .run-of a e .holds .fits)
 
-  pub reduced-lines : (budget′ : ℕ) (schedule′ : List ℕ) → budget ≡ budget′ → schedule ≡ schedule′ → length work ≡ R.published → length output ≡ 1024 →
-      lines r output′ ≡ answer-lines (answerBy read 0 (asked book line units budget′ day schedule′))
-  reduced-lines budget′ schedule′ b s e f =
+  pub reduced-lines : (budget′ : ℕ) (schedule′ : List ℕ) → budget ≡ budget′ → schedule ≡ schedule′ → length work ≡ R.published .work →
+      length net ≡ R.published .net → length output ≡ 1024 →
+      lines r output′ ≡ answer-lines (answerBy read own-lengths (asked book line units budget′ day schedule′))
+  reduced-lines budget′ schedule′ b s e n f =
       lines-as r _ output′ (d .answer) front
-      ∙ ap answer-lines (same-answer read (R.request book line units budget day schedule work output) e f)
-      ∙ ap₂ (λ (k : ℕ) (es : List ℕ). answer-lines (answerBy read 0 (asked book line units k day es))) b s
+      ∙ ap answer-lines (same-answer read (R.request book line units budget day schedule work net output) e n f)
+      ∙ ap₂ (λ (k : ℕ) (es : List ℕ). answer-lines (answerBy read own-lengths (asked book line units k day es))) b s
 
 -- THE PAGE
 
 pub page-cut : (read : LineReader) (input : List ℕ) → read-request input ≡ refused 17 → fixed-line ++ line refused-word (17 ∷ []) ≡ pageBy read input
 unfolding pageBy answer-lines then
-page-cut read input e = ap (λ (x : Result (Read Request)). fixed-line ++ answer-lines (then x (λ r. answerBy read 0 (r .value)))) (sym e)
+page-cut read input e = ap (λ (x : Result (Read Request)). fixed-line ++ answer-lines (then x (λ r. answerBy read own-lengths (r .value)))) (sym e)
 
 pub page-whole : (read : LineReader) (input : List ℕ) (q : Request) → read-request input ≡ accepted (record { value = q; left = [] }) →
-    fixed-line ++ answer-lines (answerBy read 0 q) ≡ pageBy read input
+    fixed-line ++ answer-lines (answerBy read own-lengths q) ≡ pageBy read input
 unfolding pageBy then
-page-whole read input q e = ap (λ (x : Result (Read Request)). fixed-line ++ answer-lines (then x (λ r. answerBy read 0 (r .value)))) (sym e)
+page-whole read input q e = ap (λ (x : Result (Read Request)). fixed-line ++ answer-lines (then x (λ r. answerBy read own-lengths (r .value)))) (sym e)
 
 pub paged : {read : LineReader} {input page page′ : List ℕ} {r : ℕ} → Written-at 0 (pageBy read input) page page′ r → Paged read input page page′ r
 paged p = let e = p .ends in record { size = omega arith; is = p .is }

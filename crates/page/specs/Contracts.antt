@@ -27,7 +27,7 @@ read-counted = do
 -- a request as the program makes it
 abbrev pub asked : List ℕ → List ℕ → ℕ → ℕ → ℕ → List ℕ → Request
 asked book line units budget day schedule =
-    record { book = book; line = line; units = units; budget = budget; day = day; schedule = schedule; work = 0; output = 1024 }
+    record { book = book; line = line; units = units; budget = budget; day = day; schedule = schedule; work = 0; net = 0; output = 1024 }
 
 module _ (input : List ℕ) where
   -- what the reading of counted bytes at position at gives, if they end so

@@ -7,7 +7,7 @@ ghost use mathlib.Core.List.{_∷_, []};
 ghost use mathlib.Core.Path.{_≡_};
 ghost use Prim.Native.Nat.{_+_, _≤_, _<_};
 ghost use lib.ListN.{length, take, drop};
-ghost use Rattle.paper.specs.Page.{number, ending-number, spaced, line, term-word, answer-lines, answerBy};
+ghost use Rattle.paper.specs.Page.{number, ending-number, spaced, line, term-word, answer-lines, own-lengths, answerBy};
 ghost use Rattle.run.specs.Contracts.{ending};
 ghost use Rattle.engine.specs.Spec.{run-values, reader};
 ghost use Rattle.page.specs.Spec as S;
@@ -246,9 +246,10 @@ fn answer(a: Answer, output: &[u8], page: &mut [u8; 8192], at: usize) -> usize
 // The run of a whole input, and its lines. The buffers that are lent are of just the lengths that are asked for.
 fn run_page(form: Form, input: &[u8], parts: Parts, page: &mut [u8; 8192], at: usize) -> usize
     requires { ⌜ C.Parts-within (now input) parts × (length (now page) ≡ 8192) × (at ≤ 1000) ⌝ }
-    ensures { λ r. ⌜ C.Written-at at (answer-lines (answerBy (reader form) 0 (C.request-of (now (input .entry)) parts))) (now (page .entry)) (now (page .exit)) r ⌝ }
+    ensures { λ r. ⌜ C.Written-at at (answer-lines (answerBy (reader form) own-lengths (C.request-of (now (input .entry)) parts))) (now (page .entry)) (now (page .exit)) r ⌝ }
 {
     let mut work = [0u8; engine::WORK];
+    let mut net = [0u8; engine::NET];
     let mut output = [0u8; engine::OUTPUT];
     let book = parts.book;
     let line = parts.line;
@@ -264,6 +265,7 @@ fn run_page(form: Form, input: &[u8], parts: Parts, page: &mut [u8; 8192], at: u
         parts.day,
         &input[schedule..],
         &mut work,
+        &mut net,
         &mut output,
     );
     answer(a, &output, page, at)

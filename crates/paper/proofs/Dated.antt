@@ -18,7 +18,7 @@ use Rattle.paper.specs.Dated.{DatedRule, DatedBook, AnyBook, is-dated, r
 use Rattle.paper.specs.Dated.{write-dated-rule, writeDated, writeAny, stands, standing, on-day}
 use Rattle.paper.specs.Sound.{All, Sound}
 use Rattle.paper.specs.WellFormed.{GoodOperator, GoodRule, GoodBook, GoodDatedRule, GoodDated, GoodAny}
-use Rattle.paper.specs.Page.{Request, frame-fault, unless, run-checked, LineReader, answerBy}
+use Rattle.paper.specs.Page.{Request, Lengths, frame-fault, unless, run-checked, LineReader, answerBy}
 use Rattle.paper.proofs.Tests.{either, eqb-equal}
 use Rattle.paper.proofs.Readers.{accepted-injective, refused-accepted, then-accepted}
 use Rattle.paper.proofs.Bits.{field-toBits, field-bounded}
@@ -236,9 +236,19 @@ unfolding on-day
 undated-day d B = refl
 
 -- a request is answered alike on every day
-pub day-ignored : (read : LineReader) (published : ℕ) (q : Request) → is-dated (q .book) ≡ false → (d : ℕ) →
+pub day-ignored : (read : LineReader) (published : Lengths) (q : Request) → is-dated (q .book) ≡ false → (d : ℕ) →
     answerBy read published
-    (record { book = q .book; line = q .line; units = q .units; budget = q .budget; day = d; schedule = q .schedule; work = q .work; output = q .output })
+    (record {
+      book = q .book;
+      line = q .line;
+      units = q .units;
+      budget = q .budget;
+      day = d;
+      schedule = q .schedule;
+      work = q .work;
+      net = q .net;
+      output = q .output;
+    })
     ≡ answerBy read published q
 unfolding answerBy
 day-ignored read published q e d = rw (read-as-undated (q .book) e) (go (readBook (q .book)))

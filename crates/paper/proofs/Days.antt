@@ -58,7 +58,17 @@ match-gives term = ascii "REDUCE 1\nend 0\nrewrites 1\nentries 9\ngranted 0\nkep
 unfoldable pub P-on : ℕ → Result Answer
 unfolding answerBy
 P-on day =
-    answerOf published (record { book = P-bytes; line = P-line; units = 1; budget = 9; day = day; schedule = replicate 99 0; work = published; output = 1024 })
+    answerOf published (record {
+      book = P-bytes;
+      line = P-line;
+      units = 1;
+      budget = 9;
+      day = day;
+      schedule = replicate 99 0;
+      work = published .work;
+      net = published .net;
+      output = 1024;
+    })
 
 -- LEFT SIDES
 

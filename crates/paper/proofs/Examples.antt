@@ -18,7 +18,7 @@ use Rattle.paper.specs.Line.{readLine}
 use Rattle.paper.specs.Match.{Symbols, rewrite-over, rewrite}
 use Rattle.paper.specs.Machine.{Order, unit-state, Event, Ending}
 use Rattle.paper.specs.Run.{Answer, run, Moment, moments, events}
-use Rattle.paper.specs.Page.{answerBy, answerOf, pageOf, writtenOf}
+use Rattle.paper.specs.Page.{Lengths, answerBy, answerOf, pageOf, writtenOf}
 use Rattle.paper.proofs.Starred.{ascii, P-bytes, input-on, input, turns, none-of, one-of, two-of, x, y, P-operators, P, end, tick, both, Q, dup, limits}
 
 -- Pages and answers
@@ -53,15 +53,15 @@ unfoldable pub end-finished : List ℕ
 unfolding ascii
 end-finished = ascii "REDUCE 1\nend 0\nrewrites 0\nentries 3\ngranted 0\nkept 0\nterm 0\n"
 
--- the length that the engine publishes for a work area
-abbrev pub published : ℕ
-published = 24624
+-- the lengths that the engine publishes
+abbrev pub published : Lengths
+published = record { work = 24624; net = 3840 }
 
--- the library's answer for the line 0 and no entry, by book, units, and the lengths of work area and output
-unfoldable pub library : List ℕ → ℕ → ℕ → ℕ → Result Answer
+-- the library's answer for the line 0 and no entry, by book, units, and the lengths of work area, net and output
+unfoldable pub library : List ℕ → ℕ → ℕ → ℕ → ℕ → Result Answer
 unfolding answerBy
-library book units work output =
-    answerOf published (record { book = book; line = 0 ∷ []; units = units; budget = 9; day = 0; schedule = []; work = work; output = output })
+library book units work net output =
+    answerOf published (record { book = book; line = 0 ∷ []; units = units; budget = 9; day = 0; schedule = []; work = work; net = net; output = output })
 
 -- what it answers if nothing is refused
 abbrev pub cut-at-once : Result Answer
@@ -228,8 +228,9 @@ pub record Refusals : Type 0 where
   -- 14: U = 2 and an entry 2, behind the entry that would finish the run
   pub entry-2 : end-page 2 (0 ∷ 0 ∷ 0 ∷ 2 ∷ []) ≡ refusal "14"
   -- 15 and 16, of the library
-  pub no-work : library P-bytes 1 0 1024 ≡ refused 15
-  pub no-output : library P-bytes 1 published 0 ≡ refused 16
+  pub no-work : library P-bytes 1 0 3840 1024 ≡ refused 15
+  pub no-net : library P-bytes 1 24624 0 1024 ≡ refused 15
+  pub no-output : library P-bytes 1 24624 3840 0 ≡ refused 16
   -- 17: no book length; a book length of one byte; the book, the line's length, the line, U, the budget cut short
   pub no-input : pageOf [] ≡ refusal "17"
   pub book-length-cut : pageOf (0 ∷ []) ≡ refusal "17"
@@ -272,6 +273,7 @@ refusals = record {
   no-unit = refl;
   entry-2 = refl;
   no-work = refl;
+  no-net = refl;
   no-output = refl;
   no-input = refl;
   book-length-cut = refl;
@@ -290,11 +292,13 @@ pub record Precedence : Type 0 where
   -- places from top to bottom. 17 before 13: U = 9 and no budget; U = 0 and 32,769 entries
   pub input-units : pageOf (0 ∷ 3 ∷ 0x01 ∷ 0x00 ∷ 0x00 ∷ 0 ∷ 1 ∷ 0 ∷ 9 ∷ []) ≡ refusal "17"
   pub schedule-units : end-page 0 (replicate 32769 0) ≡ refusal "17"
-  -- 13 before 15; 15 before 16; 16 before a fault of the book
-  pub no-units-work : library P-bytes 0 0 1024 ≡ refused 13
-  pub units-work : library P-bytes 9 0 1024 ≡ refused 13
-  pub work-output : library P-bytes 1 0 0 ≡ refused 15
-  pub output-book : library (0x00 ∷ []) 1 published 0 ≡ refused 16
+  -- 13 before 15; 15, of the work area and of the net's, before 16; 16 before a fault of the book
+  pub no-units-work : library P-bytes 0 0 3840 1024 ≡ refused 13
+  pub units-work : library P-bytes 9 0 3840 1024 ≡ refused 13
+  pub units-net : library P-bytes 9 24624 0 1024 ≡ refused 13
+  pub work-output : library P-bytes 1 0 3840 0 ≡ refused 15
+  pub net-output : library P-bytes 1 24624 0 0 ≡ refused 15
+  pub output-book : library (0x00 ∷ []) 1 24624 3840 0 ≡ refused 16
   -- 13 before a fault of the book, on the program's page
   pub units-book : pageOf (input-on (0x01 ∷ []) (0 ∷ []) 9 9 []) ≡ refusal "13"
   -- 9, the book's last, before 12, the line's first
@@ -332,7 +336,9 @@ precedence = record {
   schedule-units = refl;
   no-units-work = refl;
   units-work = refl;
+  units-net = refl;
   work-output = refl;
+  net-output = refl;
   output-book = refl;
   units-book = refl;
   book-line = refl;
@@ -367,10 +373,11 @@ pub record Bounds : Type 0 where
   -- 32,768 schedule bytes, 32,769
   pub schedule-32768 : end-page 1 (replicate 32768 0) ≡ end-finished
   pub schedule-32769 : end-page 1 (replicate 32769 0) ≡ refusal "17"
-  -- a work area of the published length, one byte less; an output of 1,024 bytes, of 1,023
-  pub lent-enough : library P-bytes 1 published 1024 ≡ cut-at-once
-  pub work-short : library P-bytes 1 24623 1024 ≡ refused 15
-  pub output-short : library P-bytes 1 published 1023 ≡ refused 16
+  -- a work area and a net of the published lengths, one byte less; an output of 1,024 bytes, of 1,023
+  pub lent-enough : library P-bytes 1 24624 3840 1024 ≡ cut-at-once
+  pub work-short : library P-bytes 1 24623 3840 1024 ≡ refused 15
+  pub net-short : library P-bytes 1 24624 3839 1024 ≡ refused 15
+  pub output-short : library P-bytes 1 24624 3840 1023 ≡ refused 16
   -- a line of 1,024 symbols, of 1,025
   pub line-1024 : readLine P (replicate 1023 1 ++ (0 ∷ [])) ≡ accepted (chain 1023 1 end)
   pub line-1025 : readLine P (replicate 1024 1 ++ (0 ∷ [])) ≡ refused 12
@@ -393,6 +400,7 @@ bounds = record {
   schedule-32769 = refl;
   lent-enough = refl;
   work-short = refl;
+  net-short = refl;
   output-short = refl;
   line-1024 = refl;
   line-1025 = refl;

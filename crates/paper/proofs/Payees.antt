@@ -44,11 +44,11 @@ unfoldable pub not-run : List ℕ → List ℕ
 unfolding ascii
 not-run symbols = ascii "REDUCE 1\nend 3\nrewrites 0\nentries 0\ngranted 0\nkept 0\nterm" ++ (symbols ++ ascii " 0\n")
 
--- the library's answer for no entry, by book, text, units, and the lengths of work area and output
-unfoldable pub payee : List ℕ → List ℕ → ℕ → ℕ → ℕ → Result Answer
+-- the library's answer for no entry, by book, text, units, and the lengths of work area, net and output
+unfoldable pub payee : List ℕ → List ℕ → ℕ → ℕ → ℕ → ℕ → Result Answer
 unfolding answerBy
-payee book text units work output =
-    payeeOf published (record { book = book; line = text; units = units; budget = 9; day = 0; schedule = []; work = work; output = output })
+payee book text units work net output =
+    payeeOf published (record { book = book; line = text; units = units; budget = 9; day = 0; schedule = []; work = work; net = net; output = output })
 
 -- CLASSES, by the letters themselves: a character's code is its byte in ISO 8859-1
 
@@ -149,23 +149,26 @@ numbers = record {
   no-input = refl;
 }
 
--- Which of two faults is told: 13 before 15; 15 before 16; 16 before the book's 2; the book's 9 before 19; 19 before 18; 19 and 18 before 14
+-- Which of two faults is told: 13 before 15; 15, of the work area and of the net's, before 16; 16 before the book's 2; the book's 9 before 19; 19
+-- before 18; 19 and 18 before 14
 pub record Precedence : Type 0 where
-  pub units-work : payee class-book [] 9 0 1024 ≡ refused 13
-  pub work-output : payee class-book [] 1 0 0 ≡ refused 15
-  pub output-book : payee (0x00 ∷ []) [] 1 published 0 ≡ refused 16
+  pub units-work : payee class-book [] 9 0 0 1024 ≡ refused 13
+  pub work-output : payee class-book [] 1 0 3840 0 ≡ refused 15
+  pub net-output : payee class-book [] 1 24624 0 0 ≡ refused 15
+  pub output-book : payee (0x00 ∷ []) [] 1 24624 3840 0 ≡ refused 16
   pub book-classes : text-page (0x01 ∷ 0x00 ∷ 0x01 ∷ []) [] 0 ≡ refusal "9"
   pub classes-long : text-page P-bytes (replicate 1024 0x41) 0 ≡ refusal "19"
   pub classes-entry : payeePageOf (input-on P-bytes [] 1 9 (1 ∷ [])) ≡ refusal "19"
   pub long-entry : payeePageOf (input-on class-book (replicate 1024 0x41) 1 9 (1 ∷ [])) ≡ refusal "18"
   -- and none of them
-  pub faultless : payee class-book [] 1 published 1024 ≡ cut-at-once
+  pub faultless : payee class-book [] 1 24624 3840 1024 ≡ cut-at-once
 
 pub precedence : Precedence
 unfolding class-book input-on text-page payee refusal payeePageOf
 precedence = record {
   units-work = refl;
   work-output = refl;
+  net-output = refl;
   output-book = refl;
   book-classes = refl;
   classes-long = refl;

@@ -1,7 +1,7 @@
--- By which numbers a request is refused (document 01, 'What is checked where'; document 02, Change 1): with a line by 1 to 16, with a text by 1 to 9,
--- 13 to 16, 18 and 19; by 15 only if the work area is below the published length, by 16 only if the output is under 1,024 bytes; by 6 never, whatever
--- the bytes (document 02, Change 4: "Number 6 is given no longer, and this is shown for every book"). An input is refused by 17 alone. Books are in either
--- form (Change 5). Assumes nothing.
+-- By which numbers a request is refused (document 01, 'What is checked where'; document 02, Changes 1 and 8): with a line by 1 to 16, with a text by 1
+-- to 9, 13 to 16, 18 and 19; by 15 only if the work area or the net's is below its published length, by 16 only if the output is under 1,024 bytes; by 6
+-- never, whatever the bytes (document 02, Change 4: "Number 6 is given no longer, and this is shown for every book"). An input is refused by 17 alone.
+-- Books are in either form (Change 5). Assumes nothing.
 use mathlib.Core.Bool.{true, false}
 use mathlib.Core.List.{List, [], _∷_, _++_}
 use mathlib.Core.Logic.{_⊎_, inl, inr, _≢_}
@@ -17,8 +17,8 @@ use Rattle.paper.specs.Dated.{is-dated, readAny, on-day}
 use Rattle.paper.specs.Line.{symbol-limit, line-fault, unless-fault, readLine}
 use Rattle.paper.specs.Text.{readText}
 use Rattle.paper.specs.Run.{Answer}
-use Rattle.paper.specs.Page.{Request, all-below, frame-fault, unless, run-checked, LineReader, answerBy, answerOf, payeeOf}
-use Rattle.paper.specs.Page.{read-bytes, read-number, read-day, read-schedule, read-request, digits, spaced, line, reduce-word, refused-word}
+use Rattle.paper.specs.Page.{Request, Lengths, all-below, frame-fault, unless, run-checked, LineReader, answerBy, answerOf, payeeOf}
+use Rattle.paper.specs.Page.{read-bytes, read-number, read-day, read-schedule, own-lengths, read-request, digits, spaced, line, reduce-word, refused-word}
 use Rattle.paper.specs.Page.{answer-lines, pageBy, pageOf, payeePageOf, writtenOf}
 use Rattle.paper.proofs.Tests.{either, ltb-cases}
 use Rattle.paper.proofs.Lengths.{OfBook, any-refused-by}
@@ -44,11 +44,12 @@ then-told P (accepted a) f h g = g a
 
 -- ANY READER
 
-module _ (published : ℕ) (q : Request) where
+module _ (published : Lengths) (q : Request) where
   -- the table's places, `Own` being the numbers that the reader of the term or text gives
   pub data Refusal (Own : ℕ → Type 0) : ℕ → Type 0 where
     units : Refusal Own 13
-    work : q .work < published → Refusal Own 15
+    work : q .work < published .work → Refusal Own 15
+    net : q .net < published .net → Refusal Own 15
     output : q .output < symbol-limit → Refusal Own 16
     book : {k : ℕ} → OfBook k → Refusal Own k
     own : {k : ℕ} → Own k → Refusal Own k
@@ -66,9 +67,12 @@ module _ (published : ℕ) (q : Request) where
       | inl e ↦ rw e units
       | inr e ↦ rw e (elim (either (ltb 8 (q .units))) [
         | inl f ↦ rw f units
-        | inr f ↦ rw f (elim (ltb-cases (q .work) published) [
+        | inr f ↦ rw f (elim (ltb-cases (q .work) (published .work)) [
           | inl w ↦ rw (w .0) (work (w .1))
-          | inr w ↦ rw (w .0) (elim (ltb-cases (q .output) symbol-limit) [ inl o ↦ rw (o .0) (output (o .1)) | inr o ↦ rw (o .0) tt ])
+          | inr w ↦ rw (w .0) (elim (ltb-cases (q .net) (published .net)) [
+            | inl n ↦ rw (n .0) (net (n .1))
+            | inr n ↦ rw (n .0) (elim (ltb-cases (q .output) symbol-limit) [ inl o ↦ rw (o .0) (output (o .1)) | inr o ↦ rw (o .0) tt ])
+          ])
         ])
       ])
     ]
@@ -126,18 +130,18 @@ line-told B (o ∷ os) = elim (either (ltb symbol-limit (length (o ∷ os)))) [
 pub line-refused-by : (B : Book) (line : List ℕ) (k : ℕ) → readLine B line ≡ refused k → OfLine k
 line-refused-by B line k e = rw e at (line-told B line)
 
-module _ (published : ℕ) (q : Request) where
+module _ (published : Lengths) (q : Request) where
   pub record RefusedBy (k : ℕ) : Type 0 where
     pub some-number : 0 < k
     pub below : k < 17
     pub not-six : k ≢ 6
-    pub short-work : k ≡ 15 → q .work < published
+    pub short-area : k ≡ 15 → (q .work < published .work) ⊎ (q .net < published .net)
     pub short-output : k ≡ 16 → q .output < symbol-limit
 
   -- neither 15 nor 16
   other : (k : ℕ) → 0 < k → k < 15 → k ≢ 6 → RefusedBy k
   other k l h n =
-      record { some-number = l; below = omega arith; not-six = n; short-work = λ e. absurd (omega arith); short-output = λ e. absurd (omega arith) }
+      record { some-number = l; below = omega arith; not-six = n; short-area = λ e. absurd (omega arith); short-output = λ e. absurd (omega arith) }
 
   pub request-refused-by : (k : ℕ) → answerOf published q ≡ refused k → RefusedBy k
   request-refused-by k e = go (refused-by published q OfLine readLine line-refused-by k e)
@@ -145,9 +149,11 @@ module _ (published : ℕ) (q : Request) where
       go : {k : ℕ} → Refusal published q OfLine k → RefusedBy k
       go units = other 13 (omega arith) (omega arith) (λ e. omega arith)
       go (work w) =
-          record { some-number = omega arith; below = omega arith; not-six = λ e. omega arith; short-work = λ e. w; short-output = λ e. absurd (omega arith) }
+          record { some-number = omega arith; below = omega arith; not-six = λ e. omega arith; short-area = λ e. inl w; short-output = λ e. absurd (omega arith) }
+      go (net n) =
+          record { some-number = omega arith; below = omega arith; not-six = λ e. omega arith; short-area = λ e. inr n; short-output = λ e. absurd (omega arith) }
       go (output o) =
-          record { some-number = omega arith; below = omega arith; not-six = λ e. omega arith; short-work = λ e. absurd (omega arith); short-output = λ e. o }
+          record { some-number = omega arith; below = omega arith; not-six = λ e. omega arith; short-area = λ e. absurd (omega arith); short-output = λ e. o }
       go {k} (book h) = other k (h .0) (let l = h .1 in omega arith) (h .2)
       go {k} (own h) = other k (omega arith) (omega arith) (λ e. omega arith)
       go schedule = other 14 (omega arith) (omega arith) (λ e. omega arith)
@@ -158,7 +164,7 @@ module _ (published : ℕ) (q : Request) where
 abbrev pub OfText : ℕ → Type 0
 OfText k = (k ≡ 18) ⊎ (k ≡ 19)
 
-module _ (published : ℕ) (q : Request) where
+module _ (published : Lengths) (q : Request) where
   pub payee-refused-by : (k : ℕ) → payeeOf published q ≡ refused k → Refusal published q OfText k
   payee-refused-by = refused-by published q OfText readText text-refused-by
 
@@ -169,6 +175,7 @@ module _ (published : ℕ) (q : Request) where
       go : {k : ℕ} → Refusal published q OfText k → ((0 < k) × (k < 10) × (k ≢ 6)) ⊎ (((12 < k) × (k < 17)) ⊎ ((17 < k) × (k < 20)))
       go units = inr (inl (omega arith, omega arith))
       go (work w) = inr (inl (omega arith, omega arith))
+      go (net n) = inr (inl (omega arith, omega arith))
       go (output o) = inr (inl (omega arith, omega arith))
       go (book h) = inl h
       go (own (inl e)) = inr (inr (omega arith, omega arith))
@@ -190,7 +197,7 @@ pub written-not-six : (bytes : List ℕ) → writtenOf bytes ≢ refused 6
 unfolding writtenOf
 written-not-six bytes = never (then-told NotSix (readAny bytes) _ (told NotSix (readAny bytes) (λ k e. any-refused-by bytes k e .2)) (λ A. tt))
 
-module _ (published : ℕ) (q : Request) where
+module _ (published : Lengths) (q : Request) where
   pub answer-not-six : answerOf published q ≢ refused 6
   answer-not-six e = request-refused-by published q 6 e .not-six refl
 
@@ -258,28 +265,28 @@ only-six n e = elim (ltb-cases n 10) [
       )
 ]
 
-module _ (read : LineReader) (not-six : (q : Request) → answerBy read 0 q ≢ refused 6) (input : List ℕ) where
+module _ (read : LineReader) (not-six : (q : Request) → answerBy read own-lengths q ≢ refused 6) (input : List ℕ) where
   -- before it is printed
-  pub input-not-six : then (read-request input) (λ r. answerBy read 0 (r .value)) ≢ refused 6
+  pub input-not-six : then (read-request input) (λ r. answerBy read own-lengths (r .value)) ≢ refused 6
   input-not-six =
       never
       (then-told NotSix (read-request input) _
       (told NotSix (read-request input) (λ k e. let h = request-refused-by-17 input k e in λ i. omega arith))
-      (λ r. told NotSix (answerBy read 0 (r .value)) (λ k e i. not-six (r .value) (e ∙ ap refused i))))
+      (λ r. told NotSix (answerBy read own-lengths (r .value)) (λ k e i. not-six (r .value) (e ∙ ap refused i))))
 
   pub printed-not-six : pageBy read input ≢ line reduce-word (1 ∷ []) ++ line refused-word (6 ∷ [])
   unfolding pageBy
-  printed-not-six e = go (then (read-request input) (λ r. answerBy read 0 (r .value))) refl (ap (drop 9) e)
+  printed-not-six e = go (then (read-request input) (λ r. answerBy read own-lengths (r .value))) refl (ap (drop 9) e)
     where
-      go : (x : Result Answer) → then (read-request input) (λ r. answerBy read 0 (r .value)) ≡ x →
+      go : (x : Result Answer) → then (read-request input) (λ r. answerBy read own-lengths (r .value)) ≡ x →
           answer-lines x ≡ line refused-word (6 ∷ []) → ⊥
       go (refused n) f g = input-not-six (f ∙ ap refused (only-six n (ap (drop 7) g)))
       go (accepted a) f g = let h : _≡_ {A = ℕ} 101 114 = ap (λ (bs : List ℕ). getD bs 0 0) g in omega arith
 
 pub page-not-six : (input : List ℕ) → pageOf input ≢ line reduce-word (1 ∷ []) ++ line refused-word (6 ∷ [])
 unfolding pageOf
-page-not-six = printed-not-six readLine (answer-not-six 0)
+page-not-six = printed-not-six readLine (answer-not-six own-lengths)
 
 pub payee-page-not-six : (input : List ℕ) → payeePageOf input ≢ line reduce-word (1 ∷ []) ++ line refused-word (6 ∷ [])
 unfolding payeePageOf
-payee-page-not-six = printed-not-six readText (payee-not-six 0)
+payee-page-not-six = printed-not-six readText (payee-not-six own-lengths)

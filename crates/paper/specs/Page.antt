@@ -15,7 +15,7 @@ use Rattle.paper.specs.Text.{readText}
 use Rattle.paper.specs.Machine.{Ending, Limits}
 use Rattle.paper.specs.Run.{Answer, run}
 
--- what a run is asked with: bytes, numbers, and the lengths of the two buffers that are lent to be written
+-- what a run is asked with: bytes, numbers, and the lengths of the three buffers that are lent to be written
 pub record Request : Type 0 where
   pub book : List ℕ
   pub line : List ℕ
@@ -24,17 +24,27 @@ pub record Request : Type 0 where
   pub day : ℕ
   pub schedule : List ℕ
   pub work : ℕ
+  pub net : ℕ
   pub output : ℕ
+
+-- the published lengths of the work area and of the net's (document 02, Change 8)
+pub record Lengths : Type 0 where
+  pub work : ℕ
+  pub net : ℕ
 
 -- does every entry name one of the units?
 unfoldable pub all-below : ℕ → List ℕ → Bool
 all-below n [] = true
 all-below n (e ∷ es) = elim (ltb e n) [ true ↦ all-below n es | false ↦ false ]
 
--- 13: units not 1 to 8; then 15: work area below the published length; then 16: output under 1,024 bytes
-unfoldable pub frame-fault : ℕ → Request → Option ℕ
+-- 13: units not 1 to 8; then 15: work area below its published length, then the net's area below its own; then 16: output under 1,024 bytes
+unfoldable pub frame-fault : Lengths → Request → Option ℕ
 frame-fault published q =
-    if (eqb (q .units) 0) (some 13) (if (ltb 8 (q .units)) (some 13) (if (ltb (q .work) published) (some 15) (if (ltb (q .output) symbol-limit) (some 16) none)))
+    if (eqb (q .units) 0) (some 13)
+    (if (ltb 8 (q .units)) (some 13)
+    (if (ltb (q .work) (published .work)) (some 15)
+    (if (ltb (q .net) (published .net)) (some 15)
+    (if (ltb (q .output) symbol-limit) (some 16) none))))
 
 unfoldable pub unless : {A : Type 0} → Option ℕ → Result A → Result A
 unless none r = r
@@ -55,16 +65,16 @@ LineReader = Book → List ℕ → Result Term
 
 -- the places of the table from top to bottom: the run's frame, the book, the term or text, the schedule. Term or text are read, and the run is made,
 -- by the book of the run's day (document 02, Change 5)
-unfoldable pub answerBy : LineReader → ℕ → Request → Result Answer
+unfoldable pub answerBy : LineReader → Lengths → Request → Result Answer
 unfolding frame-fault unless then readAny on-day run-checked
 answerBy read published q =
     unless (frame-fault published q)
     (then (readAny (q .book)) (λ A. let B = on-day (q .day) A in then (read B (q .line)) (λ t. run-checked q B t)))
 
-abbrev pub answerOf : ℕ → Request → Result Answer
+abbrev pub answerOf : Lengths → Request → Result Answer
 answerOf = answerBy readLine
 
-abbrev pub payeeOf : ℕ → Request → Result Answer
+abbrev pub payeeOf : Lengths → Request → Result Answer
 payeeOf = answerBy readText
 
 -- The program's input
@@ -96,6 +106,9 @@ unfolding return is-dated read-number
 read-day book = elim (is-dated book) [ true ↦ read-number 2 | false ↦ return 0 ]
 
 -- the program lends its own buffers, of just the lengths that are asked for
+abbrev pub own-lengths : Lengths
+own-lengths = record { work = 0; net = 0 }
+
 unfoldable pub read-request : Reader Request
 unfolding return _>>=_ read-bytes read-number read-day read-schedule
 read-request = do
@@ -107,7 +120,7 @@ read-request = do
   budget ← read-number 4
   day ← read-day book
   schedule ← read-schedule
-  return (record { book = book; line = line; units = units; budget = budget; day = day; schedule = schedule; work = 0; output = symbol-limit })
+  return (record { book = book; line = line; units = units; budget = budget; day = day; schedule = schedule; work = 0; net = 0; output = symbol-limit })
 
 -- The page
 
@@ -176,7 +189,7 @@ answer-lines (accepted a) =
 -- the whole page for a whole standard input
 unfoldable pub pageBy : LineReader → List ℕ → List ℕ
 unfolding then read-request answerBy line answer-lines
-pageBy read input = line reduce-word (1 ∷ []) ++ answer-lines (then (read-request input) (λ r. answerBy read 0 (r .value)))
+pageBy read input = line reduce-word (1 ∷ []) ++ answer-lines (then (read-request input) (λ r. answerBy read own-lengths (r .value)))
 
 -- of the first program, and of the second
 unfoldable pub pageOf : List ℕ → List ℕ

@@ -48,12 +48,11 @@ module _ {bytes operators rules : List ℕ} {B : Book} (T : Tables bytes operato
         short = g .short;
       }
 
-  -- where the left sides stand, and the chains of their roots
+  -- where the left sides stand
   pub lefts-stand : Lefts bytes operators rules (B .rules)
   lefts-stand =
       record {
         each = λ i l. record { stands = side-at (left-in rules i) _ (rule-good T i l .left) (left-at T i l); root = rule-good T i l .root };
-        chained = T .rules-in .chained;
         few = (let f = T .good .few-rules in omega arith);
       }
 

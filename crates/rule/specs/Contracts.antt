@@ -15,8 +15,7 @@ use Rattle.side.specs.Contracts.{StandingAt}
 use Rattle.side.specs.declared.Standing as Sd
 use Rattle.symbol.specs.Record.{operators, sizes}
 use Rattle.tables.specs.Layout.{arity-in, left-in}
-use Rattle.tables.specs.Tables.{ruleAt, Chained, TablesOf, book-of}
-use Rattle.term.specs.Present.{length-in, operators-in, Sized}
+use Rattle.tables.specs.Tables.{ruleAt}
 use Rattle.rule.specs.Packed.{Stands, SideAt, Goes, All-at, binding, Binds-within, Bound-term}
 use Rattle.rule.specs.declared.Found as F
 use Rattle.rule.specs.declared.Match as M
@@ -43,14 +42,6 @@ pub record Part-in (symbols : List ℕ) (len a : ℕ) : Type 0 where
   pub long : length symbols ≡ 1024
   pub most : len ≤ 1024
   pub inside : a + part-size symbols len a ≤ len
-
--- a book's tables, and the present term, whose symbols are its operators, with their sizes; a is an offset in it
-pub record Present (bytes operators rules symbols : List ℕ) (a : ℕ) : Type 0 where
-  pub tables : TablesOf bytes operators rules
-  pub short : length bytes ≤ 2 ^ 60
-  pub sized : Sized (arity-in operators) symbols
-  pub inside : a < length-in symbols
-  pub known : All (λ o. o < length (book-of bytes rules .operators)) (operators-in symbols)
 
 -- an array of 16 variables' starts and sizes holds the binding b
 pub record Holds-binding (bound : List ℕ) (b : Binding) : Type 0 where
@@ -130,7 +121,6 @@ pub record LeftAt (bytes : List ℕ) (operators : List ℕ) (at : ℕ) (side : S
 -- what the tables say of the left sides of the rules rs
 pub record Lefts (bytes operators rules : List ℕ) (rs : List Rule) : Type 0 where
   pub each : (i : ℕ) → i < length rs → LeftAt bytes operators (left-in rules i) (ruleAt rs i .left)
-  pub chained : Chained rs rules
   pub few : length rs < 256
 
 -- under the root of the term at offset a stand due arguments, the first of which begins with x

@@ -1,4 +1,4 @@
-// A packed rule against the present term: its left side matched, and the first rule in book order that matches
+// A packed rule against the present term: its left side matched
 // (document 01, 'Reduction one after the other'; document 02, Change 4).
 use side::Standing;
 ghost use mathlib.Core.Path.{_≡_};
@@ -7,8 +7,7 @@ ghost use lib.ListN.{length, getD, take, drop};
 ghost use Rattle.flat.specs.Symbols as flat;
 ghost use Rattle.symbol.specs.Record as S;
 ghost use Rattle.tables.specs.Layout.{arity-in};
-ghost use Rattle.tables.specs.Tables.{book-of};
-ghost use Rattle.term.specs.Present.{length-in, operators-in};
+ghost use Rattle.term.specs.Present.{length-in, operators-in, Sized};
 ghost use Rattle.rule.specs.Packed.{binding};
 ghost use Rattle.rule.specs.Contracts as R;
 
@@ -211,72 +210,27 @@ fn other_stands(book: &[u8], at: usize, x: usize) -> bool
     if w < 256 { w != x } else { false }
 }
 
-// The left side at a position, whose root is that of the term at an offset and has due arguments, by what stands behind the root's nine bits. Most
-// differ in the symbol behind the root, x in the term, which is told before anything is bound.
-fn try_left(
+// The left side at a position, whose root is that of the term at an offset, against that term. Most differ in the symbol behind the root, which is told
+// before anything is bound.
+pub fn match_left(
     book: &[u8],
     left: usize,
     operators: &[u8; 4352],
-    x: usize,
-    due: usize,
     symbols: &[u32; 1024],
-    len: usize,
     offset: usize,
     bound: &mut [u16; 32],
 ) -> Found
-    requires { ⌜ (length (now book) ≤ 2 ^ 60) × (left < 2 ^ 32) × R.Offset-in (arity-in (now operators)) (now symbols) len offset × R.Under-root (now operators) (S.operators (take len (now symbols))) offset x due ⌝ }
-    ensures { λ r. ⌜ R.Left-tried (now (book .entry)) left (now (operators .entry)) (S.operators (take len (now (symbols .entry)))) offset len (binding (now (bound .exit))) r ⌝ }
+    requires { ⌜ (length (now book) ≤ 2 ^ 60) × (left < 2 ^ 32) × Sized (arity-in (now operators)) (now symbols) × (offset < length-in (now symbols)) ⌝ }
+    ensures { λ r. ⌜ R.Left-tried (now (book .entry)) left (now (operators .entry)) (operators-in (now (symbols .entry))) offset (length-in (now (symbols .entry))) (binding (now (bound .exit))) r ⌝ }
 {
+    let len = term::length(symbols);
+    let due = tables::arity(operators, term::operator_at(symbols, offset));
     let at = left + 9;
     if 0 < due {
-        if other_stands(book, at, x) {
+        if other_stands(book, at, symbol_or_none(symbols, len, offset + 1)) {
             return Found::Differs;
         }
     }
     clear(bound);
     match_rest(book, at, operators, symbols, len, offset + 1, due, bound)
-}
-
-// The first rule that matches the term at an offset. Only those with the root of the term are tried.
-pub fn find(
-    book: &[u8],
-    operators: &[u8; 4352],
-    rules: &[u32; 1024],
-    symbols: &[u32; 1024],
-    offset: usize,
-    bound: &mut [u16; 32],
-) -> Hit
-    requires { ⌜ R.Present (now book) (now operators) (now rules) (now symbols) offset ⌝ }
-    ensures { λ r. ⌜ R.Search-answers (book-of (now (book .entry)) (now (rules .entry))) (now (operators .entry)) offset (operators-in (now (symbols .entry))) (length-in (now (symbols .entry))) (binding (now (bound .exit))) r ⌝ }
-{
-    let o = term::operator_at(symbols, offset);
-    let mut k = tables::first_rule(rules, o);
-    // Most terms have a root without rules.
-    if k == 0 {
-        return Hit::None;
-    }
-    let len = term::length(symbols);
-    let due = tables::arity(operators, o);
-    let x = symbol_or_none(symbols, len, offset + 1);
-    while 0 < k {
-        let left = tables::left_side(rules, k - 1);
-        if let Found::Agrees(end) = try_left(
-            book,
-            left,
-            operators,
-            x,
-            due,
-            symbols,
-            len,
-            offset,
-            bound,
-        ) {
-            return Hit::Rule(Match {
-                rule: k - 1,
-                end: end,
-            });
-        }
-        k = tables::next_rule(rules, k - 1);
-    }
-    Hit::None
 }

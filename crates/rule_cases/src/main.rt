@@ -17,11 +17,11 @@ ghost use mathlib.Core.Path.{_≡_};
 ghost use Prim.Native.Nat.{_<_, _≤_};
 ghost use lib.ListN.{length, take};
 ghost use Rattle.tables.specs.Layout.{arity-in};
-ghost use Rattle.tables.specs.Tables.{TablesOf, book-of};
 ghost use Rattle.term.specs.Present.{operators-in, Sized};
 ghost use Rattle.rule.specs.Packed.{binding};
-ghost use Rattle.rule.specs.Contracts.{Present};
 ghost use Rattle.fill.specs.Contracts.{Fillable};
+ghost use Rattle.net.specs.Net.{book-by, NetOf};
+ghost use Rattle.lookup.specs.Contracts.{Present};
 
 fn say_found(i: usize, end: usize) {
     say(b"rule ");
@@ -71,14 +71,15 @@ fn try_fill(
 fn carry_out(
     bytes: &[u8],
     operators: &[u8; 4352],
-    rules: &[u32; 1024],
+    net: &[u8],
     symbols: &mut [u32; 1024],
     offset: usize,
     filled: &[u32; 1024],
     size: usize,
 )
-    requires { ⌜ Present (now bytes) (now operators) (now rules) (now symbols) offset × (size ≤ 1024) ⌝ }
+    requires { ⌜ Present (now bytes) (now operators) (now net) (now symbols) offset × (size ≤ 1024) ⌝ }
 {
+    let operator = term::operator_at(symbols, offset);
     let mut scratch = [0u32; 1024];
     let mut work = [0u8; 24624];
     let mut units = [0u32; 8];
@@ -86,7 +87,7 @@ fn carry_out(
     match whole::rewrite(
         bytes,
         operators,
-        rules,
+        net,
         symbols,
         &mut scratch,
         &mut work,
@@ -94,6 +95,7 @@ fn carry_out(
         Place {
             unit: 0,
             offset: offset,
+            operator,
         },
         Progress {
             rewrites: 0,
@@ -121,22 +123,37 @@ fn carry_out(
 fn try_rewrite(
     bytes: &[u8],
     operators: &[u8; 4352],
-    rules: &[u32; 1024],
+    net: &[u8],
     symbols: &mut [u32; 1024],
     offset: usize,
 )
-    requires { ⌜ Present (now bytes) (now operators) (now rules) (now symbols) offset ⌝ }
+    requires { ⌜ Present (now bytes) (now operators) (now net) (now symbols) offset ⌝ }
 {
+    let first = net::root(net, term::operator_at(symbols, offset));
+    if first == 0 {
+        say(b"none");
+        return;
+    }
+    // The search's stack, then the right side.
+    let mut filled = [0u32; 1024];
     let mut bound = [0; 32];
-    let Hit::Rule(m) = rule::find(bytes, operators, rules, symbols, offset, &mut bound) else {
+    let Hit::Rule(m) = lookup::find(
+        bytes,
+        operators,
+        net,
+        symbols,
+        offset,
+        first - 1,
+        &mut filled,
+        &mut bound,
+    ) else {
         say(b"none");
         return;
     };
-    let right = tables::right_side(rules, m.rule);
+    let right = net::right_side(net, m.rule);
     say_found(m.rule, m.end);
-    let mut filled = [0u32; 1024];
     let size = try_fill(bytes, right, operators, symbols, &bound, &mut filled);
-    carry_out(bytes, operators, rules, symbols, offset, &filled, size);
+    carry_out(bytes, operators, net, symbols, offset, &filled, size);
 }
 
 // The line at the front of space; how many bytes.
@@ -153,15 +170,8 @@ fn load(line: &[u8], space: &mut [u8; 1024]) -> usize
 }
 
 // A line against a book of n operators that is read.
-fn try_line(
-    bytes: &[u8],
-    n: usize,
-    operators: &[u8; 4352],
-    rules: &[u32; 1024],
-    line: &[u8],
-    offset: usize,
-)
-    requires { ⌜ (length (now bytes) ≤ 65536) × TablesOf (now bytes) (now operators) (now rules) × (n ≡ length (book-of (now bytes) (now rules) .operators)) ⌝ }
+fn try_line(bytes: &[u8], n: usize, operators: &[u8; 4352], net: &[u8], line: &[u8], offset: usize)
+    requires { ⌜ (length (now bytes) ≤ 65536) × NetOf (now bytes) (now operators) (now net) × (n ≡ length (book-by (now bytes) (now net) .operators)) ⌝ }
 {
     match line::check_line(line, n, operators) {
         Line::Refused(k) => say_refused(k),
@@ -178,7 +188,7 @@ fn try_line(
             }
             let mut symbols = [0u32; 1024];
             term::load(&mut symbols, operators, &space, len);
-            try_rewrite(bytes, operators, rules, &mut symbols, offset);
+            try_rewrite(bytes, operators, net, &mut symbols, offset);
         }
     }
 }
@@ -188,10 +198,14 @@ fn try_book(bytes: &[u8], line: &[u8], offset: usize)
     requires { ⌜ length (now bytes) ≤ 65536 ⌝ }
 {
     let mut operators = [0u8; 4352];
-    let mut rules = [0u32; 1024];
+    let mut rules = [0u32; 512];
     match book::read_book(bytes, 0, &mut operators, &mut rules) {
         Book::Refused(k) => say_refused(k),
-        Book::Read(n) => try_line(bytes, n, &operators, &rules, line, offset),
+        Book::Read(n) => {
+            let mut net = [0u8; net::NET];
+            insertion::build(bytes, &operators, &rules, &mut net);
+            try_line(bytes, n, &operators, &net, line, offset)
+        }
     }
 }
 

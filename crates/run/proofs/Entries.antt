@@ -13,8 +13,9 @@ use Rattle.flat.specs.Machine.{FlatState, FlatOutcome, going, ended, flat-entry
 use Rattle.flat.specs.Run.{FlatAnswer, flat-answer, after, flat-run-from, Reached}
 use Rattle.flat.proofs.Inside.{known-entry}
 use Rattle.flat.proofs.Tallies.{Tallied, tallied-next}
-use Rattle.tables.specs.Tables.{book-of}
 use Rattle.tables.proofs.Laws.{all-at}
+use Rattle.net.specs.Net.{book-by}
+use Rattle.net.proofs.Laws.{tables-by}
 use Rattle.whole.specs.declared.Progress.{Progress}
 use Rattle.whole.specs.declared.Limits.{Limits}
 use Rattle.entry.specs.State.{limited, state, Arrays}
@@ -45,20 +46,20 @@ module _ (B : Book) (L : paper.Limits) (us : List ℕ) (i : ℕ) (s : FlatState)
 -- THE STATE AS IT IS KEPT
 
 -- after i entries of the run from the state s₀
-pub record Along (bytes operators rules : List ℕ) (l : Limits) (schedule : List ℕ) (s₀ : FlatState) (symbols scratch work units : List ℕ) (p : Progress) (i : ℕ) :
+pub record Along (bytes operators net : List ℕ) (l : Limits) (schedule : List ℕ) (s₀ : FlatState) (symbols scratch work units : List ℕ) (p : Progress) (i : ℕ) :
     Type 0 where
   pub arrays : Arrays symbols scratch work units l
-  pub running : Running bytes operators rules l (state symbols work units p l)
+  pub running : Running bytes operators net l (state symbols work units p l)
   pub tallied : Tallied (l .budget) i (state symbols work units p l)
-  pub is : flat-run-from (book-of bytes rules) (limited (l .budget)) 0 schedule s₀ ≡
-      flat-run-from (book-of bytes rules) (limited (l .budget)) i (drop i schedule) (state symbols work units p l)
+  pub is : flat-run-from (book-by bytes net) (limited (l .budget)) 0 schedule s₀ ≡
+      flat-run-from (book-by bytes net) (limited (l .budget)) i (drop i schedule) (state symbols work units p l)
   pub used : i ≤ length schedule
 
-module _ {bytes operators rules : List ℕ} {l : Limits} {schedule : List ℕ} where
+module _ {bytes operators net : List ℕ} {l : Limits} {schedule : List ℕ} where
   -- before the first entry
   pub along-start : {symbols scratch work units : List ℕ} → Arrays symbols scratch work units l →
-      Runnable bytes operators rules l schedule (state symbols work units beginning l) →
-      Along bytes operators rules l schedule (state symbols work units beginning l) symbols scratch work units beginning 0
+      Runnable bytes operators net l schedule (state symbols work units beginning l) →
+      Along bytes operators net l schedule (state symbols work units beginning l) symbols scratch work units beginning 0
   along-start a r = record {
     arrays = a;
     running = r .running;
@@ -68,9 +69,9 @@ module _ {bytes operators rules : List ℕ} {l : Limits} {schedule : List ℕ} w
   }
 
   module _ {s₀ : FlatState} {symbols scratch work units : List ℕ} {p : Progress} {i : ℕ}
-      (a : Along bytes operators rules l schedule s₀ symbols scratch work units p i) where
+      (a : Along bytes operators net l schedule s₀ symbols scratch work units p i) where
     -- the next entry may be made
-    pub along-turn : Runnable bytes operators rules l schedule s₀ → i + 1 < 2 ^ 64 → i < length schedule → (u : ℕ) → u ≡ getD schedule i 0 →
+    pub along-turn : Runnable bytes operators net l schedule s₀ → i + 1 < 2 ^ 64 → i < length schedule → (u : ℕ) → u ≡ getD schedule i 0 →
         Turn l u (state symbols work units p l)
     along-turn r room h u eu = record {
       one = rw eu (all-at _ 0 schedule i (r .named) h);
@@ -81,16 +82,16 @@ module _ {bytes operators rules : List ℕ} {l : Limits} {schedule : List ℕ} w
 
     module _ (h : i < length schedule) (u : ℕ) (eu : u ≡ getD schedule i 0) {symbols′ scratch′ work′ units′ : List ℕ} where
       -- the entry leads to another state
-      pub along-goes : (p′ : Progress) → going (state symbols′ work′ units′ p′ l) ≡ flat-entry (book-of bytes rules) (limited (l .budget)) u (state symbols work units p l) →
-          Arrays symbols′ scratch′ work′ units′ l → Along bytes operators rules l schedule s₀ symbols′ scratch′ work′ units′ p′ (i + 1)
+      pub along-goes : (p′ : Progress) → going (state symbols′ work′ units′ p′ l) ≡ flat-entry (book-by bytes net) (limited (l .budget)) u (state symbols work units p l) →
+          Arrays symbols′ scratch′ work′ units′ l → Along bytes operators net l schedule s₀ symbols′ scratch′ work′ units′ p′ (i + 1)
       unfolding after
       along-goes p′ e z =
-          let g = a .running .tables .tables .good in
-          let B = book-of bytes rules in
+          let g = tables-by (a .running .netted) .good in
+          let B = book-by bytes net in
           record {
             arrays = z;
             running = record {
-              tables = a .running .tables;
+              netted = a .running .netted;
               short = a .running .short;
               reached = Reached.next (a .running .reached) u (sym e);
               known = known-entry B g (limited (l .budget)) u _ _ (a .running .known) (sym e);
@@ -101,14 +102,14 @@ module _ {bytes operators rules : List ℕ} {l : Limits} {schedule : List ℕ} w
           }
 
       -- the entry ends the run, and the state is as it was
-      pub along-ends : (x : Ending) → ended (ending x) (state symbols′ work′ units′ p l) ≡ flat-entry (book-of bytes rules) (limited (l .budget)) u (state symbols work units p l) →
+      pub along-ends : (x : Ending) → ended (ending x) (state symbols′ work′ units′ p l) ≡ flat-entry (book-by bytes net) (limited (l .budget)) u (state symbols work units p l) →
           Arrays symbols′ scratch′ work′ units′ l → (r : Run) → r ≡ R.ended x (i + 1) p symbols′ →
-          (answer r symbols′ ≡ flat-run-from (book-of bytes rules) (limited (l .budget)) 0 schedule s₀) × Bounded l schedule symbols′ r
+          (answer r symbols′ ≡ flat-run-from (book-by bytes net) (limited (l .budget)) 0 schedule s₀) × Bounded l schedule symbols′ r
       unfolding after
       along-ends x e z r er = (
         ap (λ (q : Run). answer q symbols′) er
             ∙ ap (λ (j : ℕ). flat-answer (ending x) j (state symbols′ work′ units′ p l)) (add-one i)
-            ∙ sym (a .is ∙ run-more (book-of bytes rules) (limited (l .budget)) schedule i _ h u eu _ e),
+            ∙ sym (a .is ∙ run-more (book-by bytes net) (limited (l .budget)) schedule i _ h u eu _ e),
         rw er (record {
           long = z .symbols-long;
           root = refl;
@@ -121,9 +122,9 @@ module _ {bytes operators rules : List ℕ} {l : Limits} {schedule : List ℕ} w
 
     -- the schedule is at its end
     pub along-cut : length schedule ≤ i → (r : Run) → r ≡ R.ended Ending.Cut i p symbols →
-        (answer r symbols ≡ flat-run-from (book-of bytes rules) (limited (l .budget)) 0 schedule s₀) × Bounded l schedule symbols r
+        (answer r symbols ≡ flat-run-from (book-by bytes net) (limited (l .budget)) 0 schedule s₀) × Bounded l schedule symbols r
     along-cut h r er = (
-      ap (λ (q : Run). answer q symbols) er ∙ sym (a .is ∙ run-cut (book-of bytes rules) (limited (l .budget)) schedule i _ h),
+      ap (λ (q : Run). answer q symbols) er ∙ sym (a .is ∙ run-cut (book-by bytes net) (limited (l .budget)) schedule i _ h),
       rw er (record {
         long = a .arrays .symbols-long;
         root = refl;

@@ -25,9 +25,9 @@ ending Ending.Cut = paper.cut
 abbrev pub beginning : Progress
 beginning = record { rewrites = 0; granted = 0; kept = 0 }
 
--- the tables are a book's, s is a state that runs by it reach, every entry names one of the units, and the budget has 32 bits
-pub record Runnable (bytes operators rules : List ℕ) (l : Limits) (schedule : List ℕ) (s : FlatState) : Type 0 where
-  pub running : Running bytes operators rules l s
+-- the operators and the net are of a book, s is a state that runs by it reach, every entry names one of the units, and the budget has 32 bits
+pub record Runnable (bytes operators net : List ℕ) (l : Limits) (schedule : List ℕ) (s : FlatState) : Type 0 where
+  pub running : Running bytes operators net l s
   pub named : All (λ u. u < l .units) schedule
   pub small : l .budget < 2 ^ 32
 

@@ -7,7 +7,7 @@ ghost use Prim.Native.Nat.{_≤_};
 ghost use lib.ListN.{length};
 ghost use Rattle.flat.specs.Machine.{FlatState};
 ghost use Rattle.flat.specs.Run.{flat-run-from};
-ghost use Rattle.tables.specs.Tables.{book-of};
+ghost use Rattle.net.specs.Net.{book-by};
 ghost use Rattle.entry.specs.State as S;
 ghost use Rattle.run.specs.Contracts as R;
 
@@ -47,7 +47,7 @@ fn ended(ending: Ending, entries: usize, p: Progress, symbols: &[u32; 1024]) -> 
 pub fn run_schedule(
     book: &[u8],
     operators: &[u8; 4352],
-    rules: &[u32; 1024],
+    net: &[u8],
     symbols: &mut [u32; 1024],
     scratch: &mut [u32; 1024],
     work: &mut [u8],
@@ -58,8 +58,8 @@ pub fn run_schedule(
     ghost { FlatState }
     requires { λ s. ⌜ S.state (now symbols) (now work) (now units) R.beginning l ≡ s ⌝ }
     requires { λ s. ⌜ S.Arrays (now symbols) (now scratch) (now work) (now units) l ⌝ }
-    requires { λ s. ⌜ R.Runnable (now book) (now operators) (now rules) l (now schedule) s ⌝ }
-    ensures { λ s r. ⌜ R.answer r (now (symbols .exit)) ≡ flat-run-from (book-of (now (book .entry)) (now (rules .entry))) (S.limited (l .budget)) 0 (now (schedule .entry)) s ⌝ }
+    requires { λ s. ⌜ R.Runnable (now book) (now operators) (now net) l (now schedule) s ⌝ }
+    ensures { λ s r. ⌜ R.answer r (now (symbols .exit)) ≡ flat-run-from (book-by (now (book .entry)) (now (net .entry))) (S.limited (l .budget)) 0 (now (schedule .entry)) s ⌝ }
     ensures { λ s r. ⌜ R.Bounded l (now (schedule .entry)) (now (symbols .exit)) r ⌝ }
 {
     let mut p = Progress {
@@ -72,7 +72,7 @@ pub fn run_schedule(
         match entry::enter(
             book,
             operators,
-            rules,
+            net,
             symbols,
             scratch,
             work,

@@ -1,7 +1,7 @@
-// Cases from standard input, each a head of 18 bytes, then a name, a book, a line and a schedule. The head: 1 byte name length, 2 bytes book
-// length, 2 bytes line length, 1 byte units, 4 bytes budget, 2 bytes day, 2 bytes schedule length, 2 bytes work area's length, 2 bytes output's length
-// (most significant byte first). For each, a line with the name, what the run answers and its term in hexadecimal, and what became of the work area
-// and of the output behind the term.
+// Cases from standard input, each a head of 20 bytes, then a name, a book, a line and a schedule. The head: 1 byte name length, 2 bytes book
+// length, 2 bytes line length, 1 byte units, 4 bytes budget, 2 bytes day, 2 bytes schedule length, 2 bytes each for the lengths of work area, net and
+// output (most significant byte first). For each, a line with the name, what the run answers and its term in hexadecimal, and what became of the work
+// area, of the net and of the output behind the term.
 use cases::say;
 use cases::say_front;
 use cases::say_number;
@@ -16,6 +16,8 @@ ghost use lib.ListN.{length};
 // What the lent buffers hold before a run, so that a byte that is written shows.
 const WORK_FILLER: u8 = 0x5a;
 
+const NET_FILLER: u8 = 0x3c;
+
 const OUTPUT_FILLER: u8 = 0xa5;
 
 // What a case's head says.
@@ -28,6 +30,7 @@ struct Head {
     day: u16,
     schedule: usize,
     work: usize,
+    net: usize,
     output: usize,
 }
 
@@ -38,9 +41,9 @@ fn long_number(high: usize, low: usize) -> u32
     casts::word(high * 65536 + low)
 }
 
-fn head_of(bytes: &[u8; 18]) -> Head
-    requires { ⌜ length (now bytes) ≡ 18 ⌝ }
-    ensures { λ r. ⌜ (r .name < 256) × (r .book < 65536) × (r .line < 65536) × (r .schedule < 65536) × (r .work < 65536) × (r .output < 65536) ⌝ }
+fn head_of(bytes: &[u8; 20]) -> Head
+    requires { ⌜ length (now bytes) ≡ 20 ⌝ }
+    ensures { λ r. ⌜ (r .name < 256) × (r .book < 65536) × (r .line < 65536) × (r .schedule < 65536) × (r .work < 65536) × (r .net < 65536) × (r .output < 65536) ⌝ }
 {
     Head {
         name: casts::index(bytes[0]),
@@ -54,7 +57,8 @@ fn head_of(bytes: &[u8; 18]) -> Head
         day: casts::short(cases::number(bytes[10], bytes[11])),
         schedule: cases::number(bytes[12], bytes[13]),
         work: cases::number(bytes[14], bytes[15]),
-        output: cases::number(bytes[16], bytes[17]),
+        net: cases::number(bytes[16], bytes[17]),
+        output: cases::number(bytes[18], bytes[19]),
     }
 }
 
@@ -78,10 +82,14 @@ fn say_if(holds: bool, word: &[u8]) {
     }
 }
 
-// What became of the lent buffers: the work area all of one value, the output as it was from this place on.
-fn say_buffers(work: &[u8], value: u8, word: &[u8], output: &[u8], from: usize) {
-    say(b" work ");
-    say_if(all_are(work, 0, value), word);
+// What became of a work area or net: all of one value.
+fn say_area(name: &[u8], area: &[u8], value: u8, word: &[u8]) {
+    say(name);
+    say_if(all_are(area, 0, value), word);
+}
+
+// What became of the output: from this place on as it was.
+fn say_output(output: &[u8], from: usize) {
     say(b" output ");
     say_if(all_are(output, from, OUTPUT_FILLER), b"kept");
     say(b"\n");
@@ -123,17 +131,22 @@ fn try_run(
     day: u16,
     schedule: &[u8],
     work: &mut [u8],
+    net: &mut [u8],
     output: &mut [u8],
 ) {
-    match engine::reduce(book, line, units, budget, day, schedule, work, output) {
+    match engine::reduce(book, line, units, budget, day, schedule, work, net, output) {
         Answer::Refused(k) => {
             say_refused(k);
-            say_buffers(work, WORK_FILLER, b"kept", output, 0);
+            say_area(b" work ", work, WORK_FILLER, b"kept");
+            say_area(b" net ", net, NET_FILLER, b"kept");
+            say_output(output, 0);
         }
         Answer::Ran(run) => {
             let behind = run.length;
             say_run(run, output);
-            say_buffers(work, 0, b"zero", output, behind);
+            say_area(b" work ", work, 0, b"zero");
+            say_area(b" net ", net, 0, b"zero");
+            say_output(output, behind);
         }
     }
 }
@@ -144,7 +157,7 @@ fn filled(value: u8) -> [u8; 65536]
     [value; 65536]
 }
 
-// A run with a work area of `area` bytes and an output of `room` bytes.
+// A run with a work area of `area` bytes, a net of `ways` bytes and an output of `room` bytes.
 fn try_lengths(
     book: &[u8],
     line: &[u8],
@@ -153,11 +166,13 @@ fn try_lengths(
     day: u16,
     schedule: &[u8],
     area: usize,
+    ways: usize,
     room: usize,
 )
-    requires { ⌜ (area < 65536) × (room < 65536) ⌝ }
+    requires { ⌜ (area < 65536) × (ways < 65536) × (room < 65536) ⌝ }
 {
     let mut work = filled(WORK_FILLER);
+    let mut net = filled(NET_FILLER);
     let mut output = filled(OUTPUT_FILLER);
     try_run(
         book,
@@ -167,13 +182,14 @@ fn try_lengths(
         day,
         schedule,
         &mut work[..area],
+        &mut net[..ways],
         &mut output[..room],
     );
 }
 
 // A case behind its name. False where the input ends before it does.
 fn try_head(head: Head) -> bool
-    requires { ⌜ (head .book < 65536) × (head .line < 65536) × (head .schedule < 65536) × (head .work < 65536) × (head .output < 65536) ⌝ }
+    requires { ⌜ (head .book < 65536) × (head .line < 65536) × (head .schedule < 65536) × (head .work < 65536) × (head .net < 65536) × (head .output < 65536) ⌝ }
 {
     let mut book = io::large_buffer();
     let mut line = io::large_buffer();
@@ -195,6 +211,7 @@ fn try_head(head: Head) -> bool
         head.day,
         &schedule[..head.schedule],
         head.work,
+        head.net,
         head.output,
     );
     true
@@ -215,8 +232,8 @@ fn pass_name(n: usize) -> bool
 
 // The next case. False at the end of the input.
 fn try_case() -> bool {
-    let mut bytes = [0u8; 18];
-    if !cases::read_front(&mut bytes, 18) {
+    let mut bytes = [0u8; 20];
+    if !cases::read_front(&mut bytes, 20) {
         return false;
     }
     let head = head_of(&bytes);

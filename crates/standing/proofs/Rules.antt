@@ -23,7 +23,7 @@ use Rattle.paper.proofs.Lists.{all-map}
 use Rattle.paper.proofs.Tests.{leb-cases}
 use Rattle.paper.proofs.Standing.{standing-here, standing-not, replaced-here, replaced-not}
 use Rattle.tables.specs.Layout.{day-in, left-in, right-in, with-sides}
-use Rattle.tables.specs.Tables.{RuleIn, ruleAt, Unlinked}
+use Rattle.tables.specs.Tables.{RuleIn, ruleAt, Sides}
 use Rattle.tables.proofs.Laws.{all-at, stand-inside}
 use Rattle.tables.proofs.Grow.{rules-grow, sides-day}
 use Rattle.side.specs.Contracts.{bitsAt, NumberFits}
@@ -50,7 +50,7 @@ module _ {bytes rules : List ℕ} (A : AllDated bytes rules) (i : ℕ) (l : i < 
   rule-in =
       let e : ruleAt (map (λ r. r .rule) (rules-of bytes)) i ≡ rule .rule = List·getD-map (λ r. r .rule) (rules-of bytes) i _ in
       subst (λ (r : Rule). RuleIn bytes r (left-in rules i) (right-in rules i)) e
-      (A .unlinked .sides .each i (omega (arith, length-map (rules-of bytes) (λ r. r .rule))))
+      (A .sides .each i (omega (arith, length-map (rules-of bytes) (λ r. r .rule))))
 
   fits : All NumberFits (preorder (rule .rule .left))
   fits =
@@ -200,7 +200,7 @@ module _ (day : ℕ) (before : List DatedRule) (r : DatedRule) (behind : List Da
 -- the table has those of the first i rules that stand
 pub record Keeping (bytes : List ℕ) (day : ℕ) (rules₀ rules : List ℕ) (k i : ℕ) : Type 0 where
   pub kept : List Rule
-  pub unlinked : Unlinked bytes kept rules
+  pub sides : Sides bytes kept rules
   pub count : length kept ≡ k
   pub few : k ≤ i
   pub whole : kept ++ standing day (take i (rules-of bytes)) (drop i (rules-of bytes)) ≡ standing day [] (rules-of bytes)
@@ -210,7 +210,7 @@ module _ {bytes rules₀ : List ℕ} {day : ℕ} (A : AllDated bytes rules₀) w
   pub keeping-none : Keeping bytes day rules₀ rules₀ 0 0
   keeping-none = record {
     kept = [];
-    unlinked = record { sides = record { each = λ i l. absurd (omega arith); long = A .unlinked .sides .long }; none = A .unlinked .none };
+    sides = record { each = λ i l. absurd (omega arith); long = A .sides .long };
     count = refl;
     few = omega arith;
     whole = refl;
@@ -230,19 +230,19 @@ module _ {bytes rules₀ : List ℕ} {day : ℕ} (A : AllDated bytes rules₀) w
         let small : i < 255 = number-small A i l in
         let K′ : Keeping bytes day rules₀ (with-sides rules k left right) (k + 1) (i + 1) = record {
           kept = K .kept ++ (r ∷ []);
-          unlinked = rules-grow bytes r k left right rules (omega (arith, K .few)) (rule-in A i l) (K .kept) (K .count) (K .unlinked);
+          sides = rules-grow bytes r k left right rules (omega (arith, K .few)) (rule-in A i l) (K .kept) (K .count) (K .sides);
           count = omega (arith, length-append (K .kept) (r ∷ []), K .count);
           few = omega (arith, K .few);
           whole =
               append-assoc (K .kept) (r ∷ []) _ ∙ ap (λ (qs : List Rule). K .kept ++ qs) (sym (standing-here day (rules-of bytes) i l (sym s ∙ t))) ∙ K .whole;
-          same-day = sides-day rules k left right ∙ K .same-day;
+          same-day = sides-day rules k left right (omega (arith, K .few)) ∙ K .same-day;
         } in
         rw g K′
 
     pub keeping-same : {b : Bool} → b ≡ false → StandsIs b → Keeping bytes day rules₀ rules k (i + 1)
     keeping-same t s = record {
       kept = K .kept;
-      unlinked = K .unlinked;
+      sides = K .sides;
       count = K .count;
       few = omega (arith, K .few);
       whole = ap (λ (qs : List Rule). K .kept ++ qs) (sym (standing-not day (rules-of bytes) i l (sym s ∙ t))) ∙ K .whole;
@@ -256,7 +256,7 @@ module _ {bytes rules₀ : List ℕ} {day : ℕ} (A : AllDated bytes rules₀) w
       let w : K .kept ≡ standing day [] (rules-of bytes) = sym (append-nil (K .kept)) ∙ (rw e at (K .whole)) in
       subst (λ (d : ℕ). Kept bytes d rules₀ rules k) same
       (record {
-        unlinked = subst (λ (qs : List Rule). Unlinked bytes qs rules) w (K .unlinked);
+        sides = subst (λ (qs : List Rule). Sides bytes qs rules) w (K .sides);
         count = sym (ap length w) ∙ K .count;
         same-day = K .same-day;
       })

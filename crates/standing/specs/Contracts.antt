@@ -14,7 +14,7 @@ use Rattle.paper.specs.Writer.{concat, write-symbol}
 use Rattle.paper.specs.Naming.{place, meeting, same-symbol}
 use Rattle.paper.specs.Dated.{standing}
 use Rattle.tables.specs.Layout.{day-in}
-use Rattle.tables.specs.Tables.{Unlinked}
+use Rattle.tables.specs.Tables.{Sides}
 use Rattle.side.specs.Contracts.{bitsAt, NumberFits}
 use Rattle.standing.specs.Keys.{second, key}
 use Rattle.standing.specs.Dates.{leftAt, rules-of}
@@ -90,6 +90,6 @@ pub record DayBefore (bytes : List ℕ) (left r : ℕ) : Type 0 where
 
 -- the table has the rules that stand on the day, m of them; the day that it names stays
 pub record Kept (bytes : List ℕ) (day : ℕ) (rules rules′ : List ℕ) (m : ℕ) : Type 0 where
-  pub unlinked : Unlinked bytes (standing day [] (rules-of bytes)) rules′
+  pub sides : Sides bytes (standing day [] (rules-of bytes)) rules′
   pub count : length (standing day [] (rules-of bytes)) ≡ m
   pub same-day : day-in rules′ ≡ day-in rules

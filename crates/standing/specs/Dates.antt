@@ -12,7 +12,7 @@ use Rattle.paper.specs.Dated.{DatedRule, DatedBook, AnyBook}
 use Rattle.paper.specs.Writer.{write-side}
 use Rattle.paper.specs.WellFormed.{GoodDated}
 use Rattle.tables.specs.Layout.{left-in, right-in}
-use Rattle.tables.specs.Tables.{any-book, Unlinked}
+use Rattle.tables.specs.Tables.{any-book, Sides}
 use Rattle.side.specs.Contracts.{bitsAt}
 
 -- rule i; what stands for a missing rule is of no weight
@@ -44,6 +44,6 @@ rules-of bytes = dated-book bytes .rules
 -- the bytes are a dated book, and the table has all its rules
 pub record AllDated (bytes rules : List ℕ) : Type 0 where
   pub short : length bytes ≤ 65536
-  pub unlinked : Unlinked bytes (map (λ r. r .rule) (rules-of bytes)) rules
+  pub sides : Sides bytes (map (λ r. r .rule) (rules-of bytes)) rules
   pub dates : Dates bytes (rules-of bytes) rules
   pub good : GoodDated (dated-book bytes)

@@ -73,7 +73,7 @@ fn compare(
 }
 
 // Do the left sides of the rules i and j, which take as many bits, agree up to the naming of variables? The first difference ends the walk.
-fn alike(book: &[u8], rules: &[u32; 1024], i: usize, j: usize) -> bool
+fn alike(book: &[u8], rules: &[u32; 512], i: usize, j: usize) -> bool
     requires { ⌜ AllDated (now book) (now rules) × (i < length (rules-of (now book))) × (j < length (rules-of (now book))) × (key (preorder (leftAt (rules-of (now book)) i)) ≡ key (preorder (leftAt (rules-of (now book)) j))) ⌝ }
     ensures { λ r. ⌜ r ≡ N.alike (leftAt (rules-of (now (book .entry))) i) (leftAt (rules-of (now (book .entry))) j) ⌝ }
 {
@@ -122,7 +122,7 @@ fn key_of(book: &[u8], left: usize, end: usize) -> usize
 }
 
 // The keys of the m rules.
-fn put_keys(book: &[u8], rules: &[u32; 1024], m: usize, keys: &mut [usize; 256])
+fn put_keys(book: &[u8], rules: &[u32; 512], m: usize, keys: &mut [usize; 256])
     requires { ⌜ AllDated (now book) (now rules) × (m ≡ length (rules-of (now book))) × (length (now keys) ≡ 256) ⌝ }
     ensures { λ _. ⌜ KeysIn (now (book .entry)) (now (keys .exit)) ⌝ }
 {
@@ -146,7 +146,7 @@ fn day_before(book: &[u8], left: usize) -> usize
 }
 
 // Is the day of rule j one of first to last, and does its left side, of the same key, agree with that of rule i?
-fn replaces(book: &[u8], rules: &[u32; 1024], first: usize, last: usize, i: usize, j: usize) -> bool
+fn replaces(book: &[u8], rules: &[u32; 512], first: usize, last: usize, i: usize, j: usize) -> bool
     requires { ⌜ AllDated (now book) (now rules) × (i < length (rules-of (now book))) × (j < length (rules-of (now book))) × (key (preorder (leftAt (rules-of (now book)) j)) ≡ key (preorder (leftAt (rules-of (now book)) i))) ⌝ }
     ensures { λ r. ⌜ r ≡ P.replaces first last (leftAt (rules-of (now (book .entry))) i) (datedAt (rules-of (now (book .entry))) j) ⌝ }
 {
@@ -163,7 +163,7 @@ fn replaces(book: &[u8], rules: &[u32; 1024], first: usize, last: usize, i: usiz
 // Is it so for one of the rules from a number up to another?
 fn replaced(
     book: &[u8],
-    rules: &[u32; 1024],
+    rules: &[u32; 512],
     keys: &[usize; 256],
     first: usize,
     last: usize,
@@ -190,7 +190,7 @@ fn replaced(
 // Does rule i, of m, stand on the day?
 fn stands(
     book: &[u8],
-    rules: &[u32; 1024],
+    rules: &[u32; 512],
     keys: &[usize; 256],
     m: usize,
     day: usize,
@@ -210,8 +210,8 @@ fn stands(
 }
 
 // The sides of rule i of one table become those of rule k of another.
-fn copy_sides(all: &[u32; 1024], i: usize, rules: &mut [u32; 1024], k: usize)
-    requires { ⌜ (i < 256) × (k < 256) ⌝ }
+fn copy_sides(all: &[u32; 512], i: usize, rules: &mut [u32; 512], k: usize)
+    requires { ⌜ (i < 255) × (k < 255) ⌝ }
     ensures { λ _. ⌜ now (rules .exit) ≡ with-sides (now (rules .entry)) k (left-in (now (all .entry)) i) (right-in (now (all .entry)) i) ⌝ }
 {
     let left = tables::left_side(all, i);
@@ -219,7 +219,7 @@ fn copy_sides(all: &[u32; 1024], i: usize, rules: &mut [u32; 1024], k: usize)
 }
 
 // Keeps those of the m rules that stand on the day, in book order. How many they are.
-pub fn keep(book: &[u8], day: u16, m: usize, rules: &mut [u32; 1024]) -> usize
+pub fn keep(book: &[u8], day: u16, m: usize, rules: &mut [u32; 512]) -> usize
     requires { ⌜ AllDated (now book) (now rules) × (m ≡ length (rules-of (now book))) ⌝ }
     ensures { λ r. ⌜ Kept (now (book .entry)) day (now (rules .entry)) (now (rules .exit)) r ⌝ }
 {

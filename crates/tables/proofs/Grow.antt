@@ -1,14 +1,15 @@
--- The rules' table: it grows by a rule at its end, and which elements the day and the links leave alone. Assumes nothing.
+-- The rules' table: it grows by a rule at its end, and what the day and the count leave alone. Assumes nothing.
 use mathlib.Core.List.{List, [], _∷_, _++_}
-use mathlib.Core.Path.{_≡_, sym, _∙_, subst}
-use Prim.Native.Nat.{ℕ, _+_, _<_}
+use mathlib.Core.Logic.{_⊎_, inl, inr}
+use mathlib.Core.Path.{_≡_, refl, sym, _∙_, subst}
+use Prim.Native.Nat.{ℕ, _+_, _≤_, _<_}
 use native.Mathlib.Omega.{arith}
 use lib.ListN.{length, getD, set, length-append, length-set, List·getD-append}
 use lib.Seq.{getD-at, getD-set-same, getD-set-other}
 use borrow.Author.Count.{below-more}
 use Rattle.paper.specs.Book.{Rule}
-use Rattle.tables.specs.Layout.{first-in, day-in, left-in, right-in, with-sides, with-day, with-link}
-use Rattle.tables.specs.Tables.{RuleIn, Unlinked}
+use Rattle.tables.specs.Layout.{day-in, count-in, left-in, right-in, with-sides, with-day, with-count}
+use Rattle.tables.specs.Tables.{RuleIn, Sides}
 
 -- what holds of each entry and of one more, where what is kept of an entry (Q) follows from what was known of it (P)
 pub snoc-each : {A : Type 0} (d : A) (xs : List A) (x : A) (n : ℕ) (P Q : ℕ → A → Type 0) → length xs ≡ n →
@@ -23,53 +24,65 @@ snoc-each d xs x n P Q e each keep here i l =
 -- RULES
 
 pub rules-grow : (bytes : List ℕ) (rule : Rule) (i l r : ℕ) (rules : List ℕ) → i < 255 → RuleIn bytes rule l r →
-    (rs : List Rule) → length rs ≡ i → Unlinked bytes rs rules → Unlinked bytes (rs ++ (rule ∷ [])) (with-sides rules i l r)
-rules-grow bytes rule i l r rules b here rs count u =
-    let mid : List ℕ = set rules (512 + i) l in
-    let t = u .sides in
-    let long : length mid ≡ 1024 = length-set rules (512 + i) l ∙ t .long in
-    let other : (k : ℕ) → (k ≡ 512 + i → ⊥) → (k ≡ 768 + i → ⊥) → getD (with-sides rules i l r) k 0 ≡ getD rules k 0 =
-    λ k m n. getD-set-other mid (768 + i) k r 0 n ∙ getD-set-other rules (512 + i) k l 0 m in
+    (rs : List Rule) → length rs ≡ i → Sides bytes rs rules → Sides bytes (rs ++ (rule ∷ [])) (with-sides rules i l r)
+rules-grow bytes rule i l r rules b here rs count t =
+    let mid : List ℕ = set rules i l in
+    let long : length mid ≡ 512 = length-set rules i l ∙ t .long in
+    let other : (k : ℕ) → (k ≡ i → ⊥) → (k ≡ 256 + i → ⊥) → getD (with-sides rules i l r) k 0 ≡ getD rules k 0 =
+    λ k m n. getD-set-other mid (256 + i) k r 0 n ∙ getD-set-other rules i k l 0 m in
     record {
-      sides = record {
-        each = snoc-each _ rs rule i
-            (λ j a. RuleIn bytes a (left-in rules j) (right-in rules j))
-            (λ j a. RuleIn bytes a (left-in (with-sides rules i l r) j) (right-in (with-sides rules i l r) j))
-            count (t .each)
-            (λ j a c p. rw (other (512 + j) (λ q. omega arith) (λ q. omega arith), other (768 + j) (λ q. omega arith) (λ q. omega arith)) p)
-            (rw (
-              getD-set-other mid (768 + i) (512 + i) r 0 (λ q. omega arith),
-              getD-set-same rules (512 + i) l 0 (omega (arith, t .long)),
-              getD-set-same mid (768 + i) r 0 (omega arith),
-            ) here);
-        long = length-set mid (768 + i) r ∙ long;
-      };
-      none = λ o k. rw (other o (λ q. omega arith) (λ q. omega arith)) (u .none o k);
+      each = snoc-each _ rs rule i
+          (λ j a. RuleIn bytes a (left-in rules j) (right-in rules j))
+          (λ j a. RuleIn bytes a (left-in (with-sides rules i l r) j) (right-in (with-sides rules i l r) j))
+          count (t .each)
+          (λ j a c p. rw (other j (λ q. omega arith) (λ q. omega arith), other (256 + j) (λ q. omega arith) (λ q. omega arith)) p)
+          (rw (
+            getD-set-other mid (256 + i) i r 0 (λ q. omega arith),
+            getD-set-same rules i l 0 (omega (arith, t .long)),
+            getD-set-same mid (256 + i) r 0 (omega arith),
+          ) here);
+      long = length-set mid (256 + i) r ∙ long;
     }
 
 -- THE DAY
 
-pub sides-day : (rules : List ℕ) (i l r : ℕ) → day-in (with-sides rules i l r) ≡ day-in rules
-sides-day rules i l r =
-    getD-set-other (set rules (512 + i) l) (768 + i) 511 r 0 (λ e. omega arith) ∙ getD-set-other rules (512 + i) 511 l 0 (λ e. omega arith)
+pub sides-day : (rules : List ℕ) (i l r : ℕ) → i < 255 → day-in (with-sides rules i l r) ≡ day-in rules
+sides-day rules i l r b =
+    getD-set-other (set rules i l) (256 + i) 255 r 0 (λ e. omega arith) ∙ getD-set-other rules i 255 l 0 (λ e. omega arith)
 
-pub link-day : (rules : List ℕ) (i root : ℕ) → i < 255 → root < 256 → day-in (with-link rules i root) ≡ day-in rules
-link-day rules i root l m =
-    getD-set-other (set rules (256 + i) (first-in rules root)) root 511 (i + 1) 0 (λ e. omega arith)
-    ∙ getD-set-other rules (256 + i) 511 (first-in rules root) 0 (λ e. omega arith)
+-- where an element behind a column is put, the sides of at most 255 rules stay
+set-sides : (rules : List ℕ) (k v : ℕ) → (k ≡ 255) ⊎ (k ≡ 511) → {bytes : List ℕ} {rs : List Rule} → length rs ≤ 255 → Sides bytes rs rules →
+    Sides bytes rs (set rules k v)
+set-sides rules k v e {bytes} {rs} few t =
+    let other : (j : ℕ) → (j ≡ k → ⊥) → getD (set rules k v) j 0 ≡ getD rules j 0 = λ j n. getD-set-other rules k j v 0 n in
+    record {
+      each = λ i l. rw (other i (λ q. apart k i e l q), other (256 + i) (λ q. further k i e l q)) (t .each i l);
+      long = length-set rules k v ∙ t .long;
+    }
+  where
+    apart : (k i : ℕ) → (k ≡ 255) ⊎ (k ≡ 511) → i < length rs → i ≡ k → ⊥
+    apart k i (inl e) l q = omega arith
+    apart k i (inr e) l q = omega arith
+
+    further : (k i : ℕ) → (k ≡ 255) ⊎ (k ≡ 511) → i < length rs → 256 + i ≡ k → ⊥
+    further k i (inl e) l q = omega arith
+    further k i (inr e) l q = omega arith
 
 module _ (rules : List ℕ) (day : ℕ) where
-  pub day-is : length rules ≡ 1024 → day-in (with-day rules day) ≡ day
-  day-is long = getD-set-same rules 511 day 0 (omega arith)
+  pub day-is : length rules ≡ 512 → day-in (with-day rules day) ≡ day
+  day-is long = getD-set-same rules 255 day 0 (omega arith)
 
-  day-other : (k : ℕ) → (k ≡ 511 → ⊥) → getD (with-day rules day) k 0 ≡ getD rules k 0
-  day-other k n = getD-set-other rules 511 k day 0 n
+  pub day-sides : {bytes : List ℕ} {rs : List Rule} → length rs ≤ 255 → Sides bytes rs rules → Sides bytes rs (with-day rules day)
+  day-sides few t = set-sides rules 255 day (inl refl) few t
 
-  pub day-sides : (i : ℕ) → (left-in (with-day rules day) i ≡ left-in rules i) × (right-in (with-day rules day) i ≡ right-in rules i)
-  day-sides i = (day-other (512 + i) (λ e. omega arith), day-other (768 + i) (λ e. omega arith))
+-- THE COUNT
 
-  pub day-unlinked : {bytes : List ℕ} {rs : List Rule} → Unlinked bytes rs rules → Unlinked bytes rs (with-day rules day)
-  day-unlinked u = record {
-    sides = record { each = λ i l. rw (day-sides i .0, day-sides i .1) (u .sides .each i l); long = length-set rules 511 day ∙ u .sides .long };
-    none = λ o l. rw (day-other o (λ e. omega arith)) (u .none o l);
-  }
+module _ (rules : List ℕ) (count : ℕ) where
+  pub count-is : length rules ≡ 512 → count-in (with-count rules count) ≡ count
+  count-is long = getD-set-same rules 511 count 0 (omega arith)
+
+  pub count-day : day-in (with-count rules count) ≡ day-in rules
+  count-day = getD-set-other rules 511 255 count 0 (λ e. omega arith)
+
+  pub count-sides : {bytes : List ℕ} {rs : List Rule} → length rs ≤ 255 → Sides bytes rs rules → Sides bytes rs (with-count rules count)
+  count-sides few t = set-sides rules 511 count (inr refl) few t

@@ -1,6 +1,6 @@
 -- The layout of a book's two tables: which element says what. `operators` has 4,352 bytes: the arity of operator o at o, the codes of its steps in
--- the 16 bytes from 256 + 16 * o on, 0 behind the last. `rules` has 1,024 numbers, in four columns of 256: the first rule of each root, behind each rule
--- the next of its root, and the bit positions of its left and of its right side. A rule's number is its index plus 1; 0 is none. Assumes nothing.
+-- the 16 bytes from 256 + 16 * o on, 0 behind the last. `rules` has 512 numbers, in two columns of 256: the bit positions of each rule's left and of its
+-- right side. A book has at most 255 rules; behind the columns stand the day and how many rules there are. Assumes nothing.
 use mathlib.Core.List.{List, [], _∷_, _++_, map}
 use mathlib.Core.Option.{Option, none, some}
 use mathlib.Core.Path.{_≡_}
@@ -86,32 +86,28 @@ set-row operators o r = take (256 + 16 * o) operators ++ (r ++ drop (256 + 16 * 
 
 -- RULES
 
--- the number of the first rule of root o; of the next rule of the same root behind rule i: bytes
-abbrev pub first-in : List ℕ → ℕ → ℕ
-first-in rules o = getD rules o 0 % 256
-
-abbrev pub next-in : List ℕ → ℕ → ℕ
-next-in rules i = getD rules (256 + i) 0 % 256
-
--- the day whose rules these are; it stands where the next of a 256th rule would, since a book has at most 255
-abbrev pub day-in : List ℕ → ℕ
-day-in rules = getD rules 511 0
-
 -- where the sides of rule i stand in the book's bits
 abbrev pub left-in : List ℕ → ℕ → ℕ
-left-in rules i = getD rules (512 + i) 0
+left-in rules i = getD rules i 0
 
 abbrev pub right-in : List ℕ → ℕ → ℕ
-right-in rules i = getD rules (768 + i) 0
+right-in rules i = getD rules (256 + i) 0
+
+-- the day whose rules these are, and how many they are
+abbrev pub day-in : List ℕ → ℕ
+day-in rules = getD rules 255 0
+
+abbrev pub count-in : List ℕ → ℕ
+count-in rules = getD rules 511 0
 
 -- the sides of rule i are put
 abbrev pub with-sides : List ℕ → ℕ → ℕ → ℕ → List ℕ
-with-sides rules i left right = set (set rules (512 + i) left) (768 + i) right
+with-sides rules i left right = set (set rules i left) (256 + i) right
 
 -- the day is put
 abbrev pub with-day : List ℕ → ℕ → List ℕ
-with-day rules day = set rules 511 day
+with-day rules day = set rules 255 day
 
--- rule i becomes the first of its root, before the one that was
-abbrev pub with-link : List ℕ → ℕ → ℕ → List ℕ
-with-link rules i root = set (set rules (256 + i) (first-in rules root)) root (i + 1)
+-- their number is put
+abbrev pub with-count : List ℕ → ℕ → List ℕ
+with-count rules count = set rules 511 count

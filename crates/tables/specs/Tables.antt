@@ -1,5 +1,4 @@
--- What the tables say of a book: its arities, its steps, where the sides of its rules stand in its bits, and the chain of the rules of each root.
--- Assumes nothing.
+-- What the tables say of a book: its arities, its steps, how many rules it has, and where their sides stand in its bits. Assumes nothing.
 use mathlib.Core.List.{List, [], _++_}
 use mathlib.Core.Path.{_≡_}
 use Prim.Native.Nat.{ℕ, zero, suc, _+_, _≤_, _<_}
@@ -12,7 +11,7 @@ use Rattle.paper.specs.Book.{Operator, Symbol, Rule, Book, operatorAt}
 use Rattle.paper.specs.Dated.{AnyBook, readAny, on-day}
 use Rattle.paper.specs.Writer.{concat, write-symbol}
 use Rattle.paper.specs.WellFormed.{GoodBook}
-use Rattle.tables.specs.Layout.{row, arity-in, row-in, first-in, next-in, day-in, left-in, right-in}
+use Rattle.tables.specs.Layout.{row, arity-in, row-in, count-in, day-in, left-in, right-in}
 
 -- THE BOOK
 
@@ -57,37 +56,15 @@ ruleAt rs i = getD rs i (record { left = node (Symbol.operator 0) nil; right = n
 
 pub record Sides (bytes : List ℕ) (rs : List Rule) (rules : List ℕ) : Type 0 where
   pub each : (i : ℕ) → i < length rs → RuleIn bytes (ruleAt rs i) (left-in rules i) (right-in rules i)
-  pub long : length rules ≡ 1024
-
--- the table says where the sides of the rules stand, and no rule is linked yet
-pub record Unlinked (bytes : List ℕ) (rs : List Rule) (rules : List ℕ) : Type 0 where
-  pub sides : Sides bytes rs rules
-  pub none : (o : ℕ) → o < 256 → first-in rules o ≡ 0
-
--- no number from a up to b has the property P
-abbrev pub NoneOf : (ℕ → Type 0) → ℕ → ℕ → Type 0
-NoneOf P a b = (j : ℕ) → a ≤ j → j < b → P j → ⊥
-
--- the first number from a up to b that has it, plus 1; 0 if there is none
-abbrev pub FirstOf : (ℕ → Type 0) → ℕ → ℕ → ℕ → Type 0
-FirstOf P a b zero = NoneOf P a b
-FirstOf P a b (suc k) = (a ≤ k) × (k < b) × P k × NoneOf P a k
+  pub long : length rules ≡ 512
 
 -- the left side of rule i has the root o
 abbrev pub Root : List Rule → ℕ → ℕ → Type 0
 Root rs o i = label (ruleAt rs i .left) ≡ Symbol.operator o
 
--- the chains of the rules from i up: the first rule of each root, and behind each rule the next of its root
-pub record ChainedFrom (i : ℕ) (rs : List Rule) (rules : List ℕ) : Type 0 where
-  pub first : (o : ℕ) → o < 256 → FirstOf (Root rs o) i (length rs) (first-in rules o)
-  pub next : (j o : ℕ) → i ≤ j → j < length rs → Root rs o j → FirstOf (Root rs o) (j + 1) (length rs) (next-in rules j)
-
-abbrev pub Chained : List Rule → List ℕ → Type 0
-Chained rs rules = ChainedFrom 0 rs rules
-
 pub record Rules (bytes : List ℕ) (rs : List Rule) (rules : List ℕ) : Type 0 where
   pub sides : Sides bytes rs rules
-  pub chained : Chained rs rules
+  pub counted : count-in rules ≡ length rs
 
 -- TABLES
 

@@ -7,7 +7,7 @@ ghost use Rattle.tables.specs.Layout as L;
 // The lengths of the two tables.
 pub const OPERATORS: usize = 4352;
 
-pub const RULES: usize = 1024;
+pub const RULES: usize = 512;
 
 // A step of an operator's settled strategy: VISIT or FORK of an argument, JOIN with its count, WHOLE; or none, behind the last.
 pub enum Step {
@@ -94,58 +94,52 @@ pub fn row_start(o: usize) -> usize
 
 // Rules
 
-// The number of the first rule of root o; 0 is none.
-pub fn first_rule(rules: &[u32; 1024], o: u8) -> usize
-    ensures { λ r. ⌜ (r ≡ L.first-in (now (rules .entry)) o) × (r < 256) ⌝ }
-{
-    casts::position(rules[casts::index(o)] % 256)
-}
-
-// The number of the next rule of the same root, behind rule i.
-pub fn next_rule(rules: &[u32; 1024], i: usize) -> usize
-    requires { ⌜ i < 256 ⌝ }
-    ensures { λ r. ⌜ (r ≡ L.next-in (now (rules .entry)) i) × (r < 256) ⌝ }
-{
-    casts::position(rules[256 + i] % 256)
-}
-
 // The day whose rules these are.
-pub fn put_day(rules: &mut [u32; 1024], day: u16)
+pub fn put_day(rules: &mut [u32; 512], day: u16)
     ensures { λ _. ⌜ now (rules .exit) ≡ L.with-day (now (rules .entry)) day ⌝ }
 {
-    rules[511] = casts::word(casts::offset(day));
+    rules[255] = casts::word(casts::offset(day));
+}
+
+pub fn day(rules: &[u32; 512]) -> usize
+    ensures { λ r. ⌜ (r ≡ L.day-in (now (rules .entry))) × (r < 2 ^ 32) ⌝ }
+{
+    casts::position(rules[255])
+}
+
+// How many rules there are.
+pub fn put_count(rules: &mut [u32; 512], count: usize)
+    requires { ⌜ count < 256 ⌝ }
+    ensures { λ _. ⌜ now (rules .exit) ≡ L.with-count (now (rules .entry)) count ⌝ }
+{
+    rules[511] = casts::word(count);
+}
+
+pub fn count(rules: &[u32; 512]) -> usize
+    ensures { λ r. ⌜ (r ≡ L.count-in (now (rules .entry))) × (r < 2 ^ 32) ⌝ }
+{
+    casts::position(rules[511])
 }
 
 // The bit positions of the sides of rule i.
-pub fn left_side(rules: &[u32; 1024], i: usize) -> usize
-    requires { ⌜ i < 256 ⌝ }
+pub fn left_side(rules: &[u32; 512], i: usize) -> usize
+    requires { ⌜ i < 255 ⌝ }
     ensures { λ r. ⌜ (r ≡ L.left-in (now (rules .entry)) i) × (r < 2 ^ 32) ⌝ }
 {
-    casts::position(rules[512 + i])
+    casts::position(rules[i])
 }
 
-pub fn right_side(rules: &[u32; 1024], i: usize) -> usize
-    requires { ⌜ i < 256 ⌝ }
+pub fn right_side(rules: &[u32; 512], i: usize) -> usize
+    requires { ⌜ i < 255 ⌝ }
     ensures { λ r. ⌜ (r ≡ L.right-in (now (rules .entry)) i) × (r < 2 ^ 32) ⌝ }
 {
-    casts::position(rules[768 + i])
+    casts::position(rules[256 + i])
 }
 
-pub fn put_sides(rules: &mut [u32; 1024], i: usize, left: usize, right: usize)
-    requires { ⌜ (i < 256) × (left < 2 ^ 32) × (right < 2 ^ 32) ⌝ }
+pub fn put_sides(rules: &mut [u32; 512], i: usize, left: usize, right: usize)
+    requires { ⌜ (i < 255) × (left < 2 ^ 32) × (right < 2 ^ 32) ⌝ }
     ensures { λ _. ⌜ now (rules .exit) ≡ L.with-sides (now (rules .entry)) i left right ⌝ }
 {
-    rules[512 + i] = casts::word(left);
-    rules[768 + i] = casts::word(right);
-}
-
-// Rule i becomes the first of its root, before the one that was.
-pub fn link(rules: &mut [u32; 1024], i: usize, root: u8)
-    requires { ⌜ i < 255 ⌝ }
-    ensures { λ _. ⌜ now (rules .exit) ≡ L.with-link (now (rules .entry)) i root ⌝ }
-{
-    let r = casts::index(root);
-    let first = rules[r] % 256;
-    rules[256 + i] = first;
-    rules[r] = casts::word(i + 1);
+    rules[i] = casts::word(left);
+    rules[256 + i] = casts::word(right);
 }

@@ -9,7 +9,7 @@ ghost use mathlib.Core.Path.{_≡_};
 ghost use mathlib.Core.Bool.{true, false};
 ghost use mathlib.Core.List.{List};
 ghost use Prim.Native.Nat.{ℕ, _+_, _-_, _*_, _%_, _<_, _≤_};
-ghost use lib.ListN.{length, getD, set, replicate};
+ghost use lib.ListN.{set};
 ghost use Rattle.flat.specs.Machine.{arrive};
 ghost use Rattle.units.specs.Frames.{flat, In-three-bytes};
 ghost use Rattle.units.specs.Stacks as K;
@@ -254,14 +254,4 @@ pub fn start(work: &mut [u8], units: &mut [u32; 8])
         }),
     );
     wake_unit(units, 0);
-}
-
-pub fn clear(work: &mut [u8])
-    ensures { λ _. ⌜ now (work .exit) ≡ replicate (length (now (work .entry))) 0 ⌝ }
-{
-    let mut i = 0;
-    while i < work.len() {
-        work[i] = 0;
-        i += 1;
-    }
 }

@@ -12,17 +12,20 @@ use Rattle.paper.specs.Sound.{SoundRule}
 use Rattle.paper.proofs.Rules.{good-sound}
 use Rattle.flat.proofs.Inside.{fill-known}
 use Rattle.flat.specs.Symbols.{Hit, Binding, fill}
-use Rattle.tables.specs.Layout.{right-in}
-use Rattle.tables.specs.Tables.{ruleAt, book-of}
+use Rattle.tables.specs.Tables.{ruleAt}
 use Rattle.tables.proofs.Laws.{rule-good}
 use Rattle.term.specs.Present.{length-in, operators-in}
 use Rattle.term.proofs.Sized.{held}
 use Rattle.term.proofs.Skipping.{sizes-book}
 use Rattle.splice.specs.Contracts.{Replaceable}
 use Rattle.rule.specs.Packed.{SideAt}
-use Rattle.rule.specs.Contracts.{Present, Rule-found}
+use Rattle.rule.specs.Contracts.{Rule-found}
 use Rattle.rule.specs.declared.Match as M
 use Rattle.rule.proofs.Tables.{right-stands}
+use Rattle.net.specs.Layout.{right-of}
+use Rattle.net.specs.Net.{book-by}
+use Rattle.net.proofs.Laws.{tables-by, rights-are}
+use Rattle.lookup.specs.Contracts.{Present}
 use Rattle.fill.specs.Contracts.{Fillable, Side-filled}
 use Rattle.fill.specs.declared.Size as Z
 use Rattle.whole.specs.Contracts.{spent, over, Rule-gives, Right-fits}
@@ -30,16 +33,16 @@ use Rattle.whole.specs.declared.Progress as P
 use Rattle.whole.specs.declared.Limits as L
 use Rattle.whole.proofs.Terms.{sized, length-is, end-is}
 
-module _ {bytes operators rules symbols : List ℕ} {a : ℕ} (here : Present bytes operators rules symbols a) where
+module _ {bytes operators net symbols : List ℕ} {a : ℕ} (here : Present bytes operators net symbols a) where
   abbrev B : Book
-  B = book-of bytes rules
+  B = book-by bytes net
 
   abbrev xs : List ℕ
   xs = operators-in symbols
 
   module _ {b : Binding} {m : M.Match} (h : Rule-found B operators a xs (length-in symbols) b m) where
     pub small : m .rule < 256
-    small = omega (arith, h .below, here .tables .tables .good .few-rules)
+    small = omega (arith, h .below, tables-by (here .netted) .good .few-rules)
 
     pub spends : (p : P.Progress) (l : L.Limits) → p .rewrites ≡ l .budget → Rule-gives B a xs (λ ys e. spent p l ≡ true)
     spends p l e = record { ys = _; e = m .end; hit = h .is; so = eq-eqb (p .rewrites) (l .budget) e }
@@ -48,12 +51,12 @@ module _ {bytes operators rules symbols : List ℕ} {a : ℕ} (here : Present by
     pub around : a + (length-in symbols - m .end) ≤ 1024
     around = omega (arith, end-is here (h .is), h .end, here .sized .most)
 
-    module _ {at : ℕ} (right-at : at ≡ right-in rules (m .rule)) where
+    module _ {at : ℕ} (right-at : at ≡ right-of net (m .rule)) where
       abbrev right : Side
       right = ruleAt (B .rules) (m .rule) .right
 
       stands : SideAt bytes at operators right
-      stands = rw right-at (right-stands (here .tables .tables) (m .rule) (h .below))
+      stands = rw (right-at, rights-are (here .netted) (m .rule) (h .below)) (right-stands (tables-by (here .netted)) (m .rule) (h .below))
 
       pub fillable : Fillable bytes at operators xs b
       fillable = record { short = here .short; side = right; stands = stands; bound = h .terms }
@@ -88,10 +91,10 @@ module _ {bytes operators rules symbols : List ℕ} {a : ℕ} (here : Present by
             Right-fits B a p l symbols scratch (record { size = k; end = m .end })
         picks f =
             let q = f .is .0 right stands in
-            let r : SoundRule B (ruleAt (B .rules) (m .rule)) = good-sound B _ (rule-good (here .tables .tables) (m .rule) (h .below)) in
+            let r : SoundRule B (ruleAt (B .rules) (m .rule)) = good-sound B _ (rule-good (tables-by (here .netted)) (m .rule) (h .below)) in
             record {
               left = ne-eqb (p .rewrites) (l .budget) unspent;
               hit = h .is ∙ ap (λ (ys : List ℕ). Hit.hit ys (m .end)) (sym q);
-              true-sizes = f .is .1 ∙ sizes-book B (here .tables .tables .operators-in) _ (rw q (fill-known B (preorder right) b xs (r .right-known) (here .known)));
+              true-sizes = f .is .1 ∙ sizes-book B (tables-by (here .netted) .operators-in) _ (rw q (fill-known B (preorder right) b xs (r .right-known) (here .known)));
               replaceable = replaceable (f .is .2);
             }

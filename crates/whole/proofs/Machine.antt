@@ -16,11 +16,11 @@ use Rattle.flat.specs.Sizes.{resize}
 use Rattle.flat.specs.Machine.{Frame, FlatUnit, flat-unit, unit, FlatState, FlatOutcome, going, ended, shift-unit, with-unit, proceed, do-rewrite, do-whole}
 use Rattle.symbol.specs.Record.{operator}
 use Rattle.symbol.specs.Record.{operators as operators-of}
-use Rattle.tables.specs.Tables.{book-of}
 use Rattle.term.specs.Present.{length-in, operators-in, sizes-in, Sized}
 use Rattle.term.specs.Contracts.{Loaded}
 use Rattle.term.proofs.Sized.{loaded-operators, loaded-sized}
-use Rattle.rule.specs.Contracts.{Present}
+use Rattle.net.specs.Net.{book-by}
+use Rattle.lookup.specs.Contracts.{Present}
 use Rattle.units.specs.Contracts.{Stacks-fit, topped, at}
 use Rattle.whole.specs.State.{Arrays, state, limits}
 use Rattle.whole.specs.Contracts.{spent, over, Rule-gives, Right-fits, Rewritten, Carried-out}
@@ -67,10 +67,10 @@ module _ (B : Book) (x : Pl.Place) (p : P.Progress) (l : L.Limits) (s : Arrays) 
       ap (λ (y : FlatUnit). put (t .units) (x .unit) (topped (Frame.job a 0 0) y)) top in
       rw (h, i, j, q, w, r, z)
 
-module _ {bytes operators rules : List ℕ} (x : Pl.Place) (p : P.Progress) (l : L.Limits) (s : Arrays)
-    (here : Present bytes operators rules (s .symbols) (x .offset)) where
+module _ {bytes operators net : List ℕ} (x : Pl.Place) (p : P.Progress) (l : L.Limits) (s : Arrays)
+    (here : Present bytes operators net (s .symbols) (x .offset)) where
   abbrev B : Book
-  B = book-of bytes rules
+  B = book-by bytes net
 
   abbrev xs : List ℕ
   xs = operators-in (s .symbols)

@@ -22,12 +22,13 @@ use Rattle.flat.proofs.Matching.{Hits, h-miss, h-hit, rewrite-hits}
 use Rattle.flat.proofs.Sizes.{spells-skip, spells-split, spells-append, sizes-replace, correct-spells}
 use Rattle.symbol.specs.Record as S
 use Rattle.tables.specs.Layout.{arity-in}
-use Rattle.tables.specs.Tables.{book-of}
 use Rattle.term.specs.Present.{length-in, operators-in, sizes-in, Sized}
 use Rattle.term.proofs.Sized.{operators-length, size-is, size-some, sized-same}
 use Rattle.term.proofs.Skipping.{known-arities}
-use Rattle.rule.specs.Contracts.{Present}
 use Rattle.rule.proofs.Terms.{term-at}
+use Rattle.net.specs.Net.{book-by}
+use Rattle.net.proofs.Laws.{tables-by}
+use Rattle.lookup.specs.Contracts.{Present}
 
 -- ONE TERM FOR ANOTHER
 
@@ -83,18 +84,18 @@ module _ {ar : ℕ → ℕ} {a e : ℕ} {xs ys : List ℕ} (g : Gives-way ar a e
 
 -- THE PRESENT TERM
 
-module _ {bytes operators rules symbols : List ℕ} {a : ℕ} (P : Present bytes operators rules symbols a) where
+module _ {bytes operators net symbols : List ℕ} {a : ℕ} (P : Present bytes operators net symbols a) where
   abbrev B : Book
-  B = book-of bytes rules
+  B = book-by bytes net
 
   abbrev xs : List ℕ
   xs = operators-in symbols
 
   sound : All (SoundRule B) (B .rules)
-  sound = all-map _ _ (good-sound B) (B .rules) (P .tables .tables .good .rules)
+  sound = all-map _ _ (good-sound B) (B .rules) (tables-by (P .netted) .good .rules)
 
   pub sized : Sized (arity B) symbols
-  sized = sized-same (arity-in operators) (arity B) symbols (known-arities B (P .tables .tables .operators-in) xs (P .known)) (P .sized)
+  sized = sized-same (arity-in operators) (arity B) symbols (known-arities B (tables-by (P .netted) .operators-in) xs (P .known)) (P .sized)
 
   pub length-is : length xs ≡ length-in symbols
   length-is = operators-length (arity B) symbols sized

@@ -6,11 +6,12 @@ use units::Frame;
 use units::Job;
 ghost use mathlib.Core.Path.{_≡_};
 ghost use Prim.Native.Nat.{_-_, _<_};
-ghost use lib.ListN.{length, drop};
-ghost use Rattle.tables.specs.Tables.{book-of};
+ghost use lib.ListN.{length, getD, drop};
+ghost use Rattle.symbol.specs.Record.{operator};
 ghost use Rattle.term.specs.Present.{length-in};
 ghost use Rattle.splice.specs.Contracts.{Replaceable};
-ghost use Rattle.rule.specs.Contracts.{Present};
+ghost use Rattle.net.specs.Net.{book-by};
+ghost use Rattle.lookup.specs.Contracts.{Present};
 ghost use Rattle.whole.specs.State as S;
 ghost use Rattle.whole.specs.Contracts as W;
 
@@ -27,10 +28,11 @@ pub struct Limits {
     pub budget: u32,
 }
 
-// Where an order is carried out: by which unit, on the term at which offset.
+// Where an order is carried out: by which unit, on the term at which offset, of which operator.
 pub struct Place {
     pub unit: usize,
     pub offset: usize,
+    pub operator: u8,
 }
 
 // No rule matches; a rule rewrote the term; the budget is used up; the new term would be too long.
@@ -55,22 +57,37 @@ enum Choice {
     Full,
 }
 
-// The first rule that matches at offset a; its right side, filled, goes into scratch.
+// The first rule that matches at offset a, where the operator o stands; its right side, filled, goes into scratch.
 fn choose(
     book: &[u8],
     operators: &[u8; 4352],
-    rules: &[u32; 1024],
+    net: &[u8],
     symbols: &[u32; 1024],
     scratch: &mut [u32; 1024],
     a: usize,
+    o: u8,
     p: Progress,
     l: Limits,
 ) -> Choice
-    requires { ⌜ Present (now book) (now operators) (now rules) (now symbols) a × (length (now scratch) ≡ 1024) ⌝ }
-    ensures { λ r. ⌜ W.Chosen (book-of (now (book .entry)) (now (rules .entry))) a p l (now (symbols .entry)) (now (scratch .exit)) r ⌝ }
+    requires { ⌜ Present (now book) (now operators) (now net) (now symbols) a × (length (now scratch) ≡ 1024) × (o ≡ operator (getD (now symbols) a 0)) ⌝ }
+    ensures { λ r. ⌜ W.Chosen (book-by (now (book .entry)) (now (net .entry))) a p l (now (symbols .entry)) (now (scratch .exit)) r ⌝ }
 {
+    let first = net::root(net, o);
+    // Most terms have a root without rules.
+    if first == 0 {
+        return Choice::Missed;
+    }
     let mut bound = [0; 32];
-    let Hit::Rule(m) = rule::find(book, operators, rules, symbols, a, &mut bound) else {
+    let Hit::Rule(m) = lookup::find(
+        book,
+        operators,
+        net,
+        symbols,
+        a,
+        first - 1,
+        scratch,
+        &mut bound,
+    ) else {
         return Choice::Missed;
     };
     // A budget that is used up is told before a term that would be too long.
@@ -78,7 +95,7 @@ fn choose(
         return Choice::Spent;
     }
     let end = m.end;
-    let at = tables::right_side(rules, m.rule);
+    let at = net::right_side(net, m.rule);
     let limit = 1024 - (a + (term::length(symbols) - end));
     match fill::fill(book, at, operators, symbols, limit, &bound, scratch) {
         Size::Fits(k) => Choice::Fits(Filled { size: k, end: end }),
@@ -126,7 +143,7 @@ fn apply(
 pub fn rewrite(
     book: &[u8],
     operators: &[u8; 4352],
-    rules: &[u32; 1024],
+    net: &[u8],
     symbols: &mut [u32; 1024],
     scratch: &mut [u32; 1024],
     work: &mut [u8],
@@ -137,10 +154,20 @@ pub fn rewrite(
 ) -> Whole
     ghost { S.Arrays }
     requires { λ s. ⌜ S.arrays (now symbols) (now work) (now units) ≡ s ⌝ }
-    requires { λ s. ⌜ Present (now book) (now operators) (now rules) (s .symbols) (place .offset) × (length (now scratch) ≡ 1024) × W.Units-due (s .store) (l .units) place (length-in (s .symbols)) ⌝ }
-    ensures { λ s r. ⌜ W.Carried-out (book-of (now (book .entry)) (now (rules .entry))) place p l s (S.arrays (now (symbols .exit)) (now (work .exit)) (s .store .cells)) r × (length (now (scratch .exit)) ≡ 1024) ⌝ }
+    requires { λ s. ⌜ Present (now book) (now operators) (now net) (s .symbols) (place .offset) × (length (now scratch) ≡ 1024) × W.Units-due (s .store) (l .units) place (length-in (s .symbols)) × (place .operator ≡ operator (getD (now symbols) (place .offset) 0)) ⌝ }
+    ensures { λ s r. ⌜ W.Carried-out (book-by (now (book .entry)) (now (net .entry))) place p l s (S.arrays (now (symbols .exit)) (now (work .exit)) (s .store .cells)) r × (length (now (scratch .exit)) ≡ 1024) ⌝ }
 {
-    match choose(book, operators, rules, symbols, scratch, place.offset, p, l) {
+    match choose(
+        book,
+        operators,
+        net,
+        symbols,
+        scratch,
+        place.offset,
+        place.operator,
+        p,
+        l,
+    ) {
         Choice::Missed => Whole::Missed,
         Choice::Spent => Whole::Spent,
         Choice::Full => Whole::Full,

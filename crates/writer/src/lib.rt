@@ -274,7 +274,7 @@ fn write_short(book: &[u8], output: &mut [u8]) -> Written
     ensures { λ r. ⌜ Answers (now (book .entry)) (now (output .entry)) (now (output .exit)) r ⌝ }
 {
     let mut operators = [0u8; 4352];
-    let mut rules = [0u32; 1024];
+    let mut rules = [0u32; 512];
     let mut nowhere = [0u8; 1];
     match book::read_book(book, 0, &mut operators, &mut rules) {
         Book::Refused(k) => Written::Refused(k),

@@ -11,6 +11,7 @@ static const uint8_t letters[] = {43,   0x02, 0x22, 0x22, 0x22, 0x22, 0x22, 0x22
                                   0x22, 0x22, 0x22, 0x22, 0x22, 0x22, 0x22, 0x22, 0x22, 0x22, 0x20, 0x00};
 
 static uint8_t work[KURVNEIST_WORK_LENGTH];
+static uint8_t net[KURVNEIST_NET_LENGTH];
 static uint8_t output[KURVNEIST_OUTPUT_LENGTH];
 static uint64_t answer[KURVNEIST_ANSWER_LENGTH];
 static int wrong = 0;
@@ -21,30 +22,40 @@ static void due(const char *what, uint8_t expected, uint8_t told) {
     wrong++;
 }
 
+/* Both areas and the output, each with its length. */
+#define WORK work, sizeof work
+#define NET net, sizeof net
+#define OUTPUT output, sizeof output
+#define NOTHING NULL, 0
+
 static void lines(void) {
     due("no book", KURVNEIST_BOOK_RUNS_OUT,
-        kurvneist_reduce(NULL, 0, line, sizeof line, 1, 9, 0, NULL, 0, work, sizeof work, output, sizeof output, answer));
+        kurvneist_reduce(NOTHING, line, sizeof line, 1, 9, 0, NOTHING, WORK, NET, OUTPUT, answer));
     due("no line", KURVNEIST_LINE_IS_NO_TERM,
-        kurvneist_reduce(constant, sizeof constant, NULL, 0, 1, 9, 0, NULL, 0, work, sizeof work, output, sizeof output, answer));
+        kurvneist_reduce(constant, sizeof constant, NOTHING, 1, 9, 0, NOTHING, WORK, NET, OUTPUT, answer));
     due("no work area", KURVNEIST_WORK_TOO_SHORT,
-        kurvneist_reduce(constant, sizeof constant, line, sizeof line, 1, 9, 0, NULL, 0, NULL, 0, output, sizeof output, answer));
+        kurvneist_reduce(constant, sizeof constant, line, sizeof line, 1, 9, 0, NOTHING, NOTHING, NET, OUTPUT, answer));
+    due("no area for the net", KURVNEIST_WORK_TOO_SHORT,
+        kurvneist_reduce(constant, sizeof constant, line, sizeof line, 1, 9, 0, NOTHING, WORK, NOTHING, OUTPUT, answer));
     due("no output", KURVNEIST_OUTPUT_TOO_SHORT,
-        kurvneist_reduce(constant, sizeof constant, line, sizeof line, 1, 9, 0, NULL, 0, work, sizeof work, NULL, 0, answer));
-    due("nothing", KURVNEIST_BAD_UNITS, kurvneist_reduce(NULL, 0, NULL, 0, 0, 0, 0, NULL, 0, NULL, 0, NULL, 0, answer));
+        kurvneist_reduce(constant, sizeof constant, line, sizeof line, 1, 9, 0, NOTHING, WORK, NET, NOTHING, answer));
+    due("nothing", KURVNEIST_BAD_UNITS,
+        kurvneist_reduce(NOTHING, NOTHING, 0, 0, 0, NOTHING, NOTHING, NOTHING, NOTHING, answer));
     due("no schedule", KURVNEIST_ACCEPTED,
-        kurvneist_reduce(constant, sizeof constant, line, sizeof line, 1, 9, 0, NULL, 0, work, sizeof work, output, sizeof output,
-                         answer));
+        kurvneist_reduce(constant, sizeof constant, line, sizeof line, 1, 9, 0, NOTHING, WORK, NET, OUTPUT, answer));
     due("the ending without a schedule", KURVNEIST_CUT, (uint8_t)answer[KURVNEIST_ENDING]);
 }
 
 static void texts(void) {
     due("a text without a book", KURVNEIST_BOOK_RUNS_OUT,
-        kurvneist_payee(NULL, 0, NULL, 0, 1, 9, 0, NULL, 0, work, sizeof work, output, sizeof output, answer));
+        kurvneist_payee(NOTHING, NOTHING, 1, 9, 0, NOTHING, WORK, NET, OUTPUT, answer));
+    due("no area for the net of a text", KURVNEIST_WORK_TOO_SHORT,
+        kurvneist_payee(NOTHING, NOTHING, 1, 9, 0, NOTHING, WORK, NOTHING, OUTPUT, answer));
     due("no text, no letters", KURVNEIST_NO_LETTERS,
-        kurvneist_payee(constant, sizeof constant, NULL, 0, 1, 9, 0, NULL, 0, work, sizeof work, output, sizeof output, answer));
+        kurvneist_payee(constant, sizeof constant, NOTHING, 1, 9, 0, NOTHING, WORK, NET, OUTPUT, answer));
     output[0] = 7;
     due("no text", KURVNEIST_ACCEPTED,
-        kurvneist_payee(letters, sizeof letters, NULL, 0, 1, 9, 0, NULL, 0, work, sizeof work, output, sizeof output, answer));
+        kurvneist_payee(letters, sizeof letters, NOTHING, 1, 9, 0, NOTHING, WORK, NET, OUTPUT, answer));
     due("the symbols of no text", 1, (uint8_t)answer[KURVNEIST_LENGTH]);
     due("the term of no text", 0, output[0]);
 }

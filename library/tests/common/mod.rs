@@ -2,7 +2,7 @@
 
 #![allow(dead_code)]
 
-use kurvneist::Request;
+use kurvneist::{Request, NET_LENGTH, OUTPUT_LENGTH, WORK_LENGTH};
 
 #[derive(Clone, Copy)]
 pub enum Symbol {
@@ -123,4 +123,42 @@ pub fn junk(length: usize) -> Vec<u8> {
     (0..length)
         .map(|place| (place as u8).wrapping_mul(31) ^ 0x5A)
         .collect()
+}
+
+/// The three buffers that a run is lent to write to.
+pub struct Lent {
+    pub work: Vec<u8>,
+    pub net: Vec<u8>,
+    pub output: Vec<u8>,
+}
+
+/// The lengths that a run asks for: of the work area, of the net's and of the output.
+pub const LENGTHS: [usize; 3] = [WORK_LENGTH, NET_LENGTH, OUTPUT_LENGTH];
+
+impl Lent {
+    /// Buffers of these lengths, full of junk.
+    pub fn new([work, net, output]: [usize; 3]) -> Lent {
+        Lent {
+            work: junk(work),
+            net: junk(net),
+            output: junk(output),
+        }
+    }
+
+    /// The areas are zero, at their full lengths, and the output has changed at its front only.
+    pub fn check_run(&self, length: usize) {
+        assert!(self.work.iter().all(|byte| *byte == 0), "the work area");
+        assert!(self.net.iter().all(|byte| *byte == 0), "the net's area");
+        assert!(self.output[length..] == junk(self.output.len())[length..]);
+    }
+
+    pub fn check_unchanged(&self, refusal: u8) {
+        for (name, lent) in [
+            ("work area", &self.work),
+            ("net's area", &self.net),
+            ("output", &self.output),
+        ] {
+            assert!(*lent == junk(lent.len()), "the {name} of refusal {refusal}");
+        }
+    }
 }

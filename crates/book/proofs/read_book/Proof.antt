@@ -2,7 +2,7 @@
 use native.Mathlib.Omega.{arith}
 use borrow.Author.Needs.{needs}
 use Rattle.bits.proofs.Reading.{got, got-as, ran-out}
-use Rattle.book.proofs.Parts.{count-out, count-zero, operators-refused, tail-refuses, all-read, book-is}
+use Rattle.book.proofs.Parts.{count-out, count-zero, operators-refused, tail-refuses, all-read, kept-few, book-is}
 use Rattle.book.proofs.read_book.Statement.{statement}
 use Rattle.book.proofs.read_book.Tie as tie
 
@@ -43,14 +43,8 @@ keep-standing-requires c κs =
           (rw (p .next .given .1) at (o .read-operators .ensures)) (rw (m .m .given .1) at (t .read-tail .ensures)) (d .put-day .ensures),
     )
 
-link-rules-requires : tie.Need-link-rules-requires
-link-rules-requires c κs =
-    let s = c .before in
-    let m = s .before .before .before .before .before in
-    let p = m .before .before .before .before .before .before in
-    let i = p .before .before .before .before in
-    let f = i .before .before .before .before .before in
-    (f .before .before .before .before .pre .0, s .keep-standing .ensures .linkable)
+put-count-requires : tie.Need-put-count-requires
+put-count-requires c κs = kept-few (c .before .keep-standing .ensures)
 
 returns-3 : tie.Need-returns-3
 returns-3 c =
@@ -89,11 +83,11 @@ returns-5 c =
     book-is _ (f .before .before .is-dated .ensures) (f .before .start .ensures)
     (got-as (got (f .field .ensures) (k .count .given .1)) (n .offset .ensures .0)) (i .if1 .left)
     (rw (p .next .given .1) at (o .read-operators .ensures)) (rw (m .m .given .1) at (t .read-tail .ensures)) (s .keep-standing .ensures)
-    (c .link-rules .ensures)
+    (c .put-count .ensures)
 
 pub read-book-spec : {M : Type 1} → statement M
 read-book-spec =
     tie.close
     (tie.spec (λ c κs. search needs) (λ c κs. search needs) (λ c κs. search needs) (λ c. search needs) (λ c. search needs) returns
     (λ c κs. search needs) returns-2 read-operators-requires (λ c. search needs) (λ c. search needs) (λ c κs. search needs) (λ c. search needs)
-    (λ c. search needs) (λ c κs. search needs) keep-standing-requires link-rules-requires returns-3 returns-4 returns-5)
+    (λ c. search needs) (λ c κs. search needs) keep-standing-requires put-count-requires returns-3 returns-4 returns-5)

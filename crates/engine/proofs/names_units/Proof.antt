@@ -26,10 +26,12 @@ loop-again c =
     (omega arith, l .loop .inv .1 ∙ names-more _ _ (l .loop .i) _ _ (omega arith) (k .0) (k .1) (k .2 _))
 
 returns : tie.Need-returns Inv-loop μ-loop
-returns c = sym (c .before .loop .inv .1 ∙ sym (names-all _ _ (c .before .loop .i) _ (omega arith)))
+returns c =
+    let l = c .before .before .loop in
+    rw (c .index .ensures .0) (sym (l .inv .1 ∙ sym (names-all _ _ (l .i) _ (omega arith))))
 
 pub names-units-spec : {M : Type 1} → statement M
 names-units-spec =
     tie.close
     (tie.spec Inv-loop μ-loop loop-holds (λ c. search needs) (λ c κs. search needs) (λ c. search needs) (λ c. search needs) loop-again
-    returns)
+    (λ c κs. search needs) returns)

@@ -12,19 +12,19 @@ returns c = refuses _ (by-frame _ _ _ (faulty _ _ (c .before .frame-fault .ensur
 
 reduce-book-requires : tie.Need-reduce-book-requires
 reduce-book-requires c κs =
-    let i = c .before .before .before .before in
+    let i = c .before .before .before .before .before in
     record { faultless = sym (i .before .frame-fault .ensures) ∙ i .if1 .left; short = omega arith }
 
 returns-2 : tie.Need-returns-2
-returns-2 c = reduced-prefix (omega arith) (c .before .before .before .before .reduce-book .ensures)
+returns-2 c = reduced-prefix (omega arith) (c .before .before .before .before .before .before .reduce-book .ensures)
 
 reduce-book-requires-2 : tie.Need-reduce-book-requires-2
 reduce-book-requires-2 c κs =
-    let i = c .before .before .before in
+    let i = c .before .before .before .before in
     record { faultless = sym (i .before .frame-fault .ensures) ∙ i .if1 .left; short = omega arith }
 
 pub reduce-form-spec : {M : Type 1} → statement M
 reduce-form-spec =
     tie.close
     (tie.spec (λ c κs. search needs) returns (λ c. search needs) (λ c. search needs) (λ c. search needs) reduce-book-requires (λ c. search needs)
-    (λ c. search needs) returns-2 reduce-book-requires-2 (λ c. search needs) (λ c. search needs) (λ c. search needs))
+    (λ c. search needs) (λ c. search needs) returns-2 reduce-book-requires-2 (λ c. search needs) (λ c. search needs) (λ c. search needs) (λ c. search needs))

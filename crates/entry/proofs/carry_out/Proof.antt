@@ -7,7 +7,7 @@ use Rattle.entry.proofs.carry_out.Tie as tie
 
 visit-requires : tie.Need-visit-requires
 visit-requires c κs =
-    let q = c .before .before .before .before .before .before .before .pre in
+    let q = c .before .before .before .before .before .before .before .before .pre in
     let t = q .1 in
     rw (t .3) (visit-asks (q .0) (t .0) (t .1) (t .2))
 
@@ -18,14 +18,14 @@ returns : tie.Need-returns
 returns c =
     let v = c .before .before in
     let i = v .before .before .before in
-    let q = i .before .before .before .before .before .pre in
+    let q = i .before .before .before .before .before .before .pre in
     let t = q .1 in
     visited (q .0) (t .0) (t .1) (t .2) (i .if1 .taken) (rw (t .3) at (v .visit .ensures))
 
 step-requires : tie.Need-step-requires
 step-requires c κs =
     let i = c .before .before .before .before in
-    let q = i .before .before .before .before .before .pre in
+    let q = i .before .before .before .before .before .before .pre in
     (q .0, (q .1, omega (arith, i .if1 .left)))
 
 same-length-2 : tie.Need-same-length-2

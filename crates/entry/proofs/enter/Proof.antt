@@ -14,12 +14,12 @@ is-busy-requires c κs = search needs
 returns : tie.Need-returns
 returns c =
     let b = c .before in
-    let q = b .before .before .before .before .pre in
+    let q = b .before .before .before .before .before .pre in
     stayed (q .0) (q .1 .0) (q .1 .1) (sym (b .is-busy .ensures) ∙ not-true _ (c .if1 .taken))
 
 top-requires : tie.Need-top-requires
 top-requires c κs =
-    let q = c .before .before .before .before .before .before .before .pre in
+    let q = c .before .before .before .before .before .before .before .before .pre in
     has-frame (q .0) (q .1 .0) (q .1 .1)
 
 enum-known-job : tie.Need-enum-known-job
@@ -41,7 +41,7 @@ carry-out-requires c κs =
     let o = m .before .before in
     let i = o .before .before .before in
     let b = i .before in
-    let q = b .before .before .before .before .pre in (
+    let q = b .before .before .before .before .before .pre in (
       q .0,
       (
         q .1 .0,
@@ -60,7 +60,7 @@ exit-requires c κs =
     let o = m .before .before in
     let i = o .before .before .before in
     let b = i .before in
-    let q = b .before .before .before .before .pre in
+    let q = b .before .before .before .before .before .pre in
     exit-asks (q .0) (q .1 .0) (q .1 .1) (sym (b .is-busy .ensures) ∙ not-false _ (i .if1 .left)) (rw (m .exit .given .1) at (o .top .ensures))
 
 enum-told : tie.Need-enum-told
@@ -88,7 +88,7 @@ returns-3 c =
     let o = m .before .before in
     let i = o .before .before .before in
     let b = i .before in
-    let q = b .before .before .before .before .pre in
+    let q = b .before .before .before .before .before .pre in
     exited (q .0) (q .1 .0) (q .1 .1) (sym (b .is-busy .ensures) ∙ not-false _ (i .if1 .left)) (rw (m .exit .given .1) at (o .top .ensures)) (x .exit2 .ensures)
 
 same-length-3 : tie.Need-same-length-3
@@ -100,7 +100,7 @@ returns-4 c =
     let o = m .before .before in
     let i = o .before .before .before in
     let b = i .before in
-    let q = b .before .before .before .before .pre in
+    let q = b .before .before .before .before .before .pre in
     slept (q .0) (q .1 .0) (q .1 .1) (sym (b .is-busy .ensures) ∙ not-false _ (i .if1 .left)) (rw (m .enum-told .given .1) at (o .top .ensures)) (c .sleep-unit .ensures)
 
 same-length-4 : tie.Need-same-length-4
@@ -111,7 +111,7 @@ returns-5 c =
     let o = c .before .before in
     let i = o .before .before .before in
     let b = i .before in
-    let q = b .before .before .before .before .pre in
+    let q = b .before .before .before .before .before .pre in
     finished (q .0) (q .1 .0) (q .1 .1) (sym (b .is-busy .ensures) ∙ not-false _ (i .if1 .left)) (rw (c .enum-told2 .given .1) at (o .top .ensures))
 
 pub enter-spec : {M : Type 1} → statement M

@@ -2,7 +2,7 @@
 use borrow.Author.Needs.{needs}
 use mathlib.Core.Path.{refl}
 use native.Mathlib.Omega.{arith}
-use Rattle.entry.proofs.Rewriting.{whole-present, units-due, proceed-asks, rewrites-left, whole-rewrote, whole-spent, whole-full, whole-missed}
+use Rattle.entry.proofs.Rewriting.{whole-present, whole-operator, units-due, proceed-asks, rewrites-left, whole-rewrote, whole-spent, whole-full, whole-missed}
 use Rattle.entry.proofs.rewrite.Statement.{statement}
 use Rattle.entry.proofs.rewrite.Tie as tie
 
@@ -12,12 +12,13 @@ offset-requires c κs = search needs
 rewrite-requires : tie.Need-rewrite-requires
 rewrite-requires c κs =
     let a = c .before .before .before .before in
-    let q = a .before .before .before .before .pre in
+    let q = a .before .before .before .before .before .pre in
     let e = a .offset .ensures .0 in
     let t = q .1 .0 in (
-      whole-present (q .0) (t .0) (t .1) (t .2) (q .1 .1) refl e,
+      whole-present (q .0) (t .0) (t .1) (t .2) (q .1 .1) refl e (t .3),
       q .0 .scratch-long,
-      units-due (q .0) (t .0) (t .1) (t .2) (q .1 .1) refl e,
+      units-due (q .0) (t .0) (t .1) (t .2) (q .1 .1) refl e (t .3),
+      whole-operator (q .0) (t .0) (t .1) (t .2) (q .1 .1) refl e (t .3),
     )
 
 enum-told : tie.Need-enum-told
@@ -28,10 +29,10 @@ proceed-requires c κs =
     let m = c .before .before in
     let w = m .before .before .before .before in
     let a = w .before .before .before .before .before in
-    let q = a .before .before .before .before .pre in
+    let q = a .before .before .before .before .before .pre in
     let e = a .offset .ensures .0 in
     let t = q .1 .0 in
-    rw (t .3) (proceed-asks (q .0) (t .0) (t .1) (t .2) (q .1 .1) refl e (rw (m .enum-told .given .1) at (w .rewrite .ensures) .0))
+    rw (t .3) (proceed-asks (q .0) (t .0) (t .1) (t .2) (q .1 .1) refl e (t .3) (rw (m .enum-told .given .1) at (w .rewrite .ensures) .0))
 
 enum-told-2 : tie.Need-enum-told-2
 enum-told-2 c = search needs
@@ -40,10 +41,10 @@ rewritten-requires : tie.Need-rewritten-requires
 rewritten-requires c κs =
     let w = c .before .before .before .before in
     let a = w .before .before .before .before .before in
-    let q = a .before .before .before .before .pre in
+    let q = a .before .before .before .before .before .pre in
     let e = a .offset .ensures .0 in
     let t = q .1 .0 in
-    let h = rewrites-left (q .0) (t .0) (t .1) (t .2) (q .1 .1) refl e (rw (c .enum-told2 .given .1) at (w .rewrite .ensures) .0) in
+    let h = rewrites-left (q .0) (t .0) (t .1) (t .2) (q .1 .1) refl e (t .3) (rw (c .enum-told2 .given .1) at (w .rewrite .ensures) .0) in
     omega (arith, h, t .1 .small)
 
 enum-told-3 : tie.Need-enum-told-3
@@ -61,11 +62,11 @@ returns c =
     let m = g .before .before .before in
     let w = m .before .before .before .before in
     let a = w .before .before .before .before .before in
-    let q = a .before .before .before .before .pre in
+    let q = a .before .before .before .before .before .pre in
     let e = a .offset .ensures .0 in
     let t = q .1 .0 in
     let d = rw (m .enum-told .given .1) at (w .rewrite .ensures) in
-    whole-missed (q .0) (t .0) (t .1) (t .2) (q .1 .1) refl e (d .0) _ (d .1) (rw (t .3) at (g .proceed .ensures))
+    whole-missed (q .0) (t .0) (t .1) (t .2) (q .1 .1) refl e (t .3) (d .0) _ (d .1) (rw (t .3) at (g .proceed .ensures))
 
 same-length-2 : tie.Need-same-length-2
 same-length-2 c = search needs
@@ -75,11 +76,11 @@ returns-2 c =
     let m = c .before in
     let w = m .before .before .before .before in
     let a = w .before .before .before .before .before in
-    let q = a .before .before .before .before .pre in
+    let q = a .before .before .before .before .before .pre in
     let e = a .offset .ensures .0 in
     let t = q .1 .0 in
     let d = rw (m .enum-told2 .given .1) at (w .rewrite .ensures) in
-    whole-rewrote (q .0) (t .0) (t .1) (t .2) (q .1 .1) refl e (d .0) _ (d .1) _ (c .rewritten .ensures)
+    whole-rewrote (q .0) (t .0) (t .1) (t .2) (q .1 .1) refl e (t .3) (d .0) _ (d .1) _ (c .rewritten .ensures)
 
 same-length-3 : tie.Need-same-length-3
 same-length-3 c = search needs
@@ -88,11 +89,11 @@ returns-3 : tie.Need-returns-3
 returns-3 c =
     let w = c .before .before .before .before in
     let a = w .before .before .before .before .before in
-    let q = a .before .before .before .before .pre in
+    let q = a .before .before .before .before .before .pre in
     let e = a .offset .ensures .0 in
     let t = q .1 .0 in
     let d = rw (c .enum-told3 .given .1) at (w .rewrite .ensures) in
-    whole-spent (q .0) (t .0) (t .1) (t .2) (q .1 .1) refl e _ (d .1) (d .0)
+    whole-spent (q .0) (t .0) (t .1) (t .2) (q .1 .1) refl e (t .3) _ (d .1) (d .0)
 
 same-length-4 : tie.Need-same-length-4
 same-length-4 c = search needs
@@ -101,11 +102,11 @@ returns-4 : tie.Need-returns-4
 returns-4 c =
     let w = c .before .before .before .before in
     let a = w .before .before .before .before .before in
-    let q = a .before .before .before .before .pre in
+    let q = a .before .before .before .before .before .pre in
     let e = a .offset .ensures .0 in
     let t = q .1 .0 in
     let d = rw (c .enum-told4 .given .1) at (w .rewrite .ensures) in
-    whole-full (q .0) (t .0) (t .1) (t .2) (q .1 .1) refl e _ (d .1) (d .0)
+    whole-full (q .0) (t .0) (t .1) (t .2) (q .1 .1) refl e (t .3) _ (d .1) (d .0)
 
 pub rewrite-spec : {M : Type 1} → statement M
 rewrite-spec =

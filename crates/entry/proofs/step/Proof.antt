@@ -12,7 +12,7 @@ sub-step-at c = search needs
 
 step-at-requires : tie.Need-step-at-requires
 step-at-requires c κs =
-    let q = c .before .before .before .before .pre in
+    let q = c .before .before .before .before .before .pre in
     let t = q .1 .0 in
     omega (arith, next-most (q .0) (t .0) (t .1) (t .2))
 
@@ -23,7 +23,7 @@ visit-argument-requires : tie.Need-visit-argument-requires
 visit-argument-requires c κs =
     let m = c .before .before .before .before in
     let k = m .before .before in
-    let q = k .before .before .before .before .before .pre in
+    let q = k .before .before .before .before .before .before .pre in
     let t = q .1 .0 in
     let e = rw (m .i .given .1, t .3) at (k .step-at .ensures) in
     rw (t .3)
@@ -36,7 +36,7 @@ fork-requires : tie.Need-fork-requires
 fork-requires c κs =
     let m = c .before .before .before .before in
     let k = m .before .before in
-    let q = k .before .before .before .before .before .pre in
+    let q = k .before .before .before .before .before .before .pre in
     let t = q .1 .0 in
     let e = rw (m .i2 .given .1, t .3) at (k .step-at .ensures) in
     rw (t .3)
@@ -51,7 +51,7 @@ enum-told c = search needs
 join-requires : tie.Need-join-requires
 join-requires c κs =
     let k = c .before .before .before .before in
-    let q = k .before .before .before .before .before .pre in
+    let q = k .before .before .before .before .before .before .pre in
     let t = q .1 .0 in
     rw (t .3) (rowed (q .0) (t .0) (t .1) (t .2), can-proceed (q .0) (t .0) (t .1) (t .2))
 
@@ -59,7 +59,7 @@ rewrite-requires : tie.Need-rewrite-requires
 rewrite-requires c κs =
     let m = c .before .before .before .before in
     let k = m .before in
-    let q = k .before .before .before .before .before .pre in
+    let q = k .before .before .before .before .before .before .pre in
     let t = q .1 .0 in
     let e = rw (t .3) at (k .step-at .ensures) in
     (q .0, (t, record { one = q .1 .1; is = whole-there (q .0) (t .0) (t .1) (t .2) (q .1 .1) (k .step-at .result) e (m .match .keys4) }))
@@ -72,7 +72,7 @@ returns c =
     let v = c .before .before in
     let m = v .before .before .before .before .before in
     let k = m .before .before in
-    let q = k .before .before .before .before .before .pre in
+    let q = k .before .before .before .before .before .before .pre in
     let t = q .1 .0 in
     let e = rw (m .i .given .1, t .3) at (k .step-at .ensures) in
     visited-argument (q .0) (t .0) (t .1) (t .2) (q .1 .1) e (rw (t .3) at (v .visit-argument .ensures))
@@ -85,7 +85,7 @@ returns-2 c =
     let v = c .before .before .before in
     let m = v .before .before .before .before .before in
     let k = m .before .before in
-    let q = k .before .before .before .before .before .pre in
+    let q = k .before .before .before .before .before .before .pre in
     let t = q .1 .0 in
     let e = rw (m .i2 .given .1, t .3) at (k .step-at .ensures) in
     fork-entered (q .0) (t .0) (t .1) (t .2) (q .1 .1) e (rw (t .3) at (v .fork .ensures)) _ (c .forked .ensures)
@@ -98,7 +98,7 @@ returns-3 c =
     let v = c .before .before in
     let m = v .before .before .before in
     let k = m .before .before in
-    let q = k .before .before .before .before .before .pre in
+    let q = k .before .before .before .before .before .before .pre in
     let t = q .1 .0 in
     joined (q .0) (t .0) (t .1) (t .2) (q .1 .1) (rw (m .enum-told .given .1, t .3) at (k .step-at .ensures))
     (rw (t .3) at (v .join .ensures))

@@ -5,7 +5,7 @@ use Rattle.kurvneist.proofs.kurvneist_payee.Statement.{statement}
 use Rattle.kurvneist.proofs.kurvneist_payee.Tie as tie
 
 returns : tie.Need-returns
-returns c = reduced (c .before .before .before .before .before .before .payee .ensures) (c .put-answer .ensures)
+returns c = reduced (c .before .before .before .before .before .before .before .before .payee .ensures) (c .put-answer .ensures)
 
 pub kurvneist-payee-spec : {M : Type 1} → statement M
-kurvneist-payee-spec = tie.close (tie.spec (λ c κs. search needs) (λ c κs. search needs) (λ c. search needs) (λ c. search needs) returns)
+kurvneist-payee-spec = tie.close (tie.spec (λ c κs. search needs) (λ c κs. search needs) (λ c. search needs) (λ c. search needs) (λ c. search needs) returns)

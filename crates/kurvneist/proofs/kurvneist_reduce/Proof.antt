@@ -5,7 +5,7 @@ use Rattle.kurvneist.proofs.kurvneist_reduce.Statement.{statement}
 use Rattle.kurvneist.proofs.kurvneist_reduce.Tie as tie
 
 returns : tie.Need-returns
-returns c = reduced (c .before .before .before .before .before .before .reduce .ensures) (c .put-answer .ensures)
+returns c = reduced (c .before .before .before .before .before .before .before .before .reduce .ensures) (c .put-answer .ensures)
 
 pub kurvneist-reduce-spec : {M : Type 1} → statement M
-kurvneist-reduce-spec = tie.close (tie.spec (λ c κs. search needs) (λ c κs. search needs) (λ c. search needs) (λ c. search needs) returns)
+kurvneist-reduce-spec = tie.close (tie.spec (λ c κs. search needs) (λ c κs. search needs) (λ c. search needs) (λ c. search needs) (λ c. search needs) returns)

@@ -8,8 +8,9 @@ use Rattle.rule_cases.proofs.carry_out.Tie as tie
 rewrite-requires : tie.Need-rewrite-requires
 rewrite-requires c κs =
     let t = c .before .before .before .before .before in
-    let s = t .before .before .before .before in
-    (s .pre .0, search needs, due-at-start _ _ (t .start .ensures) (omega (arith, s .pre .0 .inside)))
+    let o = t .before .before .before in
+    let s = o .before .before .before .before in
+    (s .pre .0, search needs, due-at-start _ _ _ (t .start .ensures) (omega (arith, s .pre .0 .inside)), o .operator-at .ensures)
 
 say-operators-requires-2 : tie.Need-say-operators-requires-2
 say-operators-requires-2 c κs =
@@ -20,7 +21,7 @@ say-operators-requires-2 c κs =
 pub carry-out-spec : {M : Type 1} → statement M
 carry-out-spec =
     tie.close
-    (tie.spec (λ c. search needs) (λ c κs. search needs) (λ c. search needs) rewrite-requires (λ c. search needs) (λ c. search needs) (λ c κs. search needs)
+    (tie.spec (λ c κs. search needs) (λ c. search needs) (λ c κs. search needs) (λ c. search needs) rewrite-requires (λ c. search needs) (λ c. search needs) (λ c κs. search needs)
     (λ c. search needs) (λ c. search needs) (λ c κs. search needs) (λ c. search needs) (λ c. search needs) (λ c κs. search needs) (λ c. search needs)
     (λ c. search needs) (λ c κs. search needs) (λ c. search needs) (λ c κs. search needs) (λ c. search needs) (λ c κs. search needs) (λ c κs. search needs)
     say-operators-requires-2 (λ c. search needs) (λ c. search needs) (λ c. search needs) (λ c. search needs))

@@ -13,7 +13,7 @@ load-requires : tie.Need-load-requires
 load-requires c κs =
     let t = c .before in
     let k = t .before .before in
-    let a = k .before .before .before .args in
+    let a = k .before .before .before .before .args in
     (sound-known (a .n) (arity-in (now (a .operators))) _ (sym (k .check-line .ensures) ∙ t .enum-told .given .1) .1, search needs)
 
 load-requires-2 : tie.Need-load-requires-2
@@ -21,7 +21,7 @@ load-requires-2 c κs =
     let l = c .before .before .before .before in
     let t = l .before .before in
     let k = t .before .before in
-    let s = k .before .before .before in
+    let s = k .before .before .before .before in
     let e = l .load .ensures in
     let all = sound-known (s .args .n) (arity-in (now (s .args .operators))) _ (sym (k .check-line .ensures) ∙ t .enum-told .given .1) .1 in
     (search needs, e .2, omega arith, rw (e .1) (one-term _ (s .pre .1) (s .pre .2) (sym (t .enum-told .given .1) ∙ k .check-line .ensures)))
@@ -33,7 +33,7 @@ try-rewrite-requires c κs =
     let l = i .before .before in
     let t = l .before .before in
     let k = t .before .before in
-    let s = k .before .before .before in
+    let s = k .before .before .before .before in
     let e = l .load .ensures in
     present _ (s .pre .1) (s .pre .2) (sym (t .enum-told .given .1) ∙ k .check-line .ensures) _ _ (s .pre .0) (e .0) (rw (e .1) at (o .load2 .ensures))
     (omega (arith, i .before .if1 .left, i .if2 .left))

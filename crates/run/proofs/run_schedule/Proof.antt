@@ -13,12 +13,12 @@ use Rattle.run.proofs.run_schedule.Statement.{statement}
 use Rattle.run.proofs.run_schedule.Tie as tie
 
 abbrev Inv-loop : tie.InvT-loop
-Inv-loop book operators rules symbols₀ scratch₀ work₀ units₀ l schedule p₀ i₀ symbols scratch work units p i =
-    Along book operators rules l schedule (state symbols₀ work₀ units₀ beginning l) symbols scratch work units p i
+Inv-loop book operators net symbols₀ scratch₀ work₀ units₀ l schedule p₀ i₀ symbols scratch work units p i =
+    Along book operators net l schedule (state symbols₀ work₀ units₀ beginning l) symbols scratch work units p i
     × (L.length work ≡ L.length work₀)
 
 abbrev μ-loop : tie.MeasureT-loop
-μ-loop book operators rules symbols₀ scratch₀ work₀ units₀ l schedule p₀ i₀ symbols scratch work units p i = L.length schedule - i
+μ-loop book operators net symbols₀ scratch₀ work₀ units₀ l schedule p₀ i₀ symbols scratch work units p i = L.length schedule - i
 
 -- where the loop's body begins
 abbrev turn : tie.After-index Inv-loop μ-loop → tie.In-loop Inv-loop μ-loop
@@ -29,13 +29,13 @@ room : (b : tie.In-loop Inv-loop μ-loop) → b .before .loop .i + 1 < 2 ^ 64
 room b = omega arith
 
 loop-holds : tie.Need-loop-holds Inv-loop μ-loop
-loop-holds c = let s = c .before .before .before in (along-start (s .pre .0) (s .pre .1), refl)
+loop-holds c = let s = c .before .before .before .before in (along-start (s .pre .0) (s .pre .1), refl)
 
 enter-requires : tie.Need-enter-requires Inv-loop μ-loop
 enter-requires c κs =
     let b = turn c in
     let a = b .before .loop .inv .0 in
-    let s = b .before .before .before .before .before in
+    let s = b .before .before .before .before .before .before in
     (a .arrays, (a .running, along-turn a (s .pre .1) (room b) (b .loop-test .taken) _ (c .index .ensures .0)))
 
 returns : tie.Need-returns Inv-loop μ-loop

@@ -7,7 +7,7 @@ use Rattle.whole.proofs.rewrite.Tie as tie
 
 -- the function's start, from where the choice is made
 abbrev start : tie.After-choose → tie.Start
-start f = f .before .before .before .before .before
+start f = f .before .before .before .before .before .before
 
 apply-requires : tie.Need-apply-requires
 apply-requires c κs =

@@ -1,0 +1,9 @@
+pub mod Laws
+pub mod Ways
+pub mod Cells
+pub mod Puts
+pub mod Leading
+pub mod Growing
+pub mod Paths
+pub mod Books
+pub mod Examples
