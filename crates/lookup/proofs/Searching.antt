@@ -14,11 +14,11 @@ use Rattle.term.specs.Present.{length-in, operators-in}
 use Rattle.tables.specs.Layout.{arity-in}
 use Rattle.term.proofs.Sized.{operator-is}
 use Rattle.rule.specs.Packed.{binding}
-use Rattle.rule.specs.Contracts.{Left-tried, None-found, Rule-found}
+use Rattle.rule.specs.Contracts.{Left-tried, None-found, Rule-found, Search-answers}
 use Rattle.rule.specs.declared.Found as F
 use Rattle.rule.specs.declared.Match as M
 use Rattle.rule.specs.declared.Hit as H
-use Rattle.net.specs.Layout.{root-in, left-of}
+use Rattle.net.specs.Layout.{root-in, last-in, left-of}
 use Rattle.net.specs.Net.{Same, Leads, book-by}
 use Rattle.net.proofs.Leading.{same-inside, same-path, same-least}
 use Rattle.lookup.specs.Walk.{symbol-in}
@@ -26,7 +26,7 @@ use Rattle.lookup.specs.Contracts.{rules-by, path-by, Present, Node, tri
 use Rattle.lookup.specs.declared.Spot.{Spot}
 use Rattle.lookup.specs.declared.Turn.{Turn}
 use Rattle.lookup.specs.declared.Best.{Best}
-use Rattle.lookup.proofs.Nodes.{packable, rooted, start-node}
+use Rattle.lookup.proofs.Nodes.{packable, down-start, down-leaf, rooted, start-node}
 use Rattle.lookup.proofs.Rules.{ready, few, fits, answers-agrees, answers-first, answers-none}
 use Rattle.lookup.proofs.Stacks.{put-top, put-stacked}
 
@@ -105,13 +105,14 @@ module _ {bytes operators net symbols : List ℕ} {a : ℕ} (p : Present bytes o
 
   -- THE BEGINNING
 
+  -- the root of the term, by its symbol
+  root-is : (f : ℕ) → root-in net (getD (operators-in symbols) a 0) ≡ suc f → root-in net (symbol-in symbols a) ≡ suc f
+  root-is f first = ap (root-in net) (operator-is (arity-in operators) symbols (p .sized) a (p .inside)) ∙ first
+
   module _ (f : ℕ) (first : root-in net (getD (operators-in symbols) a 0) ≡ suc f) (stack : List ℕ) (long : length stack ≡ 1024) (s : Spot) (rule : s .rule ≡ f)
       (depth : s .depth ≡ 1) (at : s .at ≡ 9) (offset : s .offset ≡ a + 1) where
-    root : root-in net (symbol-in symbols a) ≡ suc f
-    root = ap (root-in net) (operator-is (arity-in operators) symbols (p .sized) a (p .inside)) ∙ first
-
     start : Node bytes net symbols a s
-    start = start-node (ready p) f root s rule depth at offset
+    start = start-node (ready p) f (root-is f first) s rule depth at offset
 
     empty : Stacked bytes net symbols a stack 0
     empty = record { long = long; nodes = λ k l. absurd (omega arith) }
@@ -131,7 +132,7 @@ module _ {bytes operators net symbols : List ℕ} {a : ℕ} (p : Present bytes o
                 | inl y ↦ inl (inl y)
                 | inr g ↦
                     inr (put-top (ready p) empty start d P j
-                    (subst (λ (x : ℕ). Leads net x (s .depth) j) (sym rule) (subst (λ (x : ℕ). Leads net f x j) (sym depth) (rooted (ready p) f root j g))))
+                    (subst (λ (x : ℕ). Leads net x (s .depth) j) (sym rule) (subst (λ (x : ℕ). Leads net f x j) (sym depth) (rooted (ready p) f (root-is f first) j g))))
               ];
         }
 
@@ -285,3 +286,40 @@ module _ {bytes operators net symbols : List ℕ} {a : ℕ} (p : Present bytes o
             subst (λ (x : ℕ). Rule-found (book-by bytes net) operators a (operators-in symbols) (length-in symbols) b (record { rule = x; end = best .end })) y
             (answers-first p k (m .known) (m .root) b (best .end) g
             (λ j l. elim (all j (let w = m .known in omega arith)) [ inl w ↦ w | inr w ↦ absurd (omega arith) ]))
+
+  -- ONE PATH: where no rule leaves that of the root's first rule behind the root, only rules with this path may match
+
+  module _ (f : ℕ) (first : root-in net (getD (operators-in symbols) a 0) ≡ suc f) where
+    abbrev spot : Spot
+    spot = record { rule = f; depth = 1; at = 9; offset = a + 1 }
+
+    at-root : Node bytes net symbols a spot
+    at-root = start-node (ready p) f (root-is f first) spot refl refl refl refl
+
+    pub first-known : (f < length (rules-by bytes net)) × (f < 256) × (getD (path-by bytes net f) 0 0 ≡ symbol-in symbols a)
+    first-known = (at-root .known, (let l = at-root .known in omega (arith, few p)), at-root .root)
+
+    module _ (lone : last-in net f ≤ 1) where
+      others : (j : ℕ) → j < length (rules-by bytes net) → (tried bytes operators net symbols a j ≡ flat.Match.differs) ⊎ Same net f j
+      others j l =
+          elim (fits p j l) [
+            | inl y ↦ inl y
+            | inr g ↦ inr (down-leaf (ready p) 256 (down-start at-root) (inl lone) .2 j g (rooted (ready p) f (root-is f first) j g))
+          ]
+
+      pub one-path : (b : Binding) (r : H.Hit) → Rules-tried bytes operators net symbols a f 256 b r →
+          Search-answers (book-by bytes net) operators a (operators-in symbols) (length-in symbols) b r
+      one-path b H.Hit.None h =
+          answers-none p (λ j l.
+          elim (others j l) [
+            | inl y ↦ y
+            | inr w ↦ elim (h j w) [ inl y ↦ y | inr y ↦ absurd (omega (arith, few p)) ]
+          ])
+      one-path b (H.Hit.Rule m) h =
+          let k = matching f 256 (at-root .known) (at-root .root) b m h in
+          answers-first p (m .rule) (k .known) (k .root) b (m .end) (h .agrees)
+          (λ j l.
+          elim (others j (let w = k .known in omega arith)) [
+            | inl y ↦ y
+            | inr w ↦ elim (h .passed j w) [ inl y ↦ y | inr y ↦ absurd (omega arith) ]
+          ])

@@ -320,7 +320,8 @@ fn attempt(
     }
 }
 
-// The first rule that matches the term at an offset; first is the first rule of its root.
+// The first rule that matches the term at an offset; first is the first rule of its root. Where no path leaves that rule's behind the root, there is nothing
+// to search: the rules that have it are tried.
 pub fn find(
     book: &[u8],
     operators: &[u8; 4352],
@@ -334,6 +335,9 @@ pub fn find(
     requires { ⌜ L.Present (now book) (now operators) (now net) (now symbols) offset × (root-in (now net) (getD (operators-in (now symbols)) offset 0) ≡ suc first) × (length (now stack) ≡ 1024) ⌝ }
     ensures { λ r. ⌜ R.Search-answers (book-by (now (book .entry)) (now (net .entry))) (now (operators .entry)) offset (operators-in (now (symbols .entry))) (length-in (now (symbols .entry))) (binding (now (bound .exit))) r × (length (now (stack .exit)) ≡ 1024) ⌝ }
 {
+    if net::last(net, first) <= 1 {
+        return try_rules(book, operators, net, symbols, offset, first, 256, bound);
+    }
     let start = Spot {
         rule: first,
         depth: 1,
