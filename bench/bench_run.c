@@ -1,39 +1,15 @@
 // kurvneist_reduce against the unverified engines of engine.c and, where it is installed, Maude: whole runs, what a run costs at least, its stack.
 // Prints a line for each measurement and writes the same to a file of tab-separated fields, for bench/report.
 #include "jobs.h"
+#include "spread.h"
 #include <pthread.h>
 
-enum { MOST_TURNS = 401, STACK = 1 << 20 };
+enum { STACK = 1 << 20 };
 
 // How long all timings of a row take together, in nanoseconds, and Maude's turns.
 static double row_time = 6e8;
 static int maude_turns = 9;
 static FILE *fields;
-
-typedef struct {
-    double low, median, high;
-} spread;
-
-static spread spread_of(const double *values, int count) {
-    static double sorted[MOST_TURNS];
-    memcpy(sorted, values, (size_t)count * sizeof *values);
-    qsort(sorted, (size_t)count, sizeof *sorted, by_size);
-    return (spread){sorted[count / 4], sorted[count / 2], sorted[3 * count / 4]};
-}
-
-static spread ratio_of(const double *upper, const double *lower, int count) {
-    static double ratios[MOST_TURNS];
-    for (int i = 0; i < count; i++) ratios[i] = upper[i] / lower[i];
-    return spread_of(ratios, count);
-}
-
-static spread difference_of(const double *more, const double *less, int count) {
-    static double differences[MOST_TURNS];
-    for (int i = 0; i < count; i++) differences[i] = more[i] - less[i];
-    return spread_of(differences, count);
-}
-
-static void put_spread(spread s) { fprintf(fields, "\t%.6g\t%.6g\t%.6g", s.low, s.median, s.high); }
 
 // Runs.
 
@@ -107,10 +83,10 @@ static void put_above(int turns) {
     spread base = spread_of(library_base, turns), c_base = spread_of(decoded_base, turns);
     printf("%-9s above its base: %.0f ns [%.0f %.0f], C %.0f [%.0f %.0f]", "", ours.median, ours.low, ours.high, c.median, c.low, c.high);
     printf("; the base: %.0f ns, C %.0f\n", base.median, c_base.median);
-    put_spread(ours);
-    put_spread(c);
-    put_spread(base);
-    put_spread(c_base);
+    put_spread(fields, ours);
+    put_spread(fields, c);
+    put_spread(fields, base);
+    put_spread(fields, c_base);
 }
 
 // One row: a workload on so many units, and what it takes above a base, where there is one.
@@ -123,10 +99,10 @@ static void row(const char *kind, const workload *w, const workload *base, unsig
     spread ns = spread_of(library, h.turns), by_c = ratio_of(library, decoded, h.turns), by_packed = ratio_of(library, packed, h.turns);
     print_row(&h, ns, by_c, by_packed);
     put_head(&h);
-    put_spread(ns);
-    put_spread(spread_of(decoded, h.turns));
-    put_spread(by_c);
-    put_spread(by_packed);
+    put_spread(fields, ns);
+    put_spread(fields, spread_of(decoded, h.turns));
+    put_spread(fields, by_c);
+    put_spread(fields, by_packed);
     if (base) put_above(h.turns);
     fprintf(fields, "\n");
 }
@@ -228,9 +204,9 @@ static void maude_row(const workload *w) {
     printf(" [%.2f %.2f] (%d turns, %u lines)\n", ratio.low, ratio.high, maude_turns, lines);
     fflush(stdout);
     put_head(&h);
-    put_spread(spread_of(library, maude_turns));
-    put_spread(maude);
-    put_spread(ratio);
+    put_spread(fields, spread_of(library, maude_turns));
+    put_spread(fields, maude);
+    put_spread(fields, ratio);
     fprintf(fields, "\n");
 }
 
@@ -280,7 +256,7 @@ static void least_cost(void) {
     printf("; clearing %d bytes %.0f ns", KURVNEIST_WORK_LENGTH, clearing.median);
     printf("; ratio %.2f [%.2f %.2f], of C %.2f\n", ratio.median, ratio.low, ratio.high, c_ratio.median);
     fprintf(fields, "least\t%zu\t%d", j.entries, TURNS);
-    put_spread(ns), put_spread(clearing), put_spread(ratio), put_spread(c_ratio);
+    put_spread(fields, ns), put_spread(fields, clearing), put_spread(fields, ratio), put_spread(fields, c_ratio);
     fprintf(fields, "\n");
 }
 

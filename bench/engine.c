@@ -42,7 +42,8 @@ typedef struct {
     unsigned units, busy; // a bit for each busy unit
     uint8_t *tops[UNITS]; // the frame on top
     uint32_t budget, rewrites;
-    size_t granted, kept;
+    int ending;
+    size_t entries, granted, kept;
     uint16_t starts[16];
 } engine;
 
@@ -394,15 +395,15 @@ static void count_joins(engine *e, unsigned operators) {
     }
 }
 
-static int run_all(engine *e, const uint8_t *schedule, size_t entries, size_t *used) {
+static void run_all(engine *e, const uint8_t *schedule, size_t entries) {
     int ending = GOING;
     size_t i = 0;
     while (i < entries && ending == GOING) {
         unsigned unit = schedule[i++];
         if (e->busy >> unit & 1) ending = act(e, unit);
     }
-    *used = i;
-    return ending;
+    e->ending = ending == GOING ? CUT : ending;
+    e->entries = i;
 }
 
 static void start(engine *e) {
@@ -416,8 +417,9 @@ static void start(engine *e) {
     e->granted = e->kept = 0;
 }
 
-static int check_line(const engine *e, unsigned operators, const uint8_t *line, size_t length) {
+static uint8_t check_line(const engine *e, const uint8_t *line, size_t length) {
     if (length > MOST) return 12;
+    unsigned operators = e->read.operators;
     int due = 1;
     for (size_t i = 0; i < length; i++) {
         if (due == 0) return 10;
@@ -447,25 +449,51 @@ static int names_units(const uint8_t *schedule, size_t length, unsigned units) {
     return !(bad & high);
 }
 
-// The checks from the book on, and the tables.
-static uint8_t prepare(engine *e, const uint8_t *book, size_t book_length, uint16_t day, const uint8_t *line, size_t line_length,
-    const uint8_t *schedule, size_t schedule_length) {
-    int fault = c_read_book(book, book_length, day, &e->read);
+// Calls: a frame, a book, its lines.
+
+static uint8_t frame_fault(unsigned units, size_t work_length, size_t net_length) {
+    if (units < 1 || units > UNITS) return 13;
+    return work_length < WORK || net_length < KURVNEIST_NET_LENGTH ? 15 : 0;
+}
+
+static void lend(engine *e, unsigned units, uint32_t budget, uint8_t *work, uint8_t *lent_net) {
+    e->units = units;
+    e->budget = budget;
+    e->work = work;
+    e->net = (net *)lent_net;
+}
+
+static uint8_t read_book(engine *e, const uint8_t *book, size_t length, uint16_t day) {
+    int fault = c_read_book(book, length, day, &e->read);
     if (fault) return (uint8_t)fault;
-    unsigned operators = e->read.operators;
-    e->rules = e->read.rules;
-    memcpy(e->arity, e->read.arities, operators);
-    if ((fault = check_line(e, operators, line, line_length))) return (uint8_t)fault;
-    if (!names_units(schedule, schedule_length, e->units)) return 14;
     e->book = book;
-    e->bytes = book_length;
-    load(e, line, (unsigned)line_length);
-    net_build(e->net, book, book_length, e->read.lefts, e->rules, e->arity);
-    count_joins(e, operators);
+    e->bytes = length;
+    e->rules = e->read.rules;
+    memcpy(e->arity, e->read.arities, e->read.operators);
+    return 0;
+}
+
+// From here on what is lent is written to.
+static void open_book(engine *e) {
+    net_build(e->net, e->book, e->bytes, e->read.lefts, e->rules, e->arity);
+    count_joins(e, e->read.operators);
 #ifndef PACKED
     memset(e->decoded, 0, e->rules);
 #endif
-    return 0;
+}
+
+// A line that has been checked, by an open book. What the engine and the work area hold of one before doesn't matter.
+static void run_line(engine *e, const uint8_t *line, size_t length, const uint8_t *schedule, size_t entries) {
+    load(e, line, (unsigned)length);
+    start(e);
+    run_all(e, schedule, entries);
+}
+
+// The present term's symbols; how many they are.
+static unsigned hand_out(const engine *e, uint8_t *output) {
+    unsigned length = size_of(e->cells[0]);
+    for (unsigned x = 0; x < length; x++) output[x] = (uint8_t)e->cells[x];
+    return length;
 }
 
 uint8_t REDUCE(const uint8_t *book, size_t book_length, const uint8_t *line, size_t line_length, uint8_t units, uint32_t budget,
@@ -473,29 +501,90 @@ uint8_t REDUCE(const uint8_t *book, size_t book_length, const uint8_t *line, siz
     size_t output_length, uint64_t *answer) {
     engine e;
     memset(answer, 0, KURVNEIST_ANSWER_LENGTH * sizeof *answer);
-    if (units < 1 || units > UNITS) return 13;
-    if (work_length < WORK) return 15;
-    if (net_length < KURVNEIST_NET_LENGTH) return 15;
-    if (output_length < MOST) return 16;
-    e.work = work;
-    e.net = (net *)lent_net;
-    e.units = units;
-    e.budget = budget;
-    uint8_t fault = prepare(&e, book, book_length, day, line, line_length, schedule, schedule_length);
+    uint8_t fault = frame_fault(units, work_length, net_length);
     if (fault) return fault;
-    start(&e);
-    int ending = GOING;
-    size_t i = 0;
-    ending = run_all(&e, schedule, schedule_length, &i);
-    unsigned length = size_of(e.cells[0]);
-    for (unsigned x = 0; x < length; x++) output[x] = (uint8_t)e.cells[x];
-    memset(work, 0, work_length);
-    memset(lent_net, 0, net_length);
-    answer[KURVNEIST_ENDING] = (uint64_t)(ending == GOING ? CUT : ending);
+    if (output_length < MOST) return 16;
+    lend(&e, units, budget, work, lent_net);
+    if ((fault = read_book(&e, book, book_length, day))) return fault;
+    if ((fault = check_line(&e, line, line_length))) return fault;
+    if (!names_units(schedule, schedule_length, units)) return 14;
+    open_book(&e);
+    run_line(&e, line, line_length, schedule, schedule_length);
+    answer[KURVNEIST_ENDING] = (uint64_t)e.ending;
     answer[KURVNEIST_REWRITES] = e.rewrites;
-    answer[KURVNEIST_ENTRIES] = i;
+    answer[KURVNEIST_ENTRIES] = e.entries;
     answer[KURVNEIST_GRANTED] = e.granted;
     answer[KURVNEIST_KEPT] = e.kept;
-    answer[KURVNEIST_LENGTH] = length;
+    answer[KURVNEIST_LENGTH] = hand_out(&e, output);
+    memset(work, 0, work_length);
+    memset(lent_net, 0, net_length);
+    return 0;
+}
+
+// Many lines.
+
+// The last n bytes of a number, the high one first; what stands behind them.
+INLINE uint8_t *put_number(uint8_t *to, unsigned n, uint64_t value) {
+    value = __builtin_bswap64(value << (64 - 8 * n));
+    memcpy(to, &value, n);
+    return to + n;
+}
+
+static uint8_t *put_record(const engine *e, uint8_t *to) {
+    to = put_number(to, 2, (uint64_t)e->ending);
+    to = put_number(to, 4, e->rewrites);
+    to = put_number(to, 8, e->entries);
+    to = put_number(to, 8, e->granted);
+    to = put_number(to, 8, e->kept);
+    unsigned length = hand_out(e, to + 2);
+    return put_number(to, 2, length) + length;
+}
+
+// A line's record; what stands behind it. Every entry of the schedule names a unit, or not.
+static uint8_t *answer_line(engine *e, const uint8_t *line, size_t length, int named, const uint8_t *schedule, size_t entries, uint8_t *to) {
+    uint8_t fault = check_line(e, line, length);
+    if (!fault && !named) fault = 14;
+    if (fault) {
+        *to = fault;
+        return to + 1;
+    }
+    run_line(e, line, length, schedule, entries);
+    return put_record(e, to);
+}
+
+// The length of the line in front of so many bytes, if there is one and its record fits; else why it isn't done.
+INLINE int next_line(const uint8_t *lines, size_t left, size_t room, size_t *length) {
+    if (left == 0) return LINES_END;
+    if (left < 2) return LINES_CUT;
+    *length = (size_t)lines[0] << 8 | lines[1];
+    if (left - 2 < *length) return LINES_CUT;
+    return room < RECORD_LENGTH ? LINES_ROOM : GOING;
+}
+
+uint8_t REDUCE_LINES(const uint8_t *book, size_t book_length, const uint8_t *lines, size_t lines_length, uint8_t units, uint32_t budget,
+    uint16_t day, const uint8_t *schedule, size_t schedule_length, uint8_t *work, size_t work_length, uint8_t *lent_net, size_t net_length, uint8_t *answers,
+    size_t answers_length, uint64_t *done) {
+    engine e;
+    const uint8_t *at = lines, *end = lines + lines_length;
+    uint8_t *to = answers, *limit = answers + answers_length;
+    size_t count = 0, length;
+    int stop;
+    memset(done, 0, DONE_LENGTH * sizeof *done);
+    uint8_t fault = frame_fault(units, work_length, net_length);
+    if (fault) return fault;
+    lend(&e, units, budget, work, lent_net);
+    if ((fault = read_book(&e, book, book_length, day))) return fault;
+    open_book(&e);
+    int named = names_units(schedule, schedule_length, units);
+    for (; (stop = next_line(at, (size_t)(end - at), (size_t)(limit - to), &length)) == GOING; count++) {
+        to = answer_line(&e, at + 2, length, named, schedule, schedule_length, to);
+        at += 2 + length;
+    }
+    memset(work, 0, work_length);
+    memset(lent_net, 0, net_length);
+    done[DONE_LINES] = count;
+    done[DONE_READ] = (uint64_t)(at - lines);
+    done[DONE_WRITTEN] = (uint64_t)(to - answers);
+    done[DONE_STOP] = (uint64_t)stop;
     return 0;
 }

@@ -6,6 +6,7 @@
 use std::collections::HashMap;
 use std::io;
 
+use crate::broken_lines;
 use crate::model::{
     self, Answer, Book, Filling, Form, Item, Lengths, Machine, Operator, Order, Pattern, Rule,
     Term, Unit, GAP,
@@ -13,7 +14,8 @@ use crate::model::{
 use crate::nets::Walker;
 use crate::program::Pages;
 use crate::subject::{
-    hand_over, Lent, ModelSubject, Question, Subject, Told, Written, MODEL_PUBLISHED,
+    hand_over, hand_over_records, Done, Lent, ModelSubject, Question, Subject, Told, Written,
+    MODEL_PUBLISHED,
 };
 
 #[derive(Clone, Copy, Debug, PartialEq, Eq)]
@@ -107,9 +109,23 @@ pub enum Slip {
     Low,
     /// An input has a day whatever its book.
     Always,
+    /// Many lines share one budget.
+    Purse,
+    /// A line's schedule goes on where the last line's run ended.
+    Onwards,
+    /// A refused line is the last that is done.
+    Halt,
+    /// A line is done with one byte less than the longest record.
+    Tight,
+    /// A line that is cut short is taken as the end.
+    Whole,
+    /// A record has its rewrites with the low byte first.
+    Reversed,
+    /// The net's last byte is not left zero after many lines.
+    Rest,
 }
 
-pub const SLIPS: [(&str, Slip); 44] = [
+pub const SLIPS: [(&str, Slip); 51] = [
     ("join", Slip::Join),
     ("list", Slip::List),
     ("zeros", Slip::Zeros),
@@ -154,12 +170,28 @@ pub const SLIPS: [(&str, Slip); 44] = [
     ("days", Slip::Days),
     ("low", Slip::Low),
     ("always", Slip::Always),
+    ("purse", Slip::Purse),
+    ("onwards", Slip::Onwards),
+    ("halt", Slip::Halt),
+    ("tight", Slip::Tight),
+    ("whole", Slip::Whole),
+    ("reversed", Slip::Reversed),
+    ("rest", Slip::Rest),
 ];
 
 impl Slip {
     /// Does it show in pages only?
     pub fn is_of_pages(self) -> bool {
         matches!(self, Slip::Lines | Slip::Low | Slip::Always)
+    }
+
+    /// Does it show in many lines only? The others don't show there.
+    pub fn is_of_batches(self) -> bool {
+        use Slip::*;
+        matches!(
+            self,
+            Purse | Onwards | Halt | Tight | Whole | Reversed | Rest
+        )
     }
 }
 
@@ -184,6 +216,15 @@ impl Subject for BrokenModel {
             self.slip_in_buffers(told.length as usize, lent);
         }
         told
+    }
+
+    fn answer_lines(&mut self, question: &Question, lent: &mut Lent) -> Done {
+        let answered = broken_lines::answered(self.slip, question, lent.lengths());
+        let done = hand_over_records(&answered, lent);
+        if done.refusal == 0 {
+            broken_lines::slip_in_buffers(self.slip, lent);
+        }
+        done
     }
 
     fn written(&mut self, book: &[u8], output: &mut [u8]) -> Written {

@@ -1,17 +1,20 @@
 //! Compares a subject with the model on random cases.
 
-use std::fmt::{self, Display, Formatter};
+use std::fmt::{self, Debug, Display, Formatter};
 use std::ops::Range;
 
+use crate::batches::{self, Batches};
+use crate::buffers::{hexadecimal, Lenders};
 use crate::days::{self, Days};
-use crate::draft::Case;
+use crate::draft::{Batch, Case};
 use crate::model::refusal::OF_BOOKS;
-use crate::model::{self, Answer, Form};
+use crate::model::{self, Answer, Form, Lengths};
 use crate::nets::{self, Nets};
 use crate::random;
+use crate::records;
 use crate::repeats::{self, Repeats};
 use crate::shrink::shrink;
-use crate::subject::{Lent, Question, Subject, Told, Written};
+use crate::subject::{Done, Question, Subject, Told, Written};
 
 /// Those of a run that are not its book's. Refusal 17 is about the program's
 /// input, which a subject never sees.
@@ -32,6 +35,7 @@ pub struct Tally {
     pub repeats: Repeats,
     pub days: Days,
     pub nets: Nets,
+    pub batches: Batches,
 }
 
 impl Tally {
@@ -62,6 +66,7 @@ impl Tally {
             ),
             unmet_kinds("rules or runs", &days::KINDS, &self.days.counts),
             unmet_kinds("searches", &nets::KINDS, &self.nets.counts),
+            unmet_kinds("batches", &batches::KINDS, &self.batches.counts),
         ]
         .concat()
     }
@@ -138,9 +143,7 @@ pub fn made_small(
 /// Lends a subject the same buffers for case after case.
 pub struct Comparison<'a> {
     subject: &'a mut dyn Subject,
-    work: Lender,
-    net: Lender,
-    output: Lender,
+    lent: Lenders,
     pub tally: Tally,
 }
 
@@ -148,9 +151,7 @@ impl<'a> Comparison<'a> {
     pub fn new(subject: &'a mut dyn Subject) -> Comparison<'a> {
         Comparison {
             subject,
-            work: Lender::default(),
-            net: Lender::default(),
-            output: Lender::default(),
+            lent: Lenders::default(),
             tally: Tally::default(),
         }
     }
@@ -160,7 +161,9 @@ impl<'a> Comparison<'a> {
         let book = case.book();
         let run = self.check_run(case, &book);
         let writer = self.check_writer(case, &book);
-        run.or(writer)
+        let batch = case.batch.as_ref();
+        let batch = batch.and_then(|batch| self.check_batch(case, batch, &book));
+        run.or(writer).or(batch)
     }
 
     fn check_run(&mut self, case: &Case, book: &[u8]) -> Option<String> {
@@ -174,26 +177,35 @@ impl<'a> Comparison<'a> {
             self.tally.days.count(&question, answer);
             self.tally.nets.count(&question);
         }
-        let mut lent = Lent {
-            work: self.work.lend(lengths.work, case.junk),
-            net: self.net.lend(lengths.net, case.junk.rotate_left(21)),
-            output: self.output.lend(lengths.output, !case.junk),
-        };
+        let mut lent = self.lent.lend(lengths, case.junk);
         let found = self.subject.answer(&question, &mut lent);
-        let cleared = vec![0; lengths.work.max(lengths.net)];
-        let (due, term, work, net): (Told, &[u8], &[u8], &[u8]) = match &expected {
-            Ok(answer) => (
-                Told::answered(answer),
-                &answer.term,
-                &cleared[..lengths.work],
-                &cleared[..lengths.net],
-            ),
-            Err(number) => (Told::refused(*number), &[], &[], &[]),
+        let term = expected.as_ref().map(|answer| &answer.term[..]);
+        let due = match &expected {
+            Ok(answer) => Told::answered(answer),
+            Err(number) => Told::refused(*number),
         };
-        compare_values(&due, &found)
-            .or_else(|| self.output.difference("output", term))
-            .or_else(|| self.work.difference("work area", work))
-            .or_else(|| self.net.difference("net's area", net))
+        compare_values("values", &due, &found).or_else(|| self.lent.difference("output", term.ok()))
+    }
+
+    fn check_batch(&mut self, case: &Case, batch: &Batch, book: &[u8]) -> Option<String> {
+        let published = self.subject.published();
+        let lengths = Lengths {
+            output: batch.room,
+            ..case.lengths(published)
+        };
+        let lines = batch.bytes();
+        let question = Question {
+            line: &lines,
+            ..Question::of(case, book)
+        };
+        let expected = records::answer(&question, lengths, published);
+        self.tally.batches.count(&question, &expected);
+        let mut lent = self.lent.lend(lengths, case.junk);
+        let found = self.subject.answer_lines(&question, &mut lent);
+        let due = Done::of(&expected);
+        let records = expected.ok().map(|answered| answered.records.concat());
+        compare_values("many lines' values", &due, &found)
+            .or_else(|| self.lent.difference("records", records.as_deref()))
     }
 
     fn check_writer(&mut self, case: &Case, book: &[u8]) -> Option<String> {
@@ -201,71 +213,20 @@ impl<'a> Comparison<'a> {
         let room = full.saturating_add_signed(case.writer_offset);
         let expected = model::written(book, room);
         self.tally.count_writer(&expected);
-        let output = self.output.lend(room, case.junk);
+        let output = self.lent.output.lend(room, case.junk);
         let found = self.subject.written(book, output);
         let refusal = expected.as_ref().err().copied().unwrap_or(0);
         let bytes = expected.unwrap_or_default();
         let length = bytes.len() as u64;
         let due = Written { refusal, length };
-        if due != found {
-            return Some(format!(
-                "writer's values, output of {room} bytes\n  due   {due:?}\n  found {found:?}"
-            ));
-        }
-        self.output.difference("writer's output", &bytes)
+        let name = format!("writer's values, output of {room} bytes");
+        compare_values(&name, &due, &found)
+            .or_else(|| self.lent.output.difference("writer's output", &bytes))
     }
 }
 
-fn compare_values(due: &Told, found: &Told) -> Option<String> {
-    (due != found).then(|| format!("values\n  due   {due:?}\n  found {found:?}"))
-}
-
-/// A buffer whose front is lent again and again, full of junk each time.
-#[derive(Default)]
-struct Lender {
-    bytes: Vec<u8>,
-    /// What the bytes were when they were lent.
-    junk: Vec<u8>,
-}
-
-/// Bytes behind the lent ones, where a write past the end shows.
-const BEHIND: usize = 64;
-
-impl Lender {
-    /// No byte of junk is 0, so that a write of zeros shows too.
-    fn lend(&mut self, length: usize, seed: u64) -> &mut [u8] {
-        let factor = seed | 1;
-        self.junk = (0..length + BEHIND)
-            .map(|place| (factor.wrapping_mul(place as u64) >> 56).max(1) as u8)
-            .collect();
-        self.bytes.resize(self.junk.len().max(self.bytes.len()), 0);
-        self.bytes[..self.junk.len()].copy_from_slice(&self.junk);
-        &mut self.bytes[..length]
-    }
-
-    /// What differs, if the front is not as given or the rest not as it was.
-    fn difference(&self, name: &str, front: &[u8]) -> Option<String> {
-        let due = [front, &self.junk[front.len()..]].concat();
-        let found = &self.bytes[..due.len()];
-        (found != due).then(|| buffer_difference(name, &due, found))
-    }
-}
-
-fn buffer_difference(name: &str, due: &[u8], found: &[u8]) -> String {
-    let place = (0..due.len())
-        .find(|&place| due[place] != found[place])
-        .unwrap_or(due.len());
-    let end = due.len().min(place + 16);
-    format!(
-        "{name} from byte {place}\n  due   {}\n  found {}",
-        hexadecimal(&due[place..end]),
-        hexadecimal(&found[place..end])
-    )
-}
-
-fn hexadecimal(bytes: &[u8]) -> String {
-    let bytes: Vec<String> = bytes.iter().map(|byte| format!("{byte:02x}")).collect();
-    bytes.join(" ")
+fn compare_values<T: Debug + PartialEq>(name: &str, due: &T, found: &T) -> Option<String> {
+    (due != found).then(|| format!("{name}\n  due   {due:?}\n  found {found:?}"))
 }
 
 impl Display for Difference {
@@ -319,10 +280,21 @@ fn write_case(text: &mut Formatter, case: &Case) -> fmt::Result {
         case.writer_offset
     )?;
     writeln!(text, "junk     from seed {}", case.junk)?;
+    if let Some(batch) = &case.batch {
+        write_batch(text, batch)?;
+    }
     if let Some(input) = case.input() {
         writeln!(text, "input    {}", hexadecimal(&input))?;
     }
     Ok(())
+}
+
+fn write_batch(text: &mut Formatter, batch: &Batch) -> fmt::Result {
+    writeln!(text, "many     {} bytes cut off", batch.cut)?;
+    for line in &batch.lines {
+        writeln!(text, "  line   {}", hexadecimal(line))?;
+    }
+    writeln!(text, "records  {} bytes lent", batch.room)
 }
 
 impl Display for Tally {
@@ -343,6 +315,10 @@ impl Display for Tally {
                 writeln!(text, "writer refused {number:2}  {count}")?;
             }
         }
-        write!(text, "{}{}{}", self.repeats, self.days, self.nets)
+        write!(
+            text,
+            "{}{}{}{}",
+            self.repeats, self.days, self.nets, self.batches
+        )
     }
 }

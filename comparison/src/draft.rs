@@ -2,6 +2,7 @@
 //! they can be spoiled on purpose, encoded as they are, and shrunk.
 
 use crate::model::{Form, Lengths, Packer, OUTPUT_LEN};
+use crate::records::joined;
 
 #[derive(Clone, Copy, Debug, PartialEq, Eq)]
 pub enum Symbol {
@@ -165,6 +166,24 @@ impl Damage {
     }
 }
 
+/// Many lines, terms or texts as the form says, by the case's book.
+#[derive(Clone, Debug, Default, PartialEq, Eq)]
+pub struct Batch {
+    pub lines: Vec<Vec<u8>>,
+    /// How many of their bytes are cut off at the end.
+    pub cut: usize,
+    /// The bytes lent for their records.
+    pub room: usize,
+}
+
+impl Batch {
+    pub fn bytes(&self) -> Vec<u8> {
+        let mut bytes = joined(&self.lines);
+        bytes.truncate(bytes.len().saturating_sub(self.cut));
+        bytes
+    }
+}
+
 /// One question to an implementation.
 #[derive(Clone, Debug, PartialEq, Eq)]
 pub struct Case {
@@ -189,6 +208,8 @@ pub struct Case {
     pub junk: u64,
     /// How many bytes of the program's input are cut off at its end.
     pub cut: usize,
+    /// Asked besides, if there is one.
+    pub batch: Option<Batch>,
 }
 
 impl Case {
@@ -209,6 +230,7 @@ impl Case {
             writer_offset: 0,
             junk: 0,
             cut: 0,
+            batch: None,
         }
     }
 

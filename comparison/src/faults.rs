@@ -14,7 +14,10 @@ pub fn spoil(random: &mut Random, case: &mut Case) {
         2 => spoil_output(random, case),
         3 | 4 => spoil_schedule(random, case),
         5..=7 => match case.form {
-            Form::Line => spoil_line(random, case),
+            Form::Line => {
+                let count = case.draft.operators.len();
+                spoil_line(random, &mut case.line, count)
+            }
             Form::Text => spoil_text(random, &mut case.line),
         },
         8 | 9 => spoil_operators(random, &mut case.draft),
@@ -51,9 +54,9 @@ fn spoil_schedule(random: &mut Random, case: &mut Case) {
     case.schedule.insert(place, unit);
 }
 
-fn spoil_line(random: &mut Random, case: &mut Case) {
-    let line = &mut case.line;
-    let count = case.draft.operators.len().max(1);
+/// The line of a book with so many operators.
+pub fn spoil_line(random: &mut Random, line: &mut Vec<u8>, count: usize) {
+    let count = count.max(1);
     match random.below(8) {
         0 => line.clear(),
         1 => line.truncate(random.below(line.len() + 1)),
@@ -73,7 +76,7 @@ fn spoil_line(random: &mut Random, case: &mut Case) {
 }
 
 /// A text is refused for its length only, and only once it is squeezed.
-fn spoil_text(random: &mut Random, text: &mut Vec<u8>) {
+pub fn spoil_text(random: &mut Random, text: &mut Vec<u8>) {
     match random.below(6) {
         0 => text.clear(),
         1 => text.push(random.byte()),

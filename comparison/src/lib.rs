@@ -2,22 +2,29 @@
 //! comparison of other implementations with it on random cases.
 //!
 //! - `model`: the definitions, written for reading.
+//! - `records`: the same for many lines by one book.
 //! - `draft`: books and cases as fields that may break any rule.
 //! - `random`, `books`, `branching`, `dates`, `texts`, `grow`, `faults`: random
 //!   cases.
 //! - `subject`: what an implementation under comparison must offer.
 //! - `compare`, `shrink`: the comparison, and how a difference is made small.
+//! - `buffers`: what is lent for a run, and what became of it.
 //! - `repeats`: what the cases try of variables that stand again on the left.
 //! - `days`: what they try of rules with days.
 //! - `nets`: what they try of a net over the left sides.
-//! - `broken`: the model with one slip, to show that slips are found.
+//! - `batches`: random lines for one book, and what they try.
+//! - `broken`, `broken_lines`: the model with one slip, to show that slips are
+//!   found.
 //! - `library`: the static library as a subject, under the feature `library`.
 //! - `program`: the pages of the programs `reduce` and `payee`.
 //! - `vectors`: pages and written books from outside.
 
+pub mod batches;
 pub mod books;
 pub mod branching;
 pub mod broken;
+pub mod broken_lines;
+pub mod buffers;
 pub mod compare;
 pub mod dates;
 pub mod days;
@@ -30,6 +37,7 @@ pub mod model;
 pub mod nets;
 pub mod program;
 pub mod random;
+pub mod records;
 pub mod repeats;
 pub mod shrink;
 pub mod subject;

@@ -1,9 +1,9 @@
 //! The static library as a subject. Its values are passed on as they come.
 
-use kurvneist::{raw, Request};
+use kurvneist::{raw, Batch, Request};
 
 use crate::model::{Form, Lengths};
-use crate::subject::{Lent, Question, Subject, Told, Written};
+use crate::subject::{Done, Lent, Question, Subject, Told, Written};
 
 /// What a value holds before the call, so that a zero that is due must be written.
 const JUNK: u64 = 0x5A5A_5A5A_5A5A_5A5A;
@@ -36,6 +36,35 @@ impl Subject for Library {
             granted,
             kept,
             length,
+        }
+    }
+
+    fn answer_lines(&mut self, question: &Question, lent: &mut Lent) -> Done {
+        let batch = Batch::new(question.book)
+            .units(question.units)
+            .budget(question.budget)
+            .day(question.day)
+            .schedule(question.schedule);
+        let call = match question.form {
+            Form::Line => raw::reduce_lines,
+            Form::Text => raw::payee_lines,
+        };
+        let mut values = [JUNK; raw::DONE_LENGTH];
+        let refusal = call(
+            &batch,
+            question.line,
+            lent.work,
+            lent.net,
+            lent.output,
+            &mut values,
+        );
+        let [lines, read, written, stop] = values;
+        Done {
+            refusal,
+            lines,
+            read,
+            written,
+            stop,
         }
     }
 

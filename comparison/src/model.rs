@@ -1191,7 +1191,7 @@ fn page_answer(form: Form, input: &[u8]) -> Result<Answer, u8> {
     answer_to(form, book, line, units, budget, day, rest, lengths, lengths)
 }
 
-fn take_announced<'a>(rest: &mut &'a [u8]) -> Result<&'a [u8], u8> {
+pub fn take_announced<'a>(rest: &mut &'a [u8]) -> Result<&'a [u8], u8> {
     let length = take_number(rest, 2)?;
     take_bytes(rest, length as usize)
 }

@@ -3,6 +3,7 @@
 //! Most cases are sound and differ in how their runs go. The others carry one
 //! to three faults, so that the order in which faults are told is met too.
 
+use crate::batches;
 use crate::books::draft;
 use crate::branching;
 use crate::dates;
@@ -74,6 +75,9 @@ impl Random {
     }
 }
 
+/// One case in so many has a batch.
+const BATCH_EVERY: u64 = 8;
+
 /// The numbered case of a seed. Every third one is a text.
 pub fn numbered(seed: u64, number: u64) -> Case {
     let mut random = Random::for_case(seed, number);
@@ -84,6 +88,9 @@ pub fn numbered(seed: u64, number: u64) -> Case {
     case.junk = random.draw();
     if random.one_in(10) {
         case.cut = cut(&mut random, &case);
+    }
+    if number % BATCH_EVERY == 0 {
+        case.batch = Some(batches::batch(&mut random, &case));
     }
     case
 }

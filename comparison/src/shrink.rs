@@ -1,7 +1,8 @@
 //! Makes a case small while it still shows a difference.
 
-use crate::draft::{Case, Draft, RuleDraft, Symbol};
+use crate::draft::{Batch, Case, Draft, RuleDraft, Symbol};
 use crate::model::{squeezed, Form, END, OUTPUT_LEN};
+use crate::records::{LONGEST, LONGEST_LINE};
 
 /// Enough for any case met so far, and an end for the slowest subject.
 const MOST_TRIES: usize = 200_000;
@@ -27,23 +28,22 @@ impl Shrinker<'_> {
     /// Tries every kind of step once; answers whether one was kept.
     fn pass(&mut self) -> bool {
         let before = self.case.clone();
+        self.fewer_lines();
         self.thin(|case| &mut case.damage);
         self.thin(|case| &mut case.schedule);
         self.fewer_units();
         self.thin(|case| &mut case.draft.rules);
         self.fewer_days();
         self.text_to_line();
-        match self.case.form {
-            Form::Line => self.smaller_line(),
-            Form::Text => self.smaller_text(),
-        }
+        self.smaller_lines();
         self.smaller_sides();
         self.simpler_strategies();
         self.merge_operators();
         self.fewer_operators();
         self.simpler_frame();
         self.smaller_budget();
-        self.smaller_cut();
+        self.smaller_cut(|case| &mut case.cut);
+        self.smaller_batch();
         self.case != before && self.tries > 0
     }
 
@@ -128,33 +128,54 @@ impl Shrinker<'_> {
         self.try_change(|case| case.day = 0);
     }
 
+    /// A difference that a line by itself shows is none of many lines.
+    fn fewer_lines(&mut self) {
+        if self.case.batch.is_some() && !self.try_change(|case| case.batch = None) {
+            self.thin(|case| &mut batch(case).lines);
+        }
+    }
+
     /// A difference that a text's term shows too is none of texts.
     fn text_to_line(&mut self) {
         if self.case.form == Form::Text {
             self.try_change(|case| {
                 case.form = Form::Line;
-                case.line = [squeezed(&case.line), vec![END]].concat();
+                for line in lines(case) {
+                    *line = [squeezed(line), vec![END]].concat();
+                    line.truncate(LONGEST_LINE);
+                }
             });
         }
     }
 
-    /// Fewer bytes, then plainer ones.
-    fn smaller_text(&mut self) {
-        self.thin(|case| &mut case.line);
+    /// The case's own line, and its batch's.
+    fn smaller_lines(&mut self) {
+        for place in 0..lines(&mut self.case).count() {
+            self.thin(|case| line(case, place));
+            match self.case.form {
+                Form::Line => self.smaller_line(place),
+                Form::Text => self.plainer_text(place),
+            }
+        }
+    }
+
+    fn plainer_text(&mut self, text: usize) {
         for plain in [b' ', b'A'] {
-            for place in 0..self.case.line.len() {
-                if !b" A".contains(&self.case.line[place]) {
-                    self.try_change(|case| case.line[place] = plain);
+            for place in 0..line(&mut self.case, text).len() {
+                if !b" A".contains(&line(&mut self.case, text)[place]) {
+                    self.try_change(|case| line(case, text)[place] = plain);
                 }
             }
         }
     }
 
-    fn smaller_line(&mut self) {
-        self.thin(|case| &mut case.line);
+    fn smaller_line(&mut self, place: usize) {
         self.smaller_symbols(
-            |case| case.line.iter().copied().map(Symbol::Operator).collect(),
-            |case, symbols| case.line = symbols.iter().map(|&symbol| number(symbol)).collect(),
+            |case| {
+                let line = line(&mut case.clone(), place).clone();
+                line.into_iter().map(Symbol::Operator).collect()
+            },
+            |case, symbols| *line(case, place) = symbols.iter().copied().map(number).collect(),
         );
     }
 
@@ -249,11 +270,39 @@ impl Shrinker<'_> {
         while self.try_change(|case| case.budget = case.budget.saturating_sub(1)) {}
     }
 
-    fn smaller_cut(&mut self) {
-        self.try_change(|case| case.cut = 0);
-        while self.try_change(|case| case.cut /= 2) {}
-        while self.try_change(|case| case.cut = case.cut.saturating_sub(1)) {}
+    fn smaller_cut(&mut self, cut: impl Fn(&mut Case) -> &mut usize) {
+        self.try_change(|case| *cut(case) = 0);
+        while self.try_change(|case| *cut(case) /= 2) {}
+        while self.try_change(|case| *cut(case) = cut(case).saturating_sub(1)) {}
     }
+
+    /// Less is cut off, and there is room for all or else for none, if that
+    /// shows it too.
+    fn smaller_batch(&mut self) {
+        let Some(Batch { lines, room, .. }) = &self.case.batch else {
+            return;
+        };
+        let enough = LONGEST * (lines.len() + 1);
+        if *room != enough && !self.try_change(|case| batch(case).room = enough) {
+            self.try_change(|case| batch(case).room = LONGEST - 1);
+        }
+        self.smaller_cut(|case| &mut batch(case).cut);
+    }
+}
+
+fn batch(case: &mut Case) -> &mut Batch {
+    case.batch.get_or_insert_with(Batch::default)
+}
+
+/// One of the lines.
+fn line(case: &mut Case, place: usize) -> &mut Vec<u8> {
+    lines(case).nth(place).expect("there are so many")
+}
+
+/// The case's own line, and then its batch's.
+fn lines(case: &mut Case) -> impl Iterator<Item = &mut Vec<u8>> {
+    let many = case.batch.iter_mut().flat_map(|batch| &mut batch.lines);
+    [&mut case.line].into_iter().chain(many)
 }
 
 fn left(rule: &mut RuleDraft) -> &mut Vec<Symbol> {
@@ -315,7 +364,9 @@ fn unused_operators(case: &Case) -> Vec<u8> {
 /// seen when it is tried.
 fn is_used(case: &Case, operator: u8) -> bool {
     let symbol = Symbol::Operator(operator);
-    case.form == Form::Line && case.line.contains(&operator)
+    let many = case.batch.iter().flat_map(|batch| &batch.lines);
+    let mut lines = many.chain([&case.line]);
+    case.form == Form::Line && lines.any(|line| line.contains(&operator))
         || case
             .draft
             .rules
@@ -331,11 +382,8 @@ fn rename_in_line(case: &mut Case, from: u8, to: u8) {
 
 /// A text has none.
 fn line_symbols(case: &mut Case) -> impl Iterator<Item = &mut u8> {
-    let symbols = match case.form {
-        Form::Line => &mut case.line[..],
-        Form::Text => &mut [],
-    };
-    symbols.iter_mut()
+    let is_line = case.form == Form::Line;
+    lines(case).filter(move |_| is_line).flatten()
 }
 
 fn rename_in_rules(case: &mut Case, from: u8, to: u8) {

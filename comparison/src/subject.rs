@@ -2,6 +2,7 @@
 
 use crate::draft::Case;
 use crate::model::{self, Answer, Form, Lengths};
+use crate::records::{self, Answered};
 
 /// The parts of a run that are not lent buffers to write to.
 #[derive(Clone, Copy, Debug)]
@@ -111,6 +112,35 @@ pub struct Written {
     pub length: u64,
 }
 
+/// The values that many lines are answered. After a refusal all but its number
+/// are 0.
+#[derive(Clone, Copy, Debug, Default, PartialEq, Eq)]
+pub struct Done {
+    pub refusal: u8,
+    pub lines: u64,
+    pub read: u64,
+    pub written: u64,
+    pub stop: u64,
+}
+
+impl Done {
+    pub fn of(answered: &Result<Answered, u8>) -> Done {
+        match answered {
+            Err(refusal) => Done {
+                refusal: *refusal,
+                ..Done::default()
+            },
+            Ok(answered) => Done {
+                refusal: 0,
+                lines: answered.records.len() as u64,
+                read: answered.read as u64,
+                written: answered.records.concat().len() as u64,
+                stop: answered.stop.into(),
+            },
+        }
+    }
+}
+
 /// Buffers are lent by the comparison, which also looks at what became of
 /// them; an implementation hands its values over as they come.
 pub trait Subject {
@@ -120,6 +150,10 @@ pub trait Subject {
 
     /// Leaves both areas all zero unless it refuses.
     fn answer(&mut self, question: &Question, lent: &mut Lent) -> Told;
+
+    /// The question's line are many, one after another, and the output is lent
+    /// for their records. Leaves both areas all zero unless it refuses.
+    fn answer_lines(&mut self, question: &Question, lent: &mut Lent) -> Done;
 
     fn written(&mut self, book: &[u8], output: &mut [u8]) -> Written;
 }
@@ -141,6 +175,11 @@ impl Subject for ModelSubject {
         hand_over(answer, lent)
     }
 
+    fn answer_lines(&mut self, question: &Question, lent: &mut Lent) -> Done {
+        let answered = records::answer(question, lent.lengths(), MODEL_PUBLISHED);
+        hand_over_records(&answered, lent)
+    }
+
     fn written(&mut self, book: &[u8], output: &mut [u8]) -> Written {
         match model::written(book, output.len()) {
             Err(refusal) => Written { refusal, length: 0 },
@@ -156,17 +195,30 @@ impl Subject for ModelSubject {
 }
 
 /// Clears both areas, writes the term at the output's front and answers the
-/// values. Only a broken model's term can be longer than the output.
+/// values.
 pub fn hand_over(answer: Result<Answer, u8>, lent: &mut Lent) -> Told {
     match answer {
         Err(number) => Told::refused(number),
         Ok(answer) => {
-            lent.work.fill(0);
-            lent.net.fill(0);
-            for (place, operator) in lent.output.iter_mut().zip(&answer.term) {
-                *place = *operator;
-            }
+            fill(lent, &answer.term);
             Told::answered(&answer)
         }
+    }
+}
+
+/// The same with the records.
+pub fn hand_over_records(answered: &Result<Answered, u8>, lent: &mut Lent) -> Done {
+    if let Ok(answered) = answered {
+        fill(lent, &answered.records.concat());
+    }
+    Done::of(answered)
+}
+
+/// Only a broken model's bytes can be more than the output has.
+fn fill(lent: &mut Lent, front: &[u8]) {
+    lent.work.fill(0);
+    lent.net.fill(0);
+    for (place, byte) in lent.output.iter_mut().zip(front) {
+        *place = *byte;
     }
 }

@@ -22,6 +22,7 @@ fn every_slip_is_found_and_made_small() {
         let difference = found(slip).unwrap_or_else(|| panic!("{name} is not found"));
         let small = &difference.small;
         assert!(shows(slip, small), "{name}");
+        check_batch(slip, small, name);
         // What isn't about texts is shown by a line, also where a text met it.
         assert_eq!(small.form, form_of(slip), "{name}: {difference}");
         let operator_limit = match small.form {
@@ -42,6 +43,16 @@ fn every_slip_is_found_and_made_small() {
         };
         assert!(small.line.len() <= line_limit, "{name}: {difference}");
         assert!(small.schedule.len() <= 80, "{name}: {difference}");
+    }
+}
+
+/// What isn't about many lines is shown by one.
+fn check_batch(slip: Slip, small: &Case, name: &str) {
+    assert_eq!(small.batch.is_some(), slip.is_of_batches(), "{name}");
+    if let Some(batch) = &small.batch {
+        assert!(batch.lines.len() <= 3, "{name}: {batch:?}");
+        assert!(batch.bytes().len() <= 20, "{name}: {batch:?}");
+        assert!(small.line.is_empty(), "{name}: {:?}", small.line);
     }
 }
 
@@ -82,7 +93,7 @@ fn form_of(slip: Slip) -> Form {
 #[test]
 fn what_was_not_met_is_named() {
     let (tally, _) = compare(&mut ModelSubject, 31, 0..0);
-    assert_eq!(tally.missing().len(), 4 + 17 + 4 + 14 + 9 + 7 + 8 + 8);
+    assert_eq!(tally.missing().len(), 4 + 17 + 4 + 14 + 9 + 7 + 8 + 8 + 10);
     assert_eq!(
         tally.missing()[..5].join(", "),
         "ending 0, ending 1, ending 2, ending 3, refusal 1"
@@ -97,6 +108,7 @@ fn what_was_not_met_is_named() {
         tally.missing()[63],
         "searches that go back to a variable's way"
     );
+    assert_eq!(tally.missing()[71], "batches done to the end");
     let (tally, _) = compare(&mut ModelSubject, 31, 0..2000);
     assert!(tally.missing().is_empty(), "{tally}");
 }

@@ -5,9 +5,10 @@ mod common;
 
 use common::*;
 use comparison::compare::{compare, Comparison};
-use comparison::draft::{Case, Damage, Draft, OperatorDraft, Symbol};
+use comparison::draft::{Batch, Case, Damage, Draft, OperatorDraft, Symbol};
 use comparison::library::Library;
 use comparison::model::Form;
+use comparison::records::{LONGEST, LONGEST_LINE};
 
 #[test]
 fn random_cases() {
@@ -189,4 +190,65 @@ fn texts_at_the_limit_with_separators_behind() {
         refusal(&full(&[&b" ".repeat(5000)[..], b"x"].concat())),
         Some(18)
     );
+}
+
+/// Room for all records.
+fn batch(lines: Vec<Vec<u8>>) -> Option<Batch> {
+    let room = LONGEST * (lines.len() + 1);
+    Some(Batch {
+        lines,
+        cut: 0,
+        room,
+    })
+}
+
+#[test]
+fn many_lines_by_the_longest_book() {
+    for draft in [longest_book(), longest_book().dated()] {
+        let mut case = page(draft);
+        case.schedule = vec![0; 5000];
+        let lines = (0..30).map(|place| [vec![7; place * 40], vec![(place % 3 * 127) as u8]]);
+        case.batch = batch(lines.map(|parts| parts.concat()).collect());
+        assert_eq!(refusal(&case), Some(10));
+        case.damage = vec![Damage::Add(0)];
+        assert_eq!(refusal(&case), Some(9));
+    }
+}
+
+/// Room for each number of bytes about the records' ends.
+#[test]
+fn many_lines_with_any_room() {
+    let mut case = page(book_p());
+    let lines = [&LINE_P[..], &[7], &[], &LINE_P, &[0]].map(<[u8]>::to_vec);
+    case.batch = batch(lines.to_vec());
+    for room in (0..40).chain(LONGEST - 2..LONGEST + 120) {
+        case.batch.as_mut().unwrap().room = room;
+        assert_eq!(refusal(&case), None);
+    }
+    for cut in 0..30 {
+        case.batch.as_mut().unwrap().cut = cut;
+        assert_eq!(refusal(&case), None);
+    }
+}
+
+#[test]
+fn many_lines_of_the_longest() {
+    let mut case = page(book_p());
+    case.batch = batch(vec![vec![0; LONGEST_LINE]; 3]);
+    assert_eq!(refusal(&case), None);
+    let mut case = text(Vec::new());
+    let letters = vec![vec![b'x'; LONGEST_LINE], vec![b'x'; 1023]];
+    let spread = [b"a", &b" ".repeat(LONGEST_LINE - 2)[..], b"b"].concat();
+    case.batch = batch([letters, vec![spread]].concat());
+    assert_eq!(refusal(&case), None);
+}
+
+#[test]
+fn many_lines_by_bytes_that_are_too_many_for_any_book() {
+    for further in [65_535, 65_536, 200_000] {
+        let mut case = page(book_p());
+        case.batch = batch(vec![LINE_P.to_vec(); 3]);
+        case.damage = vec![Damage::Add(0); further];
+        assert_eq!(refusal(&case), Some(9));
+    }
 }

@@ -4,9 +4,9 @@
  * The functions of libkurvneist.a (x86-64), which `rt staticlib kurvneist` writes. docs/FORMAT.md says what the bytes of
  * a book, a line, a text and a page are, bit by bit, and in which order faults are refused.
  *
- * Buffers. Each is lent as a pointer and its length in bytes. A null pointer is taken where the length is 0; answer and
- * length are never null. What is written to (work, net, output, answer, length) overlaps nothing else that is lent. Any
- * bytes, lengths and numbers are fine: what can't be used is refused by number.
+ * Buffers. Each is lent as a pointer and its length in bytes. A null pointer is taken where the length is 0; answer, done
+ * and length are never null. What is written to (work, net, output, answers, answer, done, length) overlaps nothing else
+ * that is lent. Any bytes, lengths and numbers are fine: what can't be used is refused by number.
  *
  * The functions keep nothing between calls, so several threads may call them, each with buffers of its own.
  */
@@ -28,6 +28,9 @@ extern "C" {
 /* No book is longer, and so no written one. */
 #define KURVNEIST_LONGEST_BOOK 41473
 
+/* No record of a line among many is longer: 32 bytes and 1,024 symbols. */
+#define KURVNEIST_LONGEST_RECORD 1056
+
 /*
  * The elements of an answer. They are told by name, since a later version may add some. In a finished run granted and kept
  * together are exactly the FORKs of a one-unit run without symbol limit. In any other ending they are the FORKs so far.
@@ -48,6 +51,22 @@ enum kurvneist_ending {
     KURVNEIST_SPENT = 1,    /* a rewrite is due and the budget is used up */
     KURVNEIST_FULL = 2,     /* a rewrite is due that would make over 1,024 symbols */
     KURVNEIST_CUT = 3       /* the schedule has no further entry */
+};
+
+/* The elements of what many lines are answered. */
+enum kurvneist_done {
+    KURVNEIST_DONE_LINES = 0,   /* lines done, those in front */
+    KURVNEIST_DONE_READ = 1,    /* bytes that they take, with their lengths */
+    KURVNEIST_DONE_WRITTEN = 2, /* bytes of their records */
+    KURVNEIST_DONE_STOP = 3,    /* a stop's number */
+    KURVNEIST_DONE_LENGTH = 4
+};
+
+/* Why no more lines were done. */
+enum kurvneist_stop {
+    KURVNEIST_STOP_END = 0, /* there are none */
+    KURVNEIST_STOP_CUT = 1, /* the next line is cut short: its length, or its bytes, run out */
+    KURVNEIST_STOP_ROOM = 2 /* the next line is whole, and the longest record would not fit behind the others */
 };
 
 /*
@@ -153,6 +172,56 @@ uint8_t kurvneist_payee(const uint8_t *book, size_t book_length,
                         uint8_t *net, size_t net_length,
                         uint8_t *output, size_t output_length,
                         uint64_t *answer);
+
+/* KURVNEIST_LONGEST_RECORD. */
+size_t kurvneist_record_length(void);
+
+/*
+ * Reduces many lines by one book, which is read and laid out in `net` once. Each line is answered exactly as
+ * kurvneist_reduce answers it by itself, on the same units, with the same budget, day and schedule: nothing of one line
+ * reaches the next.
+ *
+ * In `lines` they stand one after another, each behind its length in two bytes, the high byte first. Each line that is done
+ * gets a record in `answers`, one after another from the front:
+ *
+ *   a refused line  its refusal's number, one byte, never 0: 12, 11 or 10; 14, if the schedule can't be used
+ *   a run           one byte 0; the ending's number, one byte; rewrites, four bytes; schedule entries used, FORKs granted
+ *                   and FORKs kept, eight bytes each; the present term's length, two bytes; its symbols, one byte each.
+ *                   Numbers have the high byte first.
+ *
+ * A line is done only where KURVNEIST_LONGEST_RECORD bytes are left in `answers`, however short its record will be. `done`
+ * has KURVNEIST_DONE_LENGTH elements and says how many lines were done and why no more. After KURVNEIST_STOP_ROOM a caller
+ * goes on: the same call with `lines` from the byte KURVNEIST_DONE_READ on, and `answers` with at least
+ * KURVNEIST_LONGEST_RECORD bytes, the same buffer once its records are used. So no line is done twice or left out. After
+ * KURVNEIST_STOP_CUT the bytes from there on are no whole line; they come again in front of those that are missing.
+ *
+ * The result is 0, or the refusal's number of the frame or the book: 13; 15; 1 to 5, 7 to 9. An `answers` of any length is
+ * fine, so 16 never comes. The book is checked also where there is no line to do.
+ *
+ * After 0 the bytes of `answers` behind the records are as they were; `work` and `net` are all zero, whatever they held
+ * before. After a refusal `done` is all zero, and `work`, `net` and `answers` are as they were.
+ */
+uint8_t kurvneist_reduce_lines(const uint8_t *book, size_t book_length,
+                               const uint8_t *lines, size_t lines_length,
+                               uint8_t units, uint32_t budget, uint16_t day,
+                               const uint8_t *schedule, size_t schedule_length,
+                               uint8_t *work, size_t work_length,
+                               uint8_t *net, size_t net_length,
+                               uint8_t *answers, size_t answers_length,
+                               uint64_t *done);
+
+/*
+ * Reduces many payees' texts, as kurvneist_payee does each, where kurvneist_reduce_lines takes terms; all else is the same.
+ * A refused text's number is 19, 18 or 14. Behind a length in two bytes a text has at most 65,535 bytes.
+ */
+uint8_t kurvneist_payee_lines(const uint8_t *book, size_t book_length,
+                              const uint8_t *texts, size_t texts_length,
+                              uint8_t units, uint32_t budget, uint16_t day,
+                              const uint8_t *schedule, size_t schedule_length,
+                              uint8_t *work, size_t work_length,
+                              uint8_t *net, size_t net_length,
+                              uint8_t *answers, size_t answers_length,
+                              uint64_t *done);
 
 /*
  * Writes a book with its strategies settled to the front of `output`; the output's other bytes are as they were. A dated

@@ -1,8 +1,12 @@
 //! An engine with buffers of its own.
 
-use crate::{payee, reduce, Answer, Refusal, Request, NET_LENGTH, OUTPUT_LENGTH, WORK_LENGTH};
+use crate::{
+    payee, payee_lines, reduce, reduce_lines, Answer, Batch, Done, Lines, Postings, Refusal,
+    Request, Stop, NET_LENGTH, OUTPUT_LENGTH, WORK_LENGTH,
+};
 
-/// Owns one work area, one area for the net and one output and lends them to every run, so that posting allocates nothing.
+/// Owns one work area, one area for the net and one output and lends them to every run, so that posting a line allocates
+/// nothing. The answers of many lines have a buffer that grows with them and is used again.
 ///
 /// Each run that is not refused leaves both areas zero: nothing of one line is there when the next comes.
 #[derive(Clone)]
@@ -10,6 +14,7 @@ pub struct Engine {
     work: Box<[u8]>,
     net: Box<[u8]>,
     output: Box<[u8]>,
+    answers: Vec<u8>,
 }
 
 /// A run's answer and its present term, which stays until the engine's next run. The term is a posting if the ending
@@ -23,6 +28,9 @@ pub struct Posting<'a> {
     pub term: &'a [u8],
 }
 
+/// [`reduce_lines`] or [`payee_lines`].
+type DoLines = fn(&Batch, &[u8], &mut [u8], &mut [u8], &mut [u8]) -> Result<Done, Refusal>;
+
 impl Engine {
     /// An engine with zeroed buffers of the lengths that a run asks for.
     pub fn new() -> Engine {
@@ -30,6 +38,7 @@ impl Engine {
             work: vec![0; WORK_LENGTH].into(),
             net: vec![0; NET_LENGTH].into(),
             output: vec![0; OUTPUT_LENGTH].into(),
+            answers: Vec::new(),
         }
     }
 
@@ -43,6 +52,59 @@ impl Engine {
     pub fn post_payee(&mut self, request: &Request) -> Result<Posting<'_>, Refusal> {
         let answer = payee(request, &mut self.work, &mut self.net, &mut self.output)?;
         Ok(self.posting(answer))
+    }
+
+    /// Posts all lines, which are terms, by one book, each as [`post`](Engine::post) posts it by itself. The refusals of the
+    /// units and the book, told once, are the result's; those of a line are that line's item.
+    ///
+    /// ```
+    /// use kurvneist::{Batch, Engine, Lines, Refusal};
+    ///
+    /// // both(end, Y) gives Y; both(tick(X), Y) gives tick(both(X, Y))
+    /// let book = b"\x03\x02\x52\xc0\x94\x80\x10\x08\x01\x18\x80\x80\x30\x88\x04\x05\x08\x80";
+    /// let mut lines = Lines::new();
+    /// for line in [&[2, 1, 0, 1, 0][..], &[7], &[2, 0, 0]] {
+    ///     lines.push(line)?;
+    /// }
+    /// let mut engine = Engine::new();
+    /// let postings = engine.post_lines(&Batch::new(book).schedule(&[0; 99]), &lines)?;
+    /// let terms: Vec<_> = postings.map(|posting| Ok(posting?.term)).collect();
+    /// assert_eq!(terms, [Ok(&[1, 1, 0][..]), Err(Refusal::UnknownOperatorInLine), Ok(&[0])]);
+    /// # Ok::<(), Box<dyn std::error::Error>>(())
+    /// ```
+    pub fn post_lines(&mut self, batch: &Batch, lines: &Lines) -> Result<Postings<'_>, Refusal> {
+        self.post_all(reduce_lines, batch, lines)
+    }
+
+    /// Posts all lines, which are payees' texts, by one book, each as [`post_payee`](Engine::post_payee) posts it by itself.
+    pub fn post_payees(&mut self, batch: &Batch, texts: &Lines) -> Result<Postings<'_>, Refusal> {
+        self.post_all(payee_lines, batch, texts)
+    }
+
+    /// Each further call reads the book again, so room is guessed first and then doubled.
+    fn post_all(
+        &mut self,
+        do_lines: DoLines,
+        batch: &Batch,
+        lines: &Lines,
+    ) -> Result<Postings<'_>, Refusal> {
+        let (mut left, mut written) = (lines.as_bytes(), 0);
+        self.grow(lines.room());
+        loop {
+            let answers = &mut self.answers[written..];
+            let done = do_lines(batch, left, &mut self.work, &mut self.net, answers)?;
+            left = &left[done.read..];
+            written += done.written;
+            if done.stop != Stop::Room {
+                return Ok(Postings::of(&self.answers[..written]));
+            }
+            self.grow(2 * self.answers.len());
+        }
+    }
+
+    /// Room for at least so many bytes of answers.
+    fn grow(&mut self, length: usize) {
+        self.answers.resize(length.max(self.answers.len()), 0);
     }
 
     fn posting(&self, answer: Answer) -> Posting<'_> {

@@ -6,7 +6,13 @@
 //! let request = kurvneist::Request { book: &[], line: &[], units: 1, budget: 0, day: 0, schedule: &[] };
 //! ```
 //!
-//! An answer or a posting is not taken apart into all its fields; with `..` it is:
+//! Neither is a batch:
+//!
+//! ```compile_fail,E0639
+//! let batch = kurvneist::Batch { book: &[], units: 1, budget: 0, day: 0, schedule: &[] };
+//! ```
+//!
+//! An answer, a posting or what is done is not taken apart into all its fields; with `..` it is:
 //!
 //! ```compile_fail,E0638
 //! fn rewrites(answer: kurvneist::Answer) -> u32 {
@@ -22,6 +28,13 @@
 //! }
 //! ```
 //!
+//! ```compile_fail,E0638
+//! fn lines(done: kurvneist::Done) -> usize {
+//!     let kurvneist::Done { lines, read: _, written: _, stop: _ } = done;
+//!     lines
+//! }
+//! ```
+//!
 //! ```
 //! fn rewrites(posting: kurvneist::Posting) -> u32 {
 //!     let kurvneist::Posting { answer: kurvneist::Answer { rewrites, .. }, .. } = posting;
@@ -29,7 +42,7 @@
 //! }
 //! ```
 //!
-//! Endings and refusals have an arm for those to come; then they can be matched:
+//! Endings, stops and refusals have an arm for those to come; then they can be matched:
 //!
 //! ```compile_fail,E0004
 //! # use kurvneist::Ending;
@@ -37,6 +50,16 @@
 //!     match ending {
 //!         Ending::Finished => true,
 //!         Ending::Spent | Ending::Full | Ending::Cut => false,
+//!     }
+//! }
+//! ```
+//!
+//! ```compile_fail,E0004
+//! # use kurvneist::Stop;
+//! fn goes_on(stop: Stop) -> bool {
+//!     match stop {
+//!         Stop::Room => true,
+//!         Stop::End | Stop::Cut => false,
 //!     }
 //! }
 //! ```

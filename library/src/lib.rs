@@ -41,6 +41,9 @@
 //! Rules with days replace earlier ones: a dated book is asked with a [`day`](Request::day), and only the rules that stand
 //! on it are tried.
 //!
+//! Many lines by one book are posted together, by [`Engine::post_lines`] and [`Engine::post_payees`], so that the book is
+//! read once.
+//!
 //! A refusal has a name, a number and a condition, and leaves every buffer as it was:
 //!
 //! ```
@@ -51,21 +54,28 @@
 //! assert_eq!(refusal.to_string(), "refused 11: the line names an operator that the book does not have");
 //! ```
 //!
-//! [`Request`], [`Answer`], [`Posting`], [`Ending`] and [`Refusal`] grow as the engine does: a request is made by
-//! [`Request::new`], and a `match` on an ending or a refusal has an arm for what it doesn't know.
+//! [`Request`], [`Batch`], [`Answer`], [`Done`], [`Posting`], [`Ending`], [`Stop`] and [`Refusal`] grow as the engine does: a
+//! request is made by [`Request::new`], a batch by [`Batch::new`], and a `match` on an ending, a stop or a refusal has an arm
+//! for what it doesn't know.
 #![deny(unsafe_code)]
 #![warn(missing_docs)]
 
 mod answer;
+mod batch;
 mod engine;
 #[cfg(doctest)]
 mod growth;
+mod lines;
+mod postings;
 pub mod raw;
 mod refusal;
 mod request;
 
 pub use answer::{Answer, Ending};
+pub use batch::{payee_lines, reduce_lines, Batch, Done, Stop};
 pub use engine::{Engine, Posting};
+pub use lines::{LineTooLong, Lines};
+pub use postings::Postings;
 pub use refusal::Refusal;
 pub use request::Request;
 
@@ -78,6 +88,9 @@ pub const NET_LENGTH: usize = 3840;
 
 /// Bytes of output that a run asks for: a term has at most 1,024 symbols.
 pub const OUTPUT_LENGTH: usize = 1024;
+
+/// Bytes of the longest record of a line among many: 32 and 1,024 symbols.
+pub const LONGEST_RECORD: usize = 1056;
 
 /// No book has more bytes than a dated one of 255 operators, each with a list of 31 items, and 255 rules whose sides have
 /// 64 operators each: a byte 0, and a day of 16 bits before each rule.

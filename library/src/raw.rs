@@ -1,5 +1,5 @@
 //! The C functions, with slices in the place of pointers. Their values come back as they are; [`crate::reduce`],
-//! [`crate::payee`] and [`crate::write_book`] give them names.
+//! [`crate::payee`], [`crate::reduce_lines`], [`crate::payee_lines`] and [`crate::write_book`] give them names.
 //!
 //! This is the only module with `unsafe`. For each call it suffices that
 //! - the functions are proved safe for any bytes, lengths and numbers, and use a pointer only for the bytes that they
@@ -9,7 +9,7 @@
 //! - nothing is kept after the call returns.
 #![allow(unsafe_code)]
 
-use crate::Request;
+use crate::{Batch, Request};
 
 /// Declared as in `include/kurvneist.h`.
 mod c {
@@ -53,6 +53,43 @@ mod c {
             output_length: usize,
             answer: *mut u64,
         ) -> u8;
+        pub fn kurvneist_record_length() -> usize;
+        pub fn kurvneist_reduce_lines(
+            book: *const u8,
+            book_length: usize,
+            lines: *const u8,
+            lines_length: usize,
+            units: u8,
+            budget: u32,
+            day: u16,
+            schedule: *const u8,
+            schedule_length: usize,
+            work: *mut u8,
+            work_length: usize,
+            net: *mut u8,
+            net_length: usize,
+            answers: *mut u8,
+            answers_length: usize,
+            done: *mut u64,
+        ) -> u8;
+        pub fn kurvneist_payee_lines(
+            book: *const u8,
+            book_length: usize,
+            texts: *const u8,
+            texts_length: usize,
+            units: u8,
+            budget: u32,
+            day: u16,
+            schedule: *const u8,
+            schedule_length: usize,
+            work: *mut u8,
+            work_length: usize,
+            net: *mut u8,
+            net_length: usize,
+            answers: *mut u8,
+            answers_length: usize,
+            done: *mut u64,
+        ) -> u8;
         pub fn kurvneist_write_book(
             book: *const u8,
             book_length: usize,
@@ -65,6 +102,9 @@ mod c {
 
 /// The numbers of an answer: ending, rewrites, entries, FORKs granted, FORKs kept and the term's length.
 pub const ANSWER_LENGTH: usize = 6;
+
+/// The numbers that many lines are answered: lines done, bytes of them read, bytes of records written, and the stop.
+pub const DONE_LENGTH: usize = 4;
 
 /// The bytes of work area that a run asks for, by the linked library.
 pub fn work_length() -> usize {
@@ -82,6 +122,12 @@ pub fn net_length() -> usize {
 pub fn output_length() -> usize {
     // SAFETY: no pointer is passed.
     unsafe { c::kurvneist_output_length() }
+}
+
+/// The bytes that a line among many asks for in the answers, by the linked library.
+pub fn record_length() -> usize {
+    // SAFETY: no pointer is passed.
+    unsafe { c::kurvneist_record_length() }
 }
 
 /// A refusal's number, or 0. The answer is all zeros after a refusal.
@@ -142,6 +188,70 @@ pub fn payee(
             output.as_mut_ptr(),
             output.len(),
             answer.as_mut_ptr(),
+        )
+    }
+}
+
+/// A refusal's number of frame or book, or 0. What is done is all zeros after a refusal.
+pub fn reduce_lines(
+    batch: &Batch,
+    lines: &[u8],
+    work: &mut [u8],
+    net: &mut [u8],
+    answers: &mut [u8],
+    done: &mut [u64; DONE_LENGTH],
+) -> u8 {
+    // SAFETY: every pointer and length are those of one slice, and `done` has the four elements that are written.
+    unsafe {
+        c::kurvneist_reduce_lines(
+            batch.book.as_ptr(),
+            batch.book.len(),
+            lines.as_ptr(),
+            lines.len(),
+            batch.units,
+            batch.budget,
+            batch.day,
+            batch.schedule.as_ptr(),
+            batch.schedule.len(),
+            work.as_mut_ptr(),
+            work.len(),
+            net.as_mut_ptr(),
+            net.len(),
+            answers.as_mut_ptr(),
+            answers.len(),
+            done.as_mut_ptr(),
+        )
+    }
+}
+
+/// The same where each line is a text.
+pub fn payee_lines(
+    batch: &Batch,
+    texts: &[u8],
+    work: &mut [u8],
+    net: &mut [u8],
+    answers: &mut [u8],
+    done: &mut [u64; DONE_LENGTH],
+) -> u8 {
+    // SAFETY: as for `reduce_lines`, whose parameters these are.
+    unsafe {
+        c::kurvneist_payee_lines(
+            batch.book.as_ptr(),
+            batch.book.len(),
+            texts.as_ptr(),
+            texts.len(),
+            batch.units,
+            batch.budget,
+            batch.day,
+            batch.schedule.as_ptr(),
+            batch.schedule.len(),
+            work.as_mut_ptr(),
+            work.len(),
+            net.as_mut_ptr(),
+            net.len(),
+            answers.as_mut_ptr(),
+            answers.len(),
+            done.as_mut_ptr(),
         )
     }
 }

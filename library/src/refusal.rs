@@ -6,7 +6,8 @@ use std::fmt::{self, Display, Formatter};
 /// Each refusal's number, its name and its condition, said once; what stands before a number are the name's attributes.
 macro_rules! refusals {
     ($($(#[$attribute:meta])* $number:literal $name:ident $condition:literal)*) => {
-        /// Why a request, or a book to be written, was refused. Every lent buffer kept its bytes.
+        /// Why a request, a batch or a book to be written was refused, and every lent buffer kept its bytes; or why one line
+        /// of a batch was, whose record this is.
         ///
         /// `docs/FORMAT.md` says in which order they are told. Later versions may add some. One that is given no longer is
         /// deprecated, and keeps its number and its words for who reads what an earlier version told.

@@ -32,15 +32,6 @@ fn requests<'a>(book: &'a [u8], schedule: &'a [u8], growing: &'a [u8]) -> [Reque
     [page, spent, full, cut, page]
 }
 
-/// f(X) gives f of 31 ticks over X, for ever.
-fn growing_book() -> Vec<u8> {
-    let right = [vec![op(1)], vec![op(2); 31], vec![X]].concat();
-    book(
-        &[(0, None), (1, Some(&[0])), (1, None)],
-        &[(&[op(1), X], &right)],
-    )
-}
-
 #[test]
 fn lengths_are_those_of_the_linked_library() {
     assert_eq!(raw::work_length(), WORK_LENGTH);

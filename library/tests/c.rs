@@ -4,7 +4,10 @@ use std::fs;
 use std::path::{Path, PathBuf};
 use std::process::Command;
 
-use kurvneist::{raw, Ending, Refusal, LONGEST_BOOK, NET_LENGTH, OUTPUT_LENGTH, WORK_LENGTH};
+use kurvneist::{
+    raw, Ending, Refusal, Stop, LONGEST_BOOK, LONGEST_RECORD, NET_LENGTH, OUTPUT_LENGTH,
+    WORK_LENGTH,
+};
 
 const STRICT: [&str; 5] = ["-std=c99", "-O2", "-Wall", "-Wextra", "-Werror"];
 
@@ -52,16 +55,22 @@ fn names_of_the_header_have_the_numbers_of_the_crate() {
     let endings = (0..)
         .map_while(Ending::new)
         .map(|ending| (format!("{ending:?}"), ending.number().into()));
+    let stops = (0..)
+        .map_while(Stop::new)
+        .map(|stop| (format!("Stop{stop:?}"), stop.number().into()));
     let lengths = [
         ("Accepted", 0),
         ("WorkLength", WORK_LENGTH),
         ("NetLength", NET_LENGTH),
         ("OutputLength", OUTPUT_LENGTH),
         ("LongestBook", LONGEST_BOOK),
+        ("LongestRecord", LONGEST_RECORD),
         ("AnswerLength", raw::ANSWER_LENGTH),
+        ("DoneLength", raw::DONE_LENGTH),
     ];
     let lengths = lengths.map(|(name, value)| (name.to_owned(), value));
-    let checks = refusals.chain(endings).chain(lengths).map(|(name, value)| {
+    let names = refusals.chain(endings).chain(stops).chain(lengths);
+    let checks = names.map(|(name, value)| {
         let name = c_name(&name);
         format!("    if ({name} != {value}) return puts(\"{name}\");\n")
     });
@@ -99,4 +108,6 @@ fn examples_post_what_they_say() {
     let posted = "ending 0, rewrites 2, FORKs granted 2, kept 0, term 1 1 0\n";
     assert_eq!(run("examples/post.c"), posted);
     assert_eq!(run("examples/payee.c"), "CAFEETOILE\n".repeat(4));
+    let lines = "1 1 0\nrefused 11\n1 1 1 0\nrefused 10\n0\n";
+    assert_eq!(run("examples/lines.c"), lines);
 }

@@ -77,12 +77,11 @@ fn an_undated_book_ignores_the_day() {
 /// Texts are posted on a day too.
 #[test]
 fn a_payee_on_a_day() {
-    let operators = [vec![(0, None)], vec![(1, None); 42]].concat();
     let rules: [(u16, Rule); 2] = [
         (10, (&[op(1), X], &[op(2), X])),
         (20, (&[op(1), Y], &[op(3), Y])),
     ];
-    let book = dated_book(&operators, &rules);
+    let book = dated_book(&class_operators(), &rules);
     let mut engine = Engine::new();
     let mut posted = |day| {
         let request = Request::new(&book, b"a").day(day).schedule(&[0; 20]);

@@ -6,8 +6,8 @@ use std::fs;
 
 use common::*;
 use kurvneist::{
-    written_book, Ending, Engine, Posting, Refusal, Request, LONGEST_BOOK, NET_LENGTH,
-    OUTPUT_LENGTH, WORK_LENGTH,
+    reduce_lines, written_book, Batch, Ending, Engine, Posting, Refusal, Request, Stop,
+    LONGEST_BOOK, LONGEST_RECORD, NET_LENGTH, OUTPUT_LENGTH, WORK_LENGTH,
 };
 
 fn format() -> String {
@@ -109,34 +109,6 @@ fn written_books() {
     assert_eq!(written(1, &[1, 0, 1, 0]), written(1, &[1, 0]));
 }
 
-/// A standard input as the table of its parts says.
-struct Input<'a> {
-    book: &'a [u8],
-    line: &'a [u8],
-    units: u8,
-    budget: u32,
-    day: u16,
-    schedule: &'a [u8],
-}
-
-fn input(bytes: &[u8]) -> Input<'_> {
-    let announced = |bytes: &[u8]| usize::from(u16::from_be_bytes([bytes[0], bytes[1]]));
-    let (book, rest) = bytes[2..].split_at(announced(bytes));
-    let (line, rest) = rest[2..].split_at(announced(rest));
-    let (day, schedule) = match book.first() {
-        Some(0) => (u16::from_be_bytes([rest[5], rest[6]]), &rest[7..]),
-        _ => (0, &rest[5..]),
-    };
-    Input {
-        book,
-        line,
-        units: rest[0],
-        budget: u32::from_be_bytes(rest[1..5].try_into().unwrap()),
-        day,
-        schedule,
-    }
-}
-
 fn page_of(posting: &Posting) -> String {
     let answer = posting.answer;
     let symbols = posting.term.iter().map(|symbol| format!(" {symbol}"));
@@ -161,14 +133,8 @@ fn the_inputs_have_their_pages() {
 fn check_page(input_word: &str, page_word: &str, example: &str) {
     let format = format();
     let bytes = bytes(block(&format, input_word));
-    let asked = input(&bytes);
-    let request = Request::new(asked.book, asked.line)
-        .units(asked.units)
-        .budget(asked.budget)
-        .day(asked.day)
-        .schedule(asked.schedule);
     let mut engine = Engine::new();
-    let posting = engine.post(&request).unwrap();
+    let posting = engine.post(&request_of(&bytes)).unwrap();
     let page = block(&format, page_word);
     assert_eq!(page_of(&posting), page);
     let file = |ending| format!("../examples/{example}.{ending}");
@@ -176,13 +142,8 @@ fn check_page(input_word: &str, page_word: &str, example: &str) {
     assert_eq!(fs::read_to_string(file("out")).unwrap(), page);
 }
 
-/// Operators 0 to 42 as texts ask for them.
-fn letters() -> Vec<u8> {
-    book(&[vec![(0, None)], vec![(1, None); 42]].concat(), &[])
-}
-
 fn line_of(text: &[u8]) -> Vec<u8> {
-    let book = letters();
+    let book = class_book(&[]);
     let mut engine = Engine::new();
     let posting = engine.post_payee(&Request::new(&book, text)).unwrap();
     posting.term.to_vec()
@@ -217,6 +178,46 @@ fn classes_of_texts() {
     let example = bytes(block(&format, "text"));
     for text in [&b"Caf\xE9 7"[..], b" CAFE - 7."] {
         assert_eq!(line_of(text), example);
+    }
+}
+
+#[test]
+fn the_lines_have_their_records() {
+    let format = format();
+    let book = bytes(block(&format, "book"));
+    let batch = Batch::new(&book).budget(9).schedule(&[0; 100]);
+    let lines = bytes(block(&format, "lines"));
+    let (mut work, mut net) = ([0; WORK_LENGTH], [0; NET_LENGTH]);
+    let mut answers = [0; 4000];
+    let done = reduce_lines(&batch, &lines, &mut work, &mut net, &mut answers).unwrap();
+    let records = block(&format, "records");
+    assert_eq!(answers[..done.written], bytes(records));
+    let lengths: Vec<_> = records.lines().map(|record| bytes(record).len()).collect();
+    assert_eq!(lengths, [35, 1, 33]);
+    assert!(format.contains("the records of 35, 1 and 33 bytes"));
+    let numbers = (done.lines, done.read, done.written, done.stop.number());
+    assert_eq!(numbers, (3, 12, 69, 0));
+    assert!(format.contains("the numbers 3, 12, 69 and 0"));
+}
+
+/// The widths of a run's record, which its rows say, and its longest.
+#[test]
+fn the_record_field_by_field() {
+    let rows = table(&format(), "| Bytes of a record | Hold |");
+    let widths = rows[1..].iter().map_while(|row| row[0].parse().ok());
+    let widths: Vec<usize> = widths.collect();
+    assert_eq!(widths, [1, 1, 4, 8, 8, 8, 2]);
+    assert_eq!(widths.iter().sum::<usize>() + 1024, LONGEST_RECORD);
+}
+
+#[test]
+fn stops_by_number_and_name() {
+    let rows = table(&format(), "| Stop | | |");
+    assert_eq!(rows.len(), (0..).map_while(Stop::new).count());
+    for (number, row) in (0..).zip(rows) {
+        let stop = Stop::new(number).unwrap();
+        let name = format!("{stop:?}").to_lowercase();
+        assert_eq!(row[..2], [number.to_string(), name]);
     }
 }
 
@@ -298,6 +299,7 @@ fn lengths() {
         OUTPUT_LENGTH,
         40_962,
         LONGEST_BOOK,
+        LONGEST_RECORD,
         32_768,
     ] {
         let shown = format!("{},{:03}", length / 1000, length % 1000);

@@ -8,15 +8,6 @@ use kurvneist::{
     WORK_LENGTH,
 };
 
-/// The class operators, each with its default strategy.
-fn class_operators() -> Vec<Operator<'static>> {
-    [vec![(0, None)], vec![(1, None); 42]].concat()
-}
-
-fn class_book(rules: &[Rule]) -> Vec<u8> {
-    book(&class_operators(), rules)
-}
-
 fn with_arity(place: usize, arity: u8) -> Vec<u8> {
     let mut operators = class_operators();
     operators[place] = (arity, None);

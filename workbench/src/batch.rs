@@ -1,19 +1,22 @@
 //! Many lines against one book: a line of output for each line of input,
-//! whatever becomes of it. Lines are read, posted and written a few at a time,
-//! so that memory doesn't grow with their number.
+//! whatever becomes of it. Lines are read, posted and written a block at a
+//! time, so that the book is read once for many lines, and memory doesn't grow
+//! with their number.
 
+use std::cell::Cell;
 use std::fmt;
-use std::io::{self, BufRead, Write};
+use std::io::{self, Read, Write};
 use std::time::{Duration, Instant};
 
-use kurvneist::{Answer, Ending, Engine, Request};
+use kurvneist::{Answer, Batch, Ending, Engine, Refusal};
 
-use crate::items::{BadHeader, Content, Item, Items, Raw, Reading};
+use crate::blocks::{paced, Block, Blocks};
+use crate::items::{BadHeader, Content, Item, Place, Reading};
 use crate::jobs;
 use crate::json::{Fields, Json};
-use crate::lines::{Line, Lines, LONGEST};
+use crate::lines::Lines;
 use crate::outcome::Outcome;
-use crate::posting::Schedules;
+use crate::posting::{Posted, Schedules};
 use crate::profile::Profile;
 use crate::progress::Progress;
 use crate::text::check::Named;
@@ -38,11 +41,18 @@ pub struct Settings<'a> {
 }
 
 impl Settings<'_> {
-    /// What became of an item with that number and, in a bank export, that
-    /// first line.
-    fn told(&self, number: usize, line: Option<usize>, outcome: &Outcome) -> String {
+    /// What all requests share but units and schedule.
+    fn batch(&self) -> Batch<'_> {
+        Batch::new(&self.named.book)
+            .budget(self.budget)
+            .day(self.day)
+    }
+
+    /// What became of the item at a place.
+    fn told(&self, place: &Place, outcome: &Outcome) -> String {
         if self.json {
-            let mut fields: Fields = match line {
+            let number = place.number;
+            let mut fields: Fields = match place.line {
                 Some(line) => vec![("record", number.into()), ("line", line.into())],
                 None => vec![("line", number.into())],
             };
@@ -50,16 +60,13 @@ impl Settings<'_> {
             return Json::from(fields).to_string();
         }
         let told = outcome.text(self.counts, self.schedules.advice());
-        match (line, outcome, told.strip_prefix("! ")) {
+        match (place.line, outcome, told.strip_prefix("! ")) {
             (Some(_), Outcome::Empty(_), _) => told,
             (Some(line), _, Some(reason)) => format!("! line {line}: {reason}"),
             _ => told,
         }
     }
 }
-
-/// Lines that go to a thread together, as few as don't make handing on count.
-const BLOCK: usize = 64;
 
 /// Why a batch stopped.
 #[derive(Debug)]
@@ -191,7 +198,7 @@ impl From<BadHeader> for Failure {
 /// Posts every line of `input` and writes what became of it as that line of
 /// the output; of a bank export, every record.
 pub fn run(
-    input: &mut dyn BufRead,
+    input: &mut dyn Read,
     settings: &Settings,
     output: &mut dyn Write,
     progress: &mut Progress,
@@ -204,7 +211,7 @@ pub fn run(
 }
 
 fn post_all(
-    mut lines: Lines,
+    lines: Lines,
     settings: &Settings,
     output: &mut dyn Write,
     progress: &mut Progress,
@@ -214,37 +221,33 @@ fn post_all(
         is_export,
         ..Summary::default()
     };
-    let mut items = Items::new(settings.reading);
-    let mut put = |told: Lot| {
-        sum.add(&told.summary);
+    let mut blocks = Blocks::new(lines, settings.reading);
+    let most = Cell::new(1);
+    let mut put = |lot: Lot| {
+        most.set(paced(most.get(), lot.summary.lines, lot.summary.time));
+        sum.add(&lot.summary);
         let note = format!(", {} not posted", sum.not_posted());
         let unit = if is_export { "records" } else { "lines" };
-        progress.tell(sum.lines, unit, &note, told.end);
-        let written = output.write_all(told.text.as_bytes());
-        written.and_then(|()| output.flush())
+        progress.tell(sum.lines, unit, &note, lot.end);
+        let written = output.write_all(lot.text.as_bytes());
+        let flushed = written.and_then(|()| output.flush());
+        flushed.map_err(Failure::Write)
     };
     if settings.jobs == 1 {
-        // Line by line, so that who types the lines sees their postings.
         let mut engine = Engine::new();
-        while let Some(block) = block(&mut items, &mut lines, 1)? {
-            put(all_told(block, settings, &mut engine)).map_err(Failure::Write)?;
+        while let Some(block) = blocks.next(most.get())? {
+            put(all_told(block, settings, &mut engine))?;
         }
     } else {
         jobs::in_order(
             settings.jobs,
-            || block(&mut items, &mut lines, BLOCK),
+            || blocks.next(most.get()),
             Engine::new,
             |engine, block| all_told(block, settings, engine),
-            |told| put(told).map_err(Failure::Write),
+            put,
         )?;
     }
     Ok(sum)
-}
-
-/// Items that follow each other, and how much of the input they end at.
-struct Block {
-    items: Vec<Item>,
-    end: u64,
 }
 
 /// What became of a block, as lines of output.
@@ -254,46 +257,16 @@ struct Lot {
     end: u64,
 }
 
-/// The next items: so many, or fewer where they are long.
-fn block(items: &mut Items, lines: &mut Lines, most: usize) -> Result<Option<Block>, Failure> {
-    let mut block = Vec::new();
-    let before = lines.read;
-    while block.len() < most && lines.read - before < LONGEST as u64 {
-        match items.next(|| raw(lines))? {
-            Some(item) => block.push(item),
-            None => break,
-        }
-    }
-    let end = lines.read;
-    Ok((!block.is_empty()).then_some(Block { items: block, end }))
-}
-
-fn raw(lines: &mut Lines) -> Result<Option<Raw>, Failure> {
-    let line = lines.line().map_err(Failure::Read)?;
-    Ok(line.map(|line| match line {
-        Line::Whole { bytes, ended } => Raw {
-            bytes: Ok(bytes),
-            ended,
-        },
-        Line::TooLong => Raw {
-            bytes: Err(format!(
-                "the line has over {LONGEST} bytes; expected at most so many"
-            )),
-            ended: false,
-        },
-    }))
-}
-
 fn all_told(block: Block, settings: &Settings, engine: &mut Engine) -> Lot {
+    let started = Instant::now();
     let mut summary = Summary::default();
     let mut text = String::new();
-    for item in block.items {
-        let (number, line, ending) = (item.number, item.line, item.ending);
-        let outcome = outcome(item, settings, engine);
+    for (place, outcome) in outcomes(block.items, settings, engine) {
         summary.count(&outcome);
-        text.push_str(&settings.told(number, line, &outcome));
-        text.push_str(ending);
+        text.push_str(&settings.told(&place, &outcome));
+        text.push_str(place.ending);
     }
+    summary.time = started.elapsed();
     Lot {
         text,
         summary,
@@ -301,31 +274,52 @@ fn all_told(block: Block, settings: &Settings, engine: &mut Engine) -> Lot {
     }
 }
 
-fn outcome(item: Item, settings: &Settings, engine: &mut Engine) -> Outcome {
+/// What becomes of each item.
+fn outcomes<'s>(
+    items: Vec<Item>,
+    settings: &'s Settings,
+    engine: &mut Engine,
+) -> impl Iterator<Item = (Place, Outcome)> + 's {
+    let read = items
+        .into_iter()
+        .map(|item| (item.place, line(item, settings)));
+    let read: Vec<(Place, Result<Vec<u8>, Outcome>)> = read.collect();
+    let lines = read.iter().filter_map(|(_, line)| line.as_deref().ok());
+    let lines: Vec<&[u8]> = lines.collect();
+    let (form, batch) = (settings.reading.form, settings.batch());
+    let posted = settings.schedules.post_all(engine, form, &batch, &lines);
+    let mut posted = posted.into_iter();
+    read.into_iter().map(move |(place, line)| match line {
+        Ok(line) => {
+            let posted = posted.next().expect("each line is posted");
+            (place, ran(&line, posted, settings))
+        }
+        Err(outcome) => (place, outcome),
+    })
+}
+
+/// What is to be posted of an item, or what becomes of it without.
+fn line(item: Item, settings: &Settings) -> Result<Vec<u8>, Outcome> {
     match settings.reading.content(item) {
-        Content::Kept(text) => Outcome::Empty(text),
-        Content::Bad(reason) => Outcome::Mistyped(reason),
-        Content::Texts(texts) => match settings.reading.line(&texts, &settings.named.names) {
-            Ok(line) => posted(&line, settings, engine),
-            Err(reason) => Outcome::Mistyped(reason),
-        },
+        Content::Kept(text) => Err(Outcome::Empty(text)),
+        Content::Bad(reason) => Err(Outcome::Mistyped(reason)),
+        Content::Texts(texts) => {
+            let line = settings.reading.line(&texts, &settings.named.names);
+            line.map_err(Outcome::Mistyped)
+        }
     }
 }
 
-fn posted(line: &[u8], settings: &Settings, engine: &mut Engine) -> Outcome {
-    let request = Request::new(&settings.named.book, line)
-        .budget(settings.budget)
-        .day(settings.day);
-    let form = settings.reading.form;
-    match settings.schedules.post(engine, form, &request) {
-        Ok(posted) => {
-            if let Some(profile) = settings.profile {
-                let (units, schedule) = settings.schedules.used(&posted);
-                let made = request.units(units).schedule(schedule);
-                profile.add(form, &made, &Told::of(&posted.answer, &posted.term));
-            }
-            Outcome::ran(&posted, &settings.named.names)
-        }
-        Err(refusal) => Outcome::Refused(refusal),
+fn ran(line: &[u8], posted: Result<Posted, Refusal>, settings: &Settings) -> Outcome {
+    let posted = match posted {
+        Ok(posted) => posted,
+        Err(refusal) => return Outcome::Refused(refusal),
+    };
+    if let Some(profile) = settings.profile {
+        let (units, schedule) = settings.schedules.used(&posted);
+        let batch = settings.batch().units(units).schedule(schedule);
+        let told = Told::of(&posted.answer, &posted.term);
+        profile.add(settings.reading.form, &batch.line(line), &told);
     }
+    Outcome::ran(&posted, &settings.named.names)
 }

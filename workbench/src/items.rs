@@ -42,6 +42,11 @@ pub struct Raw {
 
 pub struct Item {
     what: What,
+    pub place: Place,
+}
+
+#[derive(Clone, Copy, Debug)]
+pub struct Place {
     /// Which of the items it is, counted from 1.
     pub number: usize,
     /// The record's first line, in a bank export.
@@ -229,13 +234,13 @@ impl<'r> Items<'r> {
             };
         };
         self.count += 1;
-        let (line, ending) = (Some(record.line), record.ending);
-        Ok(Some(Item {
-            what: What::Record(self.columns_of(record, columns)?),
+        let place = Place {
             number: self.count,
-            line,
-            ending,
-        }))
+            line: Some(record.line),
+            ending: record.ending,
+        };
+        let what = What::Record(self.columns_of(record, columns)?);
+        Ok(Some(Item { what, place }))
     }
 
     fn record<Failure>(
@@ -276,12 +281,13 @@ impl<'r> Items<'r> {
         let ending = ending(&raw, &mut self.last_ending);
         let is_first = std::mem::take(&mut self.is_first);
         self.count += 1;
-        Item {
-            what: What::Line { raw, is_first },
+        let place = Place {
             number: self.count,
             line: None,
             ending,
-        }
+        };
+        let what = What::Line { raw, is_first };
+        Item { what, place }
     }
 }
 

@@ -11,13 +11,14 @@
 //! - `trace`: a run entry by entry, as text and as a picture; `explain`: its
 //!   rewrites.
 //! - `posting`: a line's run, by a given schedule or by longer and longer ones.
-//! - `batch`, `lines`, `jobs`, `outcome`, `profile`, `progress`: many lines
-//!   against one book.
+//! - `batch`, `lines`, `blocks`, `jobs`, `outcome`, `profile`, `progress`: many
+//!   lines against one book.
 //! - `output`: files that are whole or not there.
 //! - `json`: JSON, written.
 //! - `cli`: the commands, their options and help.
 
 pub mod batch;
+pub mod blocks;
 pub mod cli;
 pub mod compose;
 pub mod csv;

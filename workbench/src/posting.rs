@@ -1,10 +1,11 @@
 //! Runs as a command line asks for them: by the schedule that it gives, or by
 //! longer and longer ones.
 
+use std::ops::Range;
 use std::sync::OnceLock;
 
 use comparison::model::Form;
-use kurvneist::{round_robin, Answer, Ending, Engine, Refusal, Request};
+use kurvneist::{round_robin, Answer, Batch, Ending, Engine, Lines, Posting, Refusal, Request};
 
 /// Where no schedule is given, the units take turns, and a run that is cut is
 /// made again with the next of these lengths.
@@ -14,12 +15,23 @@ pub const LENGTHS: [usize; 4] = [1 << 15, 1 << 18, 1 << 21, 1 << 24];
 const TRACED: usize = 2;
 
 /// What came of a line.
+#[derive(Clone, Debug, PartialEq, Eq)]
 pub struct Posted {
     pub answer: Answer,
     pub term: Vec<u8>,
     /// How the run by several units ended, if one unit made this one in its
     /// place.
     pub instead_of: Option<Ending>,
+}
+
+impl Posted {
+    fn of(posting: Posting) -> Posted {
+        Posted {
+            answer: posting.answer,
+            term: posting.term.to_vec(),
+            instead_of: None,
+        }
+    }
 }
 
 /// The schedules by which lines are posted, one for all lines and threads.
@@ -39,20 +51,58 @@ impl Schedules {
     }
 
     /// Posts a line; the request's own units and schedule don't count.
-    ///
-    /// Several units may fill the term where one, which does part after part,
-    /// does not, and they use entries faster. So without a given schedule one
-    /// unit tries what they left undone: more units never make a line fail.
     pub fn post(
         &self,
         engine: &mut Engine,
         form: Form,
         request: &Request,
     ) -> Result<Posted, Refusal> {
-        if let Some(given) = &self.given {
-            return once(engine, form, request, self.shared.units, given);
+        let first = request.units(self.shared.units).schedule(self.first());
+        let first = once(engine, form, &first)?;
+        self.go_on(first, engine, form, request)
+    }
+
+    /// Posts many lines, each as `post` does, with one reading of the book for
+    /// their first runs; the batch's own units and schedule don't count.
+    pub fn post_all(
+        &self,
+        engine: &mut Engine,
+        form: Form,
+        batch: &Batch,
+        lines: &[&[u8]],
+    ) -> Vec<Result<Posted, Refusal>> {
+        let first = batch.units(self.shared.units).schedule(self.first());
+        let runs = each(engine, form, &first, lines);
+        let runs = lines.iter().zip(runs);
+        runs.map(|(line, first)| self.go_on(first?, engine, form, &batch.line(line)))
+            .collect()
+    }
+
+    /// The schedule of a line's first run.
+    fn first(&self) -> &[u8] {
+        match &self.given {
+            Some(given) => given,
+            None => self.shared.schedule(0),
         }
-        let shared = self.shared.post(engine, form, request, LENGTHS.len())?;
+    }
+
+    /// Posts a line whose first run is made.
+    ///
+    /// Several units may fill the term where one, which does part after part,
+    /// does not, and they use entries faster. So without a given schedule one
+    /// unit tries what they left undone: more units never make a line fail.
+    fn go_on(
+        &self,
+        first: Posted,
+        engine: &mut Engine,
+        form: Form,
+        request: &Request,
+    ) -> Result<Posted, Refusal> {
+        if self.given.is_some() {
+            return Ok(first);
+        }
+        let levels = 1..LENGTHS.len();
+        let shared = self.shared.go_on(first, engine, form, request, levels)?;
         let ending = shared.answer.ending;
         if self.shared.units == 1 || !matches!(ending, Ending::Full | Ending::Cut) {
             return Ok(shared);
@@ -141,32 +191,82 @@ impl Turns {
         request: &Request,
         lengths: usize,
     ) -> Result<Posted, Refusal> {
-        let mut level = 0;
-        loop {
-            let posted = once(engine, form, request, self.units, self.schedule(level))?;
-            level += 1;
-            if posted.answer.ending != Ending::Cut || level == lengths {
-                return Ok(posted);
+        let first = self.run(engine, form, request, 0)?;
+        self.go_on(first, engine, form, request, 1..lengths)
+    }
+
+    /// The same behind a run, with these lengths.
+    fn go_on(
+        &self,
+        mut posted: Posted,
+        engine: &mut Engine,
+        form: Form,
+        request: &Request,
+        levels: Range<usize>,
+    ) -> Result<Posted, Refusal> {
+        for level in levels {
+            if posted.answer.ending != Ending::Cut {
+                break;
             }
+            posted = self.run(engine, form, request, level)?;
         }
+        Ok(posted)
+    }
+
+    fn run(
+        &self,
+        engine: &mut Engine,
+        form: Form,
+        request: &Request,
+        level: usize,
+    ) -> Result<Posted, Refusal> {
+        let schedule = self.schedule(level);
+        once(engine, form, &request.units(self.units).schedule(schedule))
     }
 }
 
-fn once(
+fn once(engine: &mut Engine, form: Form, request: &Request) -> Result<Posted, Refusal> {
+    let posting = match form {
+        Form::Line => engine.post(request),
+        Form::Text => engine.post_payee(request),
+    };
+    posting.map(Posted::of)
+}
+
+/// A run of each line. What is too long to stand among many, as a payee between
+/// many spaces may be, is run by itself.
+fn each(
     engine: &mut Engine,
     form: Form,
-    request: &Request,
-    units: u8,
-    schedule: &[u8],
-) -> Result<Posted, Refusal> {
-    let request = request.units(units).schedule(schedule);
-    let posting = match form {
-        Form::Line => engine.post(&request),
-        Form::Text => engine.post_payee(&request),
-    }?;
-    Ok(Posted {
-        answer: posting.answer,
-        term: posting.term.to_vec(),
-        instead_of: None,
-    })
+    batch: &Batch,
+    lines: &[&[u8]],
+) -> Vec<Result<Posted, Refusal>> {
+    let mut many = Lines::new();
+    let among: Vec<bool> = lines.iter().map(|line| many.push(line).is_ok()).collect();
+    let mut runs = together(engine, form, batch, &many).into_iter();
+    let run = |(line, among): (&&[u8], bool)| match among {
+        true => runs.next().expect("a run of each line among many"),
+        false => once(engine, form, &batch.line(line)),
+    };
+    lines.iter().zip(among).map(run).collect()
+}
+
+/// A run of each line, by one call.
+fn together(
+    engine: &mut Engine,
+    form: Form,
+    batch: &Batch,
+    lines: &Lines,
+) -> Vec<Result<Posted, Refusal>> {
+    if lines.is_empty() {
+        return Vec::new();
+    }
+    let postings = match form {
+        Form::Line => engine.post_lines(batch, lines),
+        Form::Text => engine.post_payees(batch, lines),
+    };
+    match postings {
+        Ok(postings) => postings.map(|posting| posting.map(Posted::of)).collect(),
+        Err(refusal) => (0..lines.len()).map(|_| Err(refusal)).collect(),
+    }
 }

@@ -3,6 +3,11 @@
 mod common;
 
 use common::{file, kurvneist, kurvneist_with};
+use comparison::model::Form;
+use kurvneist::{Batch, Engine, Refusal};
+use workbench::line;
+use workbench::posting::Schedules;
+use workbench::text::check;
 
 /// Its run takes about the square of the ticks in entries.
 fn ticks(count: usize) -> String {
@@ -140,4 +145,49 @@ fn more_units_never_make_a_line_fail() {
     assert_eq!((ran.status, ran.output.as_str()), (0, "pair(z, z)\n"));
     let told = "posted by one unit, where more ended full or cut: 1\n";
     assert!(ran.errors.contains(told), "{}", ran.errors);
+}
+
+/// Also where they are run again, longer or by one unit, or are refused.
+#[test]
+fn lines_together_are_posted_as_each_by_itself() {
+    let (wide_book, wide_line) = wide();
+    let both = include_str!("../examples/ticks.book");
+    let ticks_lines = [0, 200, 3, 520, 1025, 200, 1].map(ticks).to_vec();
+    let wide_lines = vec!["z".into(), wide_line.clone(), "s(z)".into(), wide_line];
+    for (book, lines) in [(both, ticks_lines), (&wide_book, wide_lines)] {
+        let named = check::read(book).unwrap();
+        let read = |text: &String| line::read(text, &named.names).unwrap();
+        let lines: Vec<Vec<u8>> = lines.iter().map(read).collect();
+        let lines: Vec<&[u8]> = lines.iter().map(Vec::as_slice).collect();
+        for (units, given) in [
+            (1, None),
+            (2, None),
+            (8, None),
+            (2, Some([0, 1].repeat(50))),
+        ] {
+            let schedules = Schedules::new(units, given);
+            let batch = Batch::new(&named.book).budget(1000);
+            let mut engine = Engine::new();
+            let together = schedules.post_all(&mut engine, Form::Line, &batch, &lines);
+            assert_eq!(together.len(), lines.len());
+            for (line, among) in lines.iter().zip(together) {
+                let alone = schedules.post(&mut engine, Form::Line, &batch.line(line));
+                assert_eq!(among, alone);
+            }
+        }
+    }
+}
+
+#[test]
+fn a_refused_book_refuses_each_line() {
+    let schedules = Schedules::new(1, None);
+    let mut engine = Engine::new();
+    let lines: [&[u8]; 2] = [&[0], &[7]];
+    let posted = schedules.post_all(&mut engine, Form::Line, &Batch::new(&[]), &lines);
+    let refused = || Err(Refusal::BookRunsOut);
+    assert_eq!(posted, [refused(), refused()]);
+    assert_eq!(
+        schedules.post_all(&mut engine, Form::Line, &Batch::new(&[]), &[]),
+        []
+    );
 }

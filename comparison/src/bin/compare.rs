@@ -1,5 +1,6 @@
 //! Compares the static library, or the programs, with the model on random
-//! cases: lines and, every third one, texts.
+//! cases: lines and, every third one, texts. Some have many lines for their book
+//! besides, which only the library is asked.
 
 use std::ops::Range;
 use std::path::PathBuf;
@@ -12,7 +13,8 @@ use comparison::library::Library;
 use comparison::program::{compare_pages, Pages, Programs};
 use comparison::subject::Subject;
 
-/// So many cases meet every ending and every refusal, of lines and of texts.
+/// So many cases meet every ending and every refusal, of lines and of texts, and
+/// every kind of batch.
 const ENOUGH: u64 = 10_000;
 
 struct Options {

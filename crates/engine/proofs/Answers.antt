@@ -1,19 +1,20 @@
--- What is answered, place by place of document 01's table, by either reader; what a refusal leaves. Assumes nothing.
+-- What is answered, place by place of document 01's table, by either reader; what a refusal leaves, and what a run. Assumes nothing.
 use mathlib.Core.Bool.{true, false}
-use mathlib.Core.List.{List}
+use mathlib.Core.List.{List, _++_}
 use mathlib.Core.Option.{Option, none, some}
-use mathlib.Core.Path.{_≡_, refl, sym, ap, _∙_}
+use mathlib.Core.Path.{_≡_, refl, sym, ap, _∙_, subst}
 use Prim.Native.Nat.{ℕ, _≤_}
-use lib.ListN.{length, take}
+use lib.ListN.{length, take, drop, replicate}
 use Rattle.paper.specs.Result.{Result, refused, accepted, then}
+use Rattle.paper.specs.Tree.{preorder}
 use Rattle.paper.specs.Book.{Term, Book}
 use Rattle.paper.specs.Dated.{AnyBook, readAny, on-day}
 use Rattle.paper.specs.Run.{Answer, run}
 use Rattle.paper.specs.Page.{Request, all-below, frame-fault, unless, run-checked, LineReader, answerBy}
-use Rattle.paper.proofs.Readers.{refused-accepted}
+use Rattle.paper.proofs.Readers.{accepted-injective, refused-accepted}
 use Rattle.paper.proofs.Prefix.{read-any-prefix}
 use Rattle.entry.specs.State.{limited}
-use Rattle.engine.specs.Spec.{published, values-of, request, answeredBy, RunBy, ReducedBy}
+use Rattle.engine.specs.Spec.{published, values, values-of, request, answeredBy, RunBy, ReducedBy}
 use Rattle.engine.specs.declared.Answer as D
 
 module _ (read : LineReader) (q : Request) where
@@ -79,6 +80,20 @@ refuses k e = record {
   cleared = λ A h. absurd (refused-accepted (sym e ∙ h));
   written = λ A h. absurd (refused-accepted (sym e ∙ h));
   run-of = λ A h. absurd (refused-accepted (sym e ∙ h));
+}
+
+-- the answer of a run, with both areas all zero and the present term in front of the output
+pub accepts : {read : LineReader} {book line : List ℕ} {units budget day : ℕ} {schedule work net output work′ net′ output′ : List ℕ} {r : D.Answer}
+    {A : Answer} → answeredBy read book line units budget day schedule work net output ≡ accepted A → values r ≡ values-of (accepted A) →
+    RunBy read book line units budget day schedule work net output A → work′ ≡ replicate (length work) 0 → net′ ≡ replicate (length net) 0 →
+    output′ ≡ preorder (A .term) ++ drop (length (preorder (A .term))) output →
+    ReducedBy read book line units budget day schedule work net output work′ net′ output′ r
+accepts {read} {book} {line} {units} {budget} {day} {schedule} {work} {net} {output} {output′ = output′} told v run e z o = record {
+  answer = v ∙ ap values-of (sym told);
+  unchanged = λ k h. absurd (refused-accepted (sym h ∙ told));
+  cleared = λ A h. (e, z);
+  written = λ A h. subst (λ (x : Answer). output′ ≡ preorder (x .term) ++ drop (length (preorder (x .term))) output) (accepted-injective (sym told ∙ h)) o;
+  run-of = λ A h. subst (RunBy read book line units budget day schedule work net output) (accepted-injective (sym told ∙ h)) run;
 }
 
 -- ANOTHER BOOK OR LINE that is answered alike

@@ -1,15 +1,17 @@
 -- Laws of the run's frame: the number of its refusal, case by case, and that 0 is none. Assumes nothing.
 use mathlib.Core.Bool.{Bool, true, false}
+use mathlib.Core.List.{List}
 use mathlib.Core.Logic.{_⊎_, inl, inr}
 use mathlib.Core.Option.{none, some, Option·some-ne-none}
 use mathlib.Core.Path.{_≡_, refl, sym, ap, _∙_}
-use Prim.Native.Nat.{ℕ, zero, suc, _≤_, _<_}
+use Prim.Native.Nat.{ℕ, zero, suc, _^_, _≤_, _<_}
 use native.Mathlib.Omega.{arith}
 use lib.Dec.{eqb, ltb}
 use borrow.Author.Tests.{lt-ltb, le-ltb, eq-eqb, ne-eqb, eqb-false, ltb-false}
-use Rattle.paper.specs.Page.{Request, frame-fault}
+use Rattle.paper.specs.Page.{Request, all-below, frame-fault}
+use Rattle.whole.specs.declared.Limits.{Limits}
 use Rattle.engine.specs.Spec.{published}
-use Rattle.engine.specs.Contracts.{fault-number, frame, fault}
+use Rattle.engine.specs.Contracts.{fault-number, frame, fault, Asked}
 
 module _ (units work net output : ℕ) where
   pub fault-none : units ≡ 0 → 13 ≡ fault units work net output
@@ -120,3 +122,8 @@ frame-of {units} {work} {net} {output} e =
       | inl p ↦ p .1
       | inr p ↦ absurd (Option·some-ne-none (p .0) (sym (p .2) ∙ framed q e))
     ]
+
+-- and a run may be asked for, if each entry names a unit
+pub asked : {l : Limits} {schedule : List ℕ} {work net output : ℕ} → Frame (l .units) work net output → all-below (l .units) schedule ≡ true →
+    l .budget < 2 ^ 32 → Asked l schedule work
+asked f names small = record { some-units = f .some-units; few = f .few; named = names; small = small; long = f .work-long }

@@ -1,7 +1,7 @@
 -- A line or a text, once it is checked, is a term in front of the symbols, and the run of that term answers it. Assumes nothing.
 use mathlib.Core.List.{List, _++_}
 use mathlib.Core.Path.{_≡_, refl, sym, ap, _∙_, subst, subst₂}
-use Prim.Native.Nat.{ℕ, _≤_, _<_}
+use Prim.Native.Nat.{ℕ, _≤_}
 use native.Mathlib.Omega.{arith}
 use lib.ListN.{length, take, drop, length-append, length-drop}
 use lib.Seq.{take-at}
@@ -22,10 +22,14 @@ use Rattle.text.specs.Contracts.{Text-read}
 use Rattle.text.specs.declared.Text as T
 use Rattle.text.proofs.Laws as Texts
 use Rattle.engine.specs.Spec.{request, answeredBy, ReducedBy, answered, Reduced}
-use Rattle.engine.specs.Contracts.{Framed, Loaded, Taken, Read-as, Term-read}
+use Rattle.engine.specs.Contracts.{Framed, Taken, Read-as, Term-read}
 use Rattle.engine.specs.declared.Answer as D
 use Rattle.engine.proofs.Frame.{framed}
 use Rattle.engine.proofs.Answers.{of-run, run-as, reduced-as}
+
+-- behind load the array is as long as before
+pub loaded-long : (line base symbols : List ℕ) → length base ≡ 1024 → length line ≤ 1024 → symbols ≡ line ++ drop (length line) base → length symbols ≡ 1024
+loaded-long line base symbols b short s = ap length s ∙ length-append line (drop (length line) base) ∙ rw length-drop (omega (arith, b, short))
 
 module _ (B : Book) {operators : List ℕ} {n : ℕ} (count : length (B .operators) ≡ n) (t : Operators (B .operators) operators) where
   -- THE LINE, by the check's judgement, and behind load
@@ -43,15 +47,17 @@ module _ (B : Book) {operators : List ℕ} {n : ℕ} (count : length (B .operato
 
       pub line-taken : (base : List ℕ) {symbols : List ℕ} → length base ≡ 1024 → symbols ≡ line ++ drop (length line) base →
           Taken readLine B line symbols (length line)
-      line-taken base b s = record {
-        long = ap length s ∙ length-append line (drop (length line) base) ∙ rw length-drop (omega (arith, b, short));
-        most = short;
-        term = line-accepted .0;
+      line-taken base {symbols} b s = record {
+        given = record {
+          long = loaded-long line base symbols b short s;
+          most = short;
+          term = line-accepted .0;
+          term-read =
+              ap (λ (xs : List ℕ). readLine B xs)
+              (ap (take (length line)) s ∙ take-at line (drop (length line) base) (length line) refl)
+              ∙ line-accepted .1;
+        };
         line-read = line-accepted .1;
-        term-read =
-            ap (λ (xs : List ℕ). readLine B xs)
-            (ap (take (length line)) s ∙ take-at line (drop (length line) base) (length line) refl)
-            ∙ line-accepted .1;
       }
 
   -- THE TEXT, by what the code reads of it
@@ -63,11 +69,13 @@ module _ (B : Book) {operators : List ℕ} {n : ℕ} (count : length (B .operato
         let u : Term = chain (squeezed text) in
         let (c, o, h, a) = text-correct B text u e in
         record {
-          long = q .long;
-          most = omega (arith, l, length-chain (squeezed text));
-          term = u;
+          given = record {
+            long = q .long;
+            most = omega (arith, l, length-chain (squeezed text));
+            term = u;
+            term-read = ap (λ (xs : List ℕ). readLine B xs) p ∙ text-line B text u e;
+          };
           line-read = e;
-          term-read = ap (λ (xs : List ℕ). readLine B xs) p ∙ text-line B text u e;
         }
 
     pub text-read : (r : T.Text) → Text-read n (arity-in operators) text symbols symbols′ r → Read-as readText B text symbols′ r
@@ -78,10 +86,6 @@ module _ (B : Book) {operators : List ℕ} {n : ℕ} (count : length (B .operato
 pub by-tables : {read : LineReader} {book operators rules line symbols : List ℕ} {n : ℕ} {r : T.Text} → TablesOf book operators rules →
     n ≡ length (book-of book rules .operators) → Term-read read n operators line symbols r → Read-as read (book-of book rules) line symbols r
 by-tables {book = book} {rules = rules} tables e q = q .is (book-of book rules) (sym e) (tables .tables .operators-in)
-
-pub loaded : {read : LineReader} {book operators rules line symbols : List ℕ} {n : ℕ} → TablesOf book operators rules →
-    day-in rules < 65536 → Taken read (book-of book rules) line symbols n → Loaded book operators rules symbols n
-loaded tables d t = record { tables = tables; day = d; long = t .long; most = t .most; term = t .term; term-read = t .term-read }
 
 -- THE RUN of the term answers what it is read from
 
@@ -94,15 +98,16 @@ module _ {read : LineReader} {line symbols : List ℕ} {m : ℕ} (budget : ℕ) 
   unfolding run-checked
   same-term =
       let b = tables .read in
-      of-run read (request book line units budget (day-in rules) schedule work net output) (framed _ (f .faultless)) (any-book book) b (t .term) (t .line-read)
-      ∙ sym (of-run readLine (request book front units budget (day-in rules) schedule work net output) (framed _ (f .faultless)) (any-book book) b (t .term) (t .term-read))
+      let g = t .given in
+      of-run read (request book line units budget (day-in rules) schedule work net output) (framed _ (f .faultless)) (any-book book) b (g .term) (t .line-read)
+      ∙ sym (of-run readLine (request book front units budget (day-in rules) schedule work net output) (framed _ (f .faultless)) (any-book book) b (g .term) (g .term-read))
 
   pub reduced-alike : {work′ net′ output′ : List ℕ} {r : D.Answer} → Reduced book front units budget (day-in rules) schedule work net output work′ net′ output′ r →
       ReducedBy read book line units budget (day-in rules) schedule work net output work′ net′ output′ r
   reduced-alike = reduced-as (sym same-term) (λ A r.
       let e : book-of book rules ≡ r .rules = ap (on-day (day-in rules)) (accepted-injective (sym (tables .read) ∙ r .book-read)) ∙ sym (r .of-day) in
       run-as r (r .book-read)
-      (ap (λ (B : Book). read B line) (sym e) ∙ t .line-read ∙ sym (t .term-read) ∙ ap (λ (B : Book). readLine B front) e ∙ r .line-read))
+      (ap (λ (B : Book). read B line) (sym e) ∙ t .line-read ∙ sym (t .given .term-read) ∙ ap (λ (B : Book). readLine B front) e ∙ r .line-read))
 
 -- with as many units
 pub framed-as : {book work net output : List ℕ} {units few : ℕ} → few ≡ units → Framed book units work net output → Framed book few work net output

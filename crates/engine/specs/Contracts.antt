@@ -1,17 +1,25 @@
 -- What the functions behind the entry points ask of each other. Assumes nothing.
+use mathlib.Core.Bool.{true}
 use mathlib.Core.List.{List, []}
 use mathlib.Core.Option.{Option, none, some}
 use mathlib.Core.Path.{_≡_}
-use Prim.Native.Nat.{ℕ, _≤_, _<_}
+use Prim.Native.Nat.{ℕ, _^_, _≤_, _<_}
 use lib.ListN.{length, take}
 use Rattle.paper.specs.Result.{refused, accepted}
+use Rattle.paper.specs.Tree.{preorder}
 use Rattle.paper.specs.Book.{Term, Book}
 use Rattle.paper.specs.Line.{readLine}
-use Rattle.paper.specs.Page.{Request, LineReader, frame-fault}
+use Rattle.paper.specs.Run.{Answer}
+use Rattle.paper.specs.Page.{Request, LineReader, all-below, frame-fault}
+use Rattle.symbol.specs.Record.{operators}
 use Rattle.tables.specs.Layout.{day-in}
 use Rattle.tables.specs.Tables.{book-of, Operators, TablesOf}
 use Rattle.text.specs.declared.Text as T
-use Rattle.engine.specs.Spec.{published}
+use Rattle.net.specs.Net.{NetOf}
+use Rattle.whole.specs.declared.Limits.{Limits}
+use Rattle.run.specs.declared.Run.{Run}
+use Rattle.engine.specs.Spec.{published, values, values-of, RunHolds}
+use Rattle.engine.specs.declared.Answer as D
 
 -- the number of the frame's refusal, by the numbers that are looked at, or 0
 abbrev pub fault-number : Option ℕ → ℕ
@@ -31,22 +39,23 @@ pub record Framed (book : List ℕ) (units : ℕ) (work net output : List ℕ) :
   pub faultless : fault units (length work) (length net) (length output) ≡ 0
   pub short : length book ≤ 65536
 
+-- the first n symbols are a term by the book
+pub record Given (B : Book) (symbols : List ℕ) (n : ℕ) : Type 0 where
+  pub long : length symbols ≡ 1024
+  pub most : n ≤ 1024
+  pub term : Term
+  pub term-read : readLine B (take n symbols) ≡ accepted term
+
 -- these are the book's tables on a day of 16 bits, and the first n symbols are a term by it
 pub record Loaded (book operators rules symbols : List ℕ) (n : ℕ) : Type 0 where
   pub tables : TablesOf book operators rules
   pub day : day-in rules < 65536
-  pub long : length symbols ≡ 1024
-  pub most : n ≤ 1024
-  pub term : Term
-  pub term-read : readLine (book-of book rules) (take n symbols) ≡ accepted term
+  pub given : Given (book-of book rules) symbols n
 
--- the line is read as a term, which the first n symbols are
+-- the line is read as the term which the first n symbols are
 pub record Taken (read : LineReader) (B : Book) (line symbols : List ℕ) (n : ℕ) : Type 0 where
-  pub long : length symbols ≡ 1024
-  pub most : n ≤ 1024
-  pub term : Term
-  pub line-read : read B line ≡ accepted term
-  pub term-read : readLine B (take n symbols) ≡ accepted term
+  pub given : Given B symbols n
+  pub line-read : read B line ≡ accepted (given .term)
 
 abbrev pub Read-as : LineReader → Book → List ℕ → List ℕ → T.Text → Type 0
 Read-as read B line symbols (T.Text.Read n) = Taken read B line symbols n
@@ -55,3 +64,30 @@ Read-as read B line symbols (T.Text.Refused k) = read B line ≡ refused k
 -- by every book of n operators with these arities
 pub record Term-read (read : LineReader) (n : ℕ) (operators line symbols : List ℕ) (r : T.Text) : Type 0 where
   pub is : (B : Book) → length (B .operators) ≡ n → Operators (B .operators) operators → Read-as read B line symbols r
+  pub long : length symbols ≡ 1024
+
+-- A RUN by an open book
+
+-- these are a book's operators and the net of its rules
+pub record Opened (book operators net : List ℕ) : Type 0 where
+  pub netted : NetOf book operators net
+  pub short : length book ≤ 65536
+
+-- there are one to eight units, each entry names one of them, the budget has 32 bits, and the work area is long enough
+pub record Asked (l : Limits) (schedule : List ℕ) (work : ℕ) : Type 0 where
+  pub some-units : 1 ≤ l .units
+  pub few : l .units ≤ 8
+  pub named : all-below (l .units) schedule ≡ true
+  pub small : l .budget < 2 ^ 32
+  pub long : published .work ≤ work
+
+-- r is the run of the line's term, and the present term is left in front of the symbols
+pub record Posted (B : Book) (line : List ℕ) (l : Limits) (schedule symbols : List ℕ) (r : Run) : Type 0 where
+  pub term : Term
+  pub term-read : readLine B line ≡ accepted term
+  pub answer : Answer
+  pub holds : RunHolds B term (l .units) (l .budget) schedule answer
+  pub values-are : values (D.Answer.Ran r) ≡ values-of (accepted answer)
+  pub present : operators (take (r .length) symbols) ≡ preorder (answer .term)
+  pub long : length symbols ≡ 1024
+  pub most : r .length ≤ 1024

@@ -5,7 +5,6 @@ use line::Line;
 use run::Run;
 use text::Text;
 use whole::Limits;
-ghost use mathlib.Core.Bool.{true};
 ghost use mathlib.Core.List.{_++_};
 ghost use mathlib.Core.Path.{_≡_};
 ghost use Prim.Native.Nat.{ℕ, _^_, _≤_, _<_};
@@ -13,6 +12,7 @@ ghost use lib.ListN.{length, take, drop, replicate};
 ghost use Rattle.paper.specs.Page.{all-below};
 ghost use Rattle.symbol.specs.Record as S;
 ghost use Rattle.tables.specs.Layout.{day-in};
+ghost use Rattle.net.specs.Net.{book-by};
 ghost use Rattle.engine.specs.Spec as R;
 ghost use Rattle.engine.specs.Contracts as C;
 ghost use Rattle.engine.specs.declared.Answer as D;
@@ -43,7 +43,7 @@ fn larger(x: u8, y: u8) -> u8
 }
 
 // Does every entry name one of the units? The largest is looked for, which takes no early leave, so that many are compared at a time.
-fn names_units(schedule: &[u8], units: usize) -> bool
+pub fn names_units(schedule: &[u8], units: usize) -> bool
     requires { ⌜ 0 < units ⌝ }
     ensures { λ r. ⌜ r ≡ all-below units (now (schedule .entry)) ⌝ }
 {
@@ -81,7 +81,7 @@ fn hand_out(symbols: &[u32; 1024], n: usize, output: &mut [u8])
 }
 
 // Every byte becomes 0.
-fn clear(area: &mut [u8])
+pub fn clear(area: &mut [u8])
     ensures { λ _. ⌜ now (area .exit) ≡ replicate (length (now (area .entry))) 0 ⌝ }
 {
     let mut at = 0;
@@ -91,52 +91,45 @@ fn clear(area: &mut [u8])
     }
 }
 
-// The run of the term in front of the line, whose symbols get their sizes here, by the net of the book's rules. Work area and net are cleared whole behind
-// it.
-fn post(
+// The run of the term that the line's first n symbols are, by a book's operators and the net of its rules. The present term is left in the symbols; nothing
+// depends on what symbols, scratch and work area held.
+pub fn post(
     book: &[u8],
     operators: &[u8; 4352],
-    rules: &[u32; 512],
+    net: &[u8],
     line: &[u8; 1024],
-    length: usize,
+    n: usize,
     limits: Limits,
     schedule: &[u8],
+    symbols: &mut [u32; 1024],
+    scratch: &mut [u32; 1024],
     work: &mut [u8],
-    net: &mut [u8],
-    output: &mut [u8],
 ) -> Run
-    requires { ⌜ C.Framed (now book) (limits .units) (now work) (now net) (now output) ⌝ }
-    requires { ⌜ C.Loaded (now book) (now operators) (now rules) (now line) length ⌝ }
-    requires { ⌜ limits .budget < 2 ^ 32 ⌝ }
-    requires { ⌜ all-below (limits .units) (now schedule) ≡ true ⌝ }
-    ensures { λ r. ⌜ R.Reduced (now (book .entry)) (take length (now (line .entry))) (limits .units) (limits .budget) (day-in (now (rules .entry)))
-        (now (schedule .entry)) (now (work .entry)) (now (net .entry)) (now (output .entry)) (now (work .exit)) (now (net .exit))
-        (now (output .exit)) (D.Answer.Ran r) ⌝ }
+    requires { ⌜ C.Opened (now book) (now operators) (now net) ⌝ }
+    requires { ⌜ C.Given (book-by (now book) (now net)) (now line) n ⌝ }
+    requires { ⌜ C.Asked limits (now schedule) (length (now work)) ⌝ }
+    requires { ⌜ (length (now symbols) ≡ 1024) × (length (now scratch) ≡ 1024) ⌝ }
+    ensures { λ r. ⌜ C.Posted (book-by (now (book .entry)) (now (net .entry))) (take n (now (line .entry))) limits (now (schedule .entry))
+        (now (symbols .exit)) r ⌝ }
+    ensures { λ r. ⌜ length (now (scratch .exit)) ≡ 1024 ⌝ }
 {
-    insertion::build(book, operators, rules, net);
-    let mut symbols = [0u32; 1024];
-    term::load(&mut symbols, operators, line, length);
-    let mut scratch = [0u32; 1024];
+    term::load(symbols, operators, line, n);
     let mut cells = [0; 8];
     units::start(work, &mut cells);
-    let run = run::run_schedule(
+    run::run_schedule(
         book,
         operators,
         net,
-        &mut symbols,
-        &mut scratch,
+        symbols,
+        scratch,
         work,
         &mut cells,
         limits,
         schedule,
-    );
-    hand_out(&symbols, run.length, output);
-    clear(work);
-    clear(net);
-    run
+    )
 }
 
-// The same, if every entry of the schedule names one of the units.
+// The net is built and the term in front of the line run, if every entry of the schedule names one of the units. Work area and net are cleared whole behind it.
 fn run_checked(
     book: &[u8],
     operators: &[u8; 4352],
@@ -158,22 +151,29 @@ fn run_checked(
     if !names_units(schedule, limits.units) {
         return Answer::Refused(14);
     }
-    Answer::Ran(post(
+    insertion::build(book, operators, rules, net);
+    let mut symbols = [0u32; 1024];
+    let mut scratch = [0u32; 1024];
+    let run = post(
         book,
         operators,
-        rules,
+        net,
         line,
         length,
         limits,
         schedule,
+        &mut symbols,
+        &mut scratch,
         work,
-        net,
-        output,
-    ))
+    );
+    hand_out(&symbols, run.length, output);
+    clear(work);
+    clear(net);
+    Answer::Ran(run)
 }
 
 // Reads what stands where the term stands, by the table of a book of n operators, to the front of the symbols.
-fn read_term(
+pub fn read_term(
     form: Form,
     line: &[u8],
     n: usize,
@@ -239,7 +239,7 @@ fn reduce_book(
 }
 
 // The refusal's number of the run's frame, or 0: 13, units not 1 to 8; 15, work area or net too short; 16, output too short.
-fn frame_fault(units: u8, work: usize, net: usize, output: usize) -> u8
+pub fn frame_fault(units: u8, work: usize, net: usize, output: usize) -> u8
     ensures { λ r. ⌜ r ≡ C.fault units work net output ⌝ }
 {
     if units == 0 {

@@ -1,75 +1,102 @@
 -- Arrays that are written whole, and what is handed out of an answer; 6 never is (document 02, Change 4). Assumes nothing.
-use mathlib.Core.List.{List, [], _∷_}
+use mathlib.Core.List.{List, [], _∷_, _++_, append-nil}
 use mathlib.Core.Logic.{_≢_}
+use mathlib.Core.Option.{Option, none, some}
 use mathlib.Core.Path.{_≡_, refl, sym, ap, _∙_}
-use Prim.Native.Nat.{ℕ}
+use Prim.Native.Nat.{ℕ, _+_}
 use native.Mathlib.Omega.{arith}
-use lib.ListN.{length, set}
-use Rattle.paper.specs.Result.{Result, refused, accepted}
+use lib.ListN.{length, set, drop-of-length-le}
+use lib.Seq.{sets, sets-eq}
+use Rattle.paper.specs.Result.{Result, refused, accepted, then}
+use Rattle.paper.specs.Dated.{readAny}
 use Rattle.paper.specs.Line.{readLine}
 use Rattle.paper.specs.Text.{readText}
 use Rattle.paper.specs.Run.{Answer}
-use Rattle.paper.specs.Page.{LineReader}
+use Rattle.paper.specs.Page.{LineReader, frame-fault, unless, answerBy}
 use Rattle.paper.proofs.Refusals.{answer-not-six, payee-not-six}
 use Rattle.engine.specs.Spec as R
 use Rattle.engine.specs.declared.Answer as A
+use Rattle.batch.specs.Spec as B
+use Rattle.batch.specs.Spec.{doneBy}
+use Rattle.batch.specs.declared.Batch as D
 use Rattle.writer.specs.Spec.{Answers}
 use Rattle.writer.specs.declared.Written as W
 use Rattle.writer.proofs.Laws.{write-not-six}
 use Rattle.kurvneist.specs.Spec as X
 
-pub one : (l : List ℕ) (a : ℕ) → length l ≡ 1 → set l 0 a ≡ a ∷ []
-one [] a h = absurd (omega arith)
-one (x ∷ []) a h = refl
-one (x ∷ y ∷ l) a h = absurd (omega arith)
-
-pub six : (l : List ℕ) (a b c d e f : ℕ) → length l ≡ 6 →
-    set (set (set (set (set (set l 0 a) 1 b) 2 c) 3 d) 4 e) 5 f ≡ a ∷ b ∷ c ∷ d ∷ e ∷ f ∷ []
-six [] a b c d e f h = absurd (omega arith)
-six (u ∷ []) a b c d e f h = absurd (omega arith)
-six (u ∷ v ∷ []) a b c d e f h = absurd (omega arith)
-six (u ∷ v ∷ w ∷ []) a b c d e f h = absurd (omega arith)
-six (u ∷ v ∷ w ∷ x ∷ []) a b c d e f h = absurd (omega arith)
-six (u ∷ v ∷ w ∷ x ∷ y ∷ []) a b c d e f h = absurd (omega arith)
-six (u ∷ v ∷ w ∷ x ∷ y ∷ z ∷ l) a b c d e f h = ap (λ l. a ∷ b ∷ c ∷ d ∷ e ∷ f ∷ l) (none l (omega arith))
-  where
-    none : (l : List ℕ) → length l ≡ 0 → l ≡ []
-    none [] h = refl
-    none (x ∷ l) h = absurd (omega arith)
+-- an array of just as many numbers, stored one after another
+pub whole : (l vs : List ℕ) → length l ≡ length vs → sets l 0 vs ≡ vs
+whole l vs h =
+    sets-eq vs l 0 (omega arith)
+    ∙ ap (λ (r : List ℕ). vs ++ r) (drop-of-length-le l {i = 0 + length vs} (omega arith))
+    ∙ append-nil vs
 
 -- a run's answer as numbers
-pub reduced : {read : LineReader} {book line : List ℕ} {units budget day : ℕ} {schedule work net output work′ net′ output′ answer′ : List ℕ} {n : ℕ} {r : A.Answer} →
+pub reduced : {read : LineReader} {book line : List ℕ} {units budget day : ℕ} {schedule work net output work′ net′ output′ answer′ : List ℕ} {n : ℕ}
+    {r : A.Answer} →
     R.ReducedBy read book line units budget day schedule work net output work′ net′ output′ r →
     (n ≡ X.refusal (R.values r)) × (answer′ ≡ X.value-numbers (R.values r)) →
     X.Reduced-in-numbers-by read book line units budget day schedule work net output work′ net′ output′ answer′ n
 reduced {r = r} q e =
     record { number = e .0 ∙ ap X.refusal (q .answer); values = e .1 ∙ ap X.value-numbers (q .answer); answer = r; buffers = q }
 
+-- the answer of many lines as numbers
+pub lines-told : {read : LineReader} {book lines : List ℕ} {units budget day : ℕ} {schedule work net answers work′ net′ answers′ done′ : List ℕ} {n : ℕ}
+    {r : D.Batch} →
+    B.LinesBy read book lines units budget day schedule work net answers work′ net′ answers′ r →
+    (n ≡ X.refusal (B.values r)) × (done′ ≡ X.done-numbers (B.values r)) →
+    X.Lines-in-numbers-by read book lines units budget day schedule work net answers work′ net′ answers′ done′ n
+lines-told {r = r} q e =
+    record { number = e .0 ∙ ap X.refusal (q .told); values = e .1 ∙ ap X.done-numbers (q .told); answer = r; buffers = q }
+
 -- the writer's
 pub wrote : {book output output′ : List ℕ} (r : W.Written) (l : List ℕ) → Answers book output output′ r → length l ≡ 1 →
     X.Wrote-in-numbers book output output′ (set l 0 (X.written-length r)) (X.written-refusal r)
-wrote r l q h = record { answer = r; is = q; number = refl; length = one l (X.written-length r) h }
+wrote r l q h = record { answer = r; is = q; number = refl; length = whole l (X.written-length r ∷ []) h }
 
 -- NEVER 6
 
+never : {A : Type 0} (number : Result A → ℕ) → ((k : ℕ) → number (refused k) ≡ k) → ((a : A) → number (accepted a) ≡ 0) →
+    (x : Result A) → x ≢ refused 6 → number x ≢ 6
+never number f g (refused k) n e = n (ap refused (sym (f k) ∙ e))
+never number f g (accepted a) n e = omega (arith, g a)
+
 module _ {book line : List ℕ} {units budget day : ℕ} {schedule work net output work′ net′ output′ answer′ : List ℕ} {r : ℕ} where
-  never : (read : LineReader) → R.answeredBy read book line units budget day schedule work net output ≢ refused 6 →
+  one-not-six : (read : LineReader) → R.answeredBy read book line units budget day schedule work net output ≢ refused 6 →
       X.Reduced-in-numbers-by read book line units budget day schedule work net output work′ net′ output′ answer′ r → r ≢ 6
-  never read n h e = go (R.answeredBy read book line units budget day schedule work net output) refl
-    where
-      go : (x : Result Answer) → R.answeredBy read book line units budget day schedule work net output ≡ x → ⊥
-      go (refused k) f =
-          let i : r ≡ k = h .number ∙ ap (λ (x : Result Answer). X.refusal (R.values-of x)) f in
-          n (f ∙ ap refused (sym i ∙ e))
-      go (accepted A) f =
-          let i : r ≡ 0 = h .number ∙ ap (λ (x : Result Answer). X.refusal (R.values-of x)) f in
-          omega arith
+  one-not-six read n h e = never (λ (x : Result Answer). X.refusal (R.values-of x)) (λ k. refl) (λ a. refl) _ n (sym (h .number) ∙ e)
 
   pub reduced-not-six : X.Reduced-in-numbers book line units budget day schedule work net output work′ net′ output′ answer′ r → r ≢ 6
-  reduced-not-six = never readLine (answer-not-six R.published (R.request book line units budget day schedule work net output))
+  reduced-not-six = one-not-six readLine (answer-not-six R.published (R.request book line units budget day schedule work net output))
 
   pub payee-reduced-not-six : X.Payee-in-numbers book line units budget day schedule work net output work′ net′ output′ answer′ r → r ≢ 6
-  payee-reduced-not-six = never readText (payee-not-six R.published (R.request book line units budget day schedule work net output))
+  payee-reduced-not-six = one-not-six readText (payee-not-six R.published (R.request book line units budget day schedule work net output))
+
+-- frame and book refuse many lines as they would refuse one
+alike : {A C D : Type 0} (f : Option ℕ) (x : Result A) (g : A → Result C) (h : A → D) (k : ℕ) →
+    unless f (then x (λ a. accepted (h a))) ≡ refused k → unless f (then x g) ≡ refused k
+unfolding unless then
+alike none (refused n) g h k e = let i : n ≡ k = cc in ap refused i
+alike none (accepted a) g h k e = let z : _≡_ {A = ℕ} 0 1 = cc in absurd (omega arith)
+alike (some n) x g h k e = let i : n ≡ k = cc in ap refused i
+
+module _ {book lines : List ℕ} {units budget day : ℕ} {schedule work net answers work′ net′ answers′ done′ : List ℕ} {r : ℕ} where
+  -- many lines are refused as one of the same bytes would be
+  many-not-six : (read : LineReader) → B.answer read book units budget day schedule (length work) (length net) lines ≢ refused 6 →
+      X.Lines-in-numbers-by read book lines units budget day schedule work net answers work′ net′ answers′ done′ r → r ≢ 6
+  unfolding doneBy answerBy
+  many-not-six read n h e =
+      never
+      (λ (x : Result (List (List ℕ))). X.refusal (B.values-of read book units budget day schedule (length work) (length net) lines x)) (λ k. refl)
+      (λ a. refl) (B.lines-done read book lines units budget day schedule work net answers)
+      (λ f. n (alike (frame-fault R.published (B.asked read book units budget day schedule (length work) (length net) lines)) (readAny book) _ _ 6 f))
+      (sym (h .number) ∙ e)
+
+  pub lines-not-six : X.Lines-in-numbers book lines units budget day schedule work net answers work′ net′ answers′ done′ r → r ≢ 6
+  lines-not-six = many-not-six readLine (answer-not-six R.published _)
+
+  pub payees-not-six : X.Payees-in-numbers book lines units budget day schedule work net answers work′ net′ answers′ done′ r → r ≢ 6
+  payees-not-six = many-not-six readText (payee-not-six R.published _)
 
 pub wrote-not-six : {book output output′ length′ : List ℕ} {r : ℕ} → X.Wrote-in-numbers book output output′ length′ r → r ≢ 6
 wrote-not-six {r = r} h e = go (h .answer) refl

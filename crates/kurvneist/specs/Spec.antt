@@ -3,17 +3,21 @@
 use mathlib.Core.List.{List, [], _∷_}
 use mathlib.Core.Path.{_≡_}
 use Prim.Native.Nat.{ℕ}
+use lib.ListN.{length}
 use Rattle.paper.specs.Result.{Result, refused, accepted}
 use Rattle.paper.specs.Line.{readLine}
 use Rattle.paper.specs.Text.{readText}
 use Rattle.paper.specs.Page.{LineReader, ending-number}
 use Rattle.engine.specs.Spec as R
 use Rattle.engine.specs.declared.Answer as A
+use Rattle.batch.specs.Lines.{stop-number}
+use Rattle.batch.specs.Spec as B
+use Rattle.batch.specs.declared.Batch as D
 use Rattle.writer.specs.Spec.{Answers}
 use Rattle.writer.specs.declared.Written as W
 
 -- the refusal's number, 0 if there is none
-abbrev pub refusal : Result R.Values → ℕ
+abbrev pub refusal : {A : Type 0} → Result A → ℕ
 refusal (refused k) = k
 refusal (accepted v) = 0
 
@@ -39,6 +43,32 @@ Reduced-in-numbers = Reduced-in-numbers-by readLine
 -- of a payee's text
 abbrev pub Payee-in-numbers : List ℕ → List ℕ → ℕ → ℕ → ℕ → List ℕ → List ℕ → List ℕ → List ℕ → List ℕ → List ℕ → List ℕ → List ℕ → ℕ → Type 0
 Payee-in-numbers = Reduced-in-numbers-by readText
+
+-- MANY LINES: lines done, bytes of the lines, bytes of records, the stop's number
+abbrev pub done-numbers : Result B.Values → List ℕ
+done-numbers (refused k) = 0 ∷ 0 ∷ 0 ∷ 0 ∷ []
+done-numbers (accepted v) = v .lines ∷ v .read ∷ v .written ∷ stop-number (v .stop) ∷ []
+
+-- by either reader
+module _ (read : LineReader) (book lines : List ℕ) (units budget day : ℕ) (schedule work net answers : List ℕ) where
+  abbrev pub told : Result B.Values
+  told =
+      B.values-of read book units budget day schedule (length work) (length net) lines
+      (B.lines-done read book lines units budget day schedule work net answers)
+
+  pub record Lines-in-numbers-by (work′ net′ answers′ done′ : List ℕ) (r : ℕ) : Type 0 where
+    -- the definition's number and values
+    pub number : r ≡ refusal told
+    pub values : done′ ≡ done-numbers told
+    -- what becomes of the lent buffers, clause by clause
+    pub answer : D.Batch
+    pub buffers : B.LinesBy read book lines units budget day schedule work net answers work′ net′ answers′ answer
+
+abbrev pub Lines-in-numbers : List ℕ → List ℕ → ℕ → ℕ → ℕ → List ℕ → List ℕ → List ℕ → List ℕ → List ℕ → List ℕ → List ℕ → List ℕ → ℕ → Type 0
+Lines-in-numbers = Lines-in-numbers-by readLine
+
+abbrev pub Payees-in-numbers : List ℕ → List ℕ → ℕ → ℕ → ℕ → List ℕ → List ℕ → List ℕ → List ℕ → List ℕ → List ℕ → List ℕ → List ℕ → ℕ → Type 0
+Payees-in-numbers = Lines-in-numbers-by readText
 
 -- the writer's answer
 abbrev pub written-refusal : W.Written → ℕ

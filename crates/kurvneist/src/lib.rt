@@ -1,15 +1,17 @@
-// The library for C and Rust: a run, the book's writer, and the published lengths, on numbers and byte slices. A slice is passed as a pointer and a
-// length, an array as a pointer.
+// The library for C and Rust: a run, runs of many lines by one book, the book's writer, and the published lengths, on numbers and byte slices. A slice
+// is passed as a pointer and a length, an array as a pointer.
+use batch::Batch;
+use batch::Stop;
 use engine::Answer;
-use run::Ending;
 use run::Run;
 use writer::Written;
 ghost use mathlib.Core.Path.{_≡_};
 ghost use mathlib.Core.List.{_∷_, []};
 ghost use lib.ListN.{length};
-ghost use Rattle.paper.specs.Page.{ending-number};
-ghost use Rattle.run.specs.Contracts.{ending};
 ghost use Rattle.engine.specs.Spec.{published, values};
+ghost use Rattle.records.specs.Record.{longest};
+ghost use Rattle.batch.specs.Lines.{stop-number};
+ghost use Rattle.batch.specs.Spec as B;
 ghost use Rattle.kurvneist.specs.Spec as X;
 
 // The bytes of a work area.
@@ -34,17 +36,6 @@ pub extern "C" fn kurvneist_output_length() -> usize
     ensures { λ r. ⌜ r ≡ 1024 ⌝ }
 {
     engine::OUTPUT
-}
-
-fn ending_number(e: Ending) -> u64
-    ensures { λ r. ⌜ r ≡ ending-number (ending e) ⌝ }
-{
-    match e {
-        Ending::Finished => 0,
-        Ending::Spent => 1,
-        Ending::Full => 2,
-        Ending::Cut => 3,
-    }
 }
 
 fn put_numbers(
@@ -81,7 +72,7 @@ fn put_answer(a: Answer, answer: &mut [u64; 6]) -> u8
             let e = run.ending;
             put_numbers(
                 answer,
-                ending_number(e),
+                run::ending_number(e) as u64,
                 run.rewrites as u64,
                 run.entries as u64,
                 run.granted as u64,
@@ -135,6 +126,122 @@ pub extern "C" fn kurvneist_payee(
 {
     let a = engine::payee(book, text, units, budget, day, schedule, work, net, output);
     put_answer(a, answer)
+}
+
+// The bytes that an answers buffer must have left for a line to be done.
+#[no_mangle]
+pub extern "C" fn kurvneist_record_length() -> usize
+    ensures { λ r. ⌜ r ≡ longest ⌝ }
+{
+    records::LONGEST
+}
+
+fn stop_number(s: Stop) -> u64
+    ensures { λ r. ⌜ r ≡ stop-number (B.stop s) ⌝ }
+{
+    match s {
+        Stop::End => 0,
+        Stop::Cut => 1,
+        Stop::Room => 2,
+    }
+}
+
+fn put_four(done: &mut [u64; 4], lines: u64, read: u64, written: u64, stop: u64)
+    requires { ⌜ length (now done) ≡ 4 ⌝ }
+    ensures { λ _. ⌜ now (done .exit) ≡ lines ∷ read ∷ written ∷ stop ∷ [] ⌝ }
+{
+    done[0] = lines;
+    done[1] = read;
+    done[2] = written;
+    done[3] = stop;
+}
+
+// The refusal's number, or 0. The numbers are lines done, bytes of the lines, bytes of records and the stop's number, or zeros.
+fn put_done(b: Batch, done: &mut [u64; 4]) -> u8
+    requires { ⌜ length (now done) ≡ 4 ⌝ }
+    ensures { λ r. ⌜ (r ≡ X.refusal (B.values b)) × (now (done .exit) ≡ X.done-numbers (B.values b)) ⌝ }
+{
+    match b {
+        Batch::Refused(k) => {
+            put_four(done, 0, 0, 0, 0);
+            k
+        }
+        Batch::Done(d) => {
+            let stop = d.stop;
+            put_four(
+                done,
+                d.lines as u64,
+                d.read as u64,
+                d.written as u64,
+                stop_number(stop),
+            );
+            0
+        }
+    }
+}
+
+// Lines one after another, each behind its length in two bytes, by the rules that stand on a day: the refusal's number of frame or book, or 0.
+#[no_mangle]
+pub extern "C" fn kurvneist_reduce_lines(
+    book: &[u8],
+    lines: &[u8],
+    units: u8,
+    budget: u32,
+    day: u16,
+    schedule: &[u8],
+    work: &mut [u8],
+    net: &mut [u8],
+    answers: &mut [u8],
+    done: &mut [u64; 4],
+) -> u8
+    requires { ⌜ length (now done) ≡ 4 ⌝ }
+    ensures { λ r. ⌜ X.Lines-in-numbers (now (book .entry)) (now (lines .entry)) units budget day (now (schedule .entry)) (now (work .entry))
+        (now (net .entry)) (now (answers .entry)) (now (work .exit)) (now (net .exit)) (now (answers .exit)) (now (done .exit)) r ⌝ }
+{
+    let b = batch::reduce_lines(
+        book,
+        lines,
+        units,
+        budget,
+        day,
+        schedule,
+        work,
+        net,
+        answers,
+    );
+    put_done(b, done)
+}
+
+// Payees' texts.
+#[no_mangle]
+pub extern "C" fn kurvneist_payee_lines(
+    book: &[u8],
+    texts: &[u8],
+    units: u8,
+    budget: u32,
+    day: u16,
+    schedule: &[u8],
+    work: &mut [u8],
+    net: &mut [u8],
+    answers: &mut [u8],
+    done: &mut [u64; 4],
+) -> u8
+    requires { ⌜ length (now done) ≡ 4 ⌝ }
+    ensures { λ r. ⌜ X.Payees-in-numbers (now (book .entry)) (now (texts .entry)) units budget day (now (schedule .entry)) (now (work .entry))
+        (now (net .entry)) (now (answers .entry)) (now (work .exit)) (now (net .exit)) (now (answers .exit)) (now (done .exit)) r ⌝ }
+{
+    let b = batch::payee_lines(
+        book,
+        texts,
+        units,
+        budget,
+        day,
+        schedule,
+        work,
+        net,
+        answers,
+    );
+    put_done(b, done)
 }
 
 // The book's writer: the refusal's number, or 0 and how many bytes are written.

@@ -6,9 +6,10 @@ use native.Mathlib.Omega.{arith}
 use native.Mathlib.Decide.{decLt}
 use native.Mathlib.Numerals.{add-one}
 use borrow.Author.Tests.{lt-ltb, le-ltb}
-use lib.ListN.{length, getD, set, take, drop, drop-of-length-le}
-use lib.Seq.{set-split, drop-at, length-take-le, drop-cons}
+use lib.ListN.{length, getD, set, drop, drop-of-length-le}
+use lib.Seq.{drop-cons}
 use Rattle.paper.specs.Page.{digits, decimal, spaced, line}
+use Rattle.stream.proofs.Puts.{drop-set}
 use Rattle.page.specs.Contracts.{decimal-field}
 
 digits-last : (n v : ℕ) (ds : List ℕ) → v < 10 → digits (suc n) v ds ≡ (48 + v) ∷ ds
@@ -18,9 +19,6 @@ digits-last n v ds h = rw (lt-ltb v 10 h, digits)
 digits-more : (n v : ℕ) (ds : List ℕ) → 10 ≤ v → digits (suc n) v ds ≡ digits n (v / 10) ((48 + v % 10) ∷ ds)
 unfolding digits
 digits-more n v ds h = rw (le-ltb v 10 h, digits)
-
-drop-set : (d : List ℕ) (j x : ℕ) → j < length d → drop j (set d j x) ≡ x ∷ drop (suc j) d
-drop-set d j x h = ap (drop j) (set-split d j x h) ∙ drop-at (take j d) (x ∷ drop (suc j) d) j (length-take-le j d (omega arith))
 
 -- a digit stored before those that are there
 module _ (i j v : ℕ) (d : List ℕ) {x : ℕ} (e : i ≡ suc j) (h : j < length d) where

@@ -1,108 +1,24 @@
--- The input's parts: numbers, counted bytes, and what follows them, a dated book's day included. Assumes nothing.
+-- The input's parts: counted bytes, and what follows them, a dated book's day included. Assumes nothing.
 use mathlib.Core.Bool.{Bool, true, false}
-use mathlib.Core.List.{List, [], _∷_, _++_}
+use mathlib.Core.List.{List, []}
 use mathlib.Core.Path.{_≡_, refl, sym, ap, ap₂, _∙_}
-use Prim.Native.Nat.{ℕ, suc, _+_, _-_, _*_, _≤_, _<_}
-use native.Mathlib.Numerals.{add-one}
+use Prim.Native.Nat.{ℕ, _+_, _-_, _≤_, _<_}
 use native.Mathlib.Omega.{arith}
 use native.Mathlib.Decide.{decLt}
-use borrow.Author.Tests.{lt-ltb, le-ltb, eq-eqb, ne-eqb}
+use borrow.Author.Tests.{lt-ltb, le-ltb}
 use lib.ListN.{length, getD, take, drop, length-drop}
-use lib.Seq.{drop-cons, drop-drop, take-add, take-all, length-take-le}
+use lib.Seq.{drop-cons, drop-drop}
 use Rattle.paper.specs.Result.{Result, refused, accepted, Read, Reader, return, refuse, then, _>>=_}
 use Rattle.paper.specs.Dated.{is-dated}
 use Rattle.paper.specs.Page.{Request, number, read-bytes, read-number, read-day, read-schedule, read-request}
-use Rattle.page.specs.Contracts.{read-counted, asked, Part-ends, Day-stands, Parts-stand}
-use Rattle.page.specs.declared.PartEnd as E
+use Rattle.stream.specs.Contracts.{read-counted, Part-ends}
+use Rattle.stream.specs.declared.PartEnd as E
+use Rattle.stream.proofs.Parts.{number-there, number-cut}
+use Rattle.page.specs.Contracts.{asked, Day-stands, Parts-stand}
 use Rattle.page.specs.declared.Day as Y
 use Rattle.page.specs.declared.InputParts as I
 
--- NUMBERS
-
-two-bytes : (l : List ℕ) (at : ℕ) → at + 2 ≤ length l → take 2 (drop at l) ≡ getD l at 0 ∷ getD l (at + 1) 0 ∷ []
-two-bytes l at h =
-    ap (take 2) (drop-cons l at 0 (omega arith) ∙ ap (λ (xs : List ℕ). getD l at 0 ∷ xs) (drop-cons l (suc at) 0 (omega arith)))
-    ∙ ap (λ (i : ℕ). getD l at 0 ∷ getD l i 0 ∷ []) (sym (add-one at))
-
-pub number-two : (l : List ℕ) (at : ℕ) → at + 2 ≤ length l → number 0 (take 2 (drop at l)) ≡ getD l at 0 * 256 + getD l (at + 1) 0
-unfolding number
-number-two l at h = ap (number 0) (two-bytes l at h) ∙ omega arith
-
-number-both : (n : ℕ) (xs ys : List ℕ) → number n (xs ++ ys) ≡ number (number n xs) ys
-unfolding number
-number-both n [] ys = refl
-number-both n (x ∷ xs) ys = number-both (n * 256 + x) xs ys
-
-number-shift : (n a b : ℕ) → number n (a ∷ b ∷ []) ≡ n * 65536 + number 0 (a ∷ b ∷ [])
-unfolding number
-number-shift n a b = omega arith
-
-pub number-four : (l : List ℕ) (at : ℕ) → at + 4 ≤ length l →
-    number 0 (take 4 (drop at l)) ≡ number 0 (take 2 (drop at l)) * 65536 + number 0 (take 2 (drop (at + 2) l))
-number-four l at h =
-    let n : ℕ = number 0 (take 2 (drop at l)) in
-    let e = two-bytes l (at + 2) (omega arith) in
-    ap (number 0) (take-add 2 2 (drop at l))
-    ∙ number-both 0 (take 2 (drop at l)) (take 2 (drop 2 (drop at l)))
-    ∙ ap (λ (xs : List ℕ). number n (take 2 xs)) (drop-drop 2 at l)
-    ∙ ap (number n) e
-    ∙ number-shift n (getD l (at + 2) 0) (getD l (at + 2 + 1) 0)
-    ∙ ap (λ (xs : List ℕ). n * 65536 + number 0 xs) (sym e)
-
 -- READERS
-
-module _ (n : ℕ) (xs : List ℕ) where
-  bytes-there : n ≤ length xs → read-bytes n xs ≡ accepted (record { value = take n xs; left = drop n xs })
-  unfolding read-bytes return
-  bytes-there h = rw (eq-eqb _ _ (length-take-le n xs h))
-
-  bytes-cut : length xs < n → read-bytes n xs ≡ refused 17
-  unfolding read-bytes refuse
-  bytes-cut h =
-      let short : length (take n xs) ≡ n → ⊥ = λ e. omega (arith, ap length (take-all n xs (omega arith))) in
-      rw (ne-eqb _ _ short)
-
-  number-there : n ≤ length xs → read-number n xs ≡ accepted (record { value = number 0 (take n xs); left = drop n xs })
-  unfolding read-number _>>=_ then return
-  number-there h = rw (bytes-there h)
-
-  number-cut : length xs < n → read-number n xs ≡ refused 17
-  unfolding read-number _>>=_ then
-  number-cut h = rw (bytes-cut h)
-
-module _ (xs : List ℕ) where
-  counted-short : length xs < 2 → read-counted xs ≡ refused 17
-  unfolding read-counted _>>=_ then
-  counted-short h = rw (number-cut 2 xs h)
-
-  module _ (h : 2 ≤ length xs) where
-    counted-cut : length xs - 2 < number 0 (take 2 xs) → read-counted xs ≡ refused 17
-    unfolding read-counted _>>=_ then
-    counted-cut k = rw (number-there 2 xs h) (bytes-cut (number 0 (take 2 xs)) (drop 2 xs) (omega (arith, length-drop 2 xs)))
-
-    counted-there : (n : ℕ) → n ≡ number 0 (take 2 xs) → n ≤ length xs - 2 →
-        read-counted xs ≡ accepted (record { value = take n (drop 2 xs); left = drop n (drop 2 xs) })
-    unfolding read-counted _>>=_ then
-    counted-there n e k =
-        rw (number-there 2 xs h, ← e) (bytes-there n (drop 2 xs) (omega (arith, length-drop 2 xs)))
-
--- the same at a position of the input
-pub counted-none : (input : List ℕ) (at : ℕ) → length input - at < 2 → read-counted (drop at input) ≡ refused 17
-counted-none input at h = counted-short (drop at input) (omega (arith, length-drop at input))
-
-module _ (input : List ℕ) (at : ℕ) (h : at + 2 ≤ length input) where
-  pub counted-few : (n : ℕ) → n ≡ number 0 (take 2 (drop at input)) → length input - (at + 2) < n → read-counted (drop at input) ≡ refused 17
-  counted-few n e k =
-      counted-cut (drop at input) (omega (arith, length-drop at input)) (omega (arith, length-drop at input))
-
-  pub counted-at : (n e : ℕ) → n ≡ number 0 (take 2 (drop at input)) → e ≡ at + 2 + n → e ≤ length input →
-      read-counted (drop at input) ≡ accepted (record { value = take (e - (at + 2)) (drop (at + 2) input); left = drop e input })
-  counted-at n e f g k =
-      let s : n ≡ e - (at + 2) = omega arith in
-      counted-there (drop at input) (omega (arith, length-drop at input)) n f (omega (arith, length-drop at input))
-      ∙ ap (λ (l : List ℕ). accepted (record { value = take n l; left = drop n l })) (drop-drop 2 at input)
-      ∙ ap₂ (λ (a b : List ℕ). accepted (record { value = a; left = b })) (ap (λ (k : ℕ). take k (drop (at + 2) input)) s)
-      (drop-drop n (at + 2) input ∙ ap (λ (k : ℕ). drop k input) (sym g))
 
 schedule-there : (xs : List ℕ) → length xs ≤ 32768 → read-schedule xs ≡ accepted (record { value = xs; left = [] })
 unfolding read-schedule return

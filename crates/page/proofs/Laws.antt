@@ -15,11 +15,14 @@ use Rattle.paper.specs.Line.{readLine}
 use Rattle.paper.specs.Text.{readText}
 use Rattle.paper.specs.Page.{LineReader, number, read-request, line, refused-word, pageBy, pageOf, payeePageOf}
 use Rattle.paper.proofs.Refusals.{page-not-six, payee-page-not-six}
+use Rattle.stream.specs.Contracts.{Part-ends}
+use Rattle.stream.specs.declared.PartEnd as E
+use Rattle.stream.proofs.Numbers.{number-two}
+use Rattle.stream.proofs.Parts.{counted-at}
 use Rattle.page.specs.Spec.{Paged, Bytes, StandardInput, PagedFrom, begins, fixed-line}
-use Rattle.page.specs.Contracts.{Part-ends, Day-stands}
-use Rattle.page.specs.declared.PartEnd as E
+use Rattle.page.specs.Contracts.{Day-stands}
 use Rattle.page.specs.declared.Day as Y
-use Rattle.page.proofs.Input.{number-two, counted-at, day-undated, day-there, cut-over}
+use Rattle.page.proofs.Input.{day-undated, day-there, cut-over}
 use Rattle.page.proofs.Lines.{page-cut}
 use Rattle.page.proofs.Prefix.{begins-front}
 

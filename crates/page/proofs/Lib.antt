@@ -1,4 +1,3 @@
-pub mod Puts
 pub mod Decimals
 pub mod Input
 pub mod Prefix

@@ -9,10 +9,11 @@ use Rattle.paper.specs.Result.{Result, refused, accepted, Read, then}
 use Rattle.paper.specs.Tree.{preorder}
 use Rattle.paper.specs.Run.{Answer}
 use Rattle.paper.specs.Page.{Request, LineReader, frame-fault, run-checked, answerBy, own-lengths, read-request, line, refused-word, answer-lines, pageBy}
+use Rattle.stream.specs.Contracts.{Written-at}
 use Rattle.engine.specs.Spec as R
 use Rattle.engine.specs.declared.Answer as A
 use Rattle.page.specs.Spec.{Paged, fixed-line}
-use Rattle.page.specs.Contracts.{asked, Written-at, run-lines, lines, Term-fits}
+use Rattle.page.specs.Contracts.{asked, run-lines, lines, Term-fits}
 
 -- THE ANSWER
 

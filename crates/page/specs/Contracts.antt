@@ -4,25 +4,17 @@ use mathlib.Core.List.{List, [], _∷_, _++_}
 use mathlib.Core.Path.{_≡_}
 use Prim.Native.Nat.{ℕ, _+_, _-_, _≤_}
 use lib.ListN.{length, getD, take, drop}
-use Rattle.paper.specs.Result.{Result, refused, accepted, Read, Reader, _>>=_}
+use Rattle.paper.specs.Result.{Result, refused, accepted, Read}
 use Rattle.paper.specs.Dated.{is-dated}
-use Rattle.paper.specs.Page.{Request, number, read-bytes, read-number, read-day, read-request, ending-number, decimal, line, refused-word, end-word}
-use Rattle.paper.specs.Page.{rewrites-word, entries-word, granted-word, kept-word, term-word}
+use Rattle.paper.specs.Page.{Request, number, read-day, read-request, ending-number, decimal, line, refused-word, end-word, rewrites-word, entries-word}
+use Rattle.paper.specs.Page.{granted-word, kept-word, term-word}
 use Rattle.engine.specs.Spec as R
 use Rattle.engine.specs.declared.Answer as A
-use Rattle.page.specs.declared.PartEnd as E
 use Rattle.page.specs.declared.Day as Y
 use Rattle.page.specs.declared.Parts as P
 use Rattle.page.specs.declared.InputParts as I
 
 -- THE PARTS OF AN INPUT
-
--- bytes behind their length
-unfoldable pub read-counted : Reader (List ℕ)
-unfolding _>>=_ read-number read-bytes
-read-counted = do
-  n ← read-number 2
-  read-bytes n
 
 -- a request as the program makes it
 abbrev pub asked : List ℕ → List ℕ → ℕ → ℕ → ℕ → List ℕ → Request
@@ -30,19 +22,6 @@ asked book line units budget day schedule =
     record { book = book; line = line; units = units; budget = budget; day = day; schedule = schedule; work = 0; net = 0; output = 1024 }
 
 module _ (input : List ℕ) where
-  -- what the reading of counted bytes at position at gives, if they end so
-  abbrev pub read-up-to : ℕ → E.PartEnd → Result (Read (List ℕ))
-  read-up-to at E.PartEnd.Short = refused 17
-  read-up-to at (E.PartEnd.At e) = accepted (record { value = take (e - (at + 2)) (drop (at + 2) input); left = drop e input })
-
-  abbrev pub Ends-within : ℕ → E.PartEnd → Type 0
-  Ends-within at E.PartEnd.Short = Unit {0}
-  Ends-within at (E.PartEnd.At e) = (at + 2 ≤ e) × (e ≤ length input)
-
-  pub record Part-ends (at : ℕ) (r : E.PartEnd) : Type 0 where
-    pub is : read-counted (drop at input) ≡ read-up-to at r
-    pub within : Ends-within at r
-
   -- what the reading of the day gives, if it ends so
   abbrev pub read-day-as : Y.Day → Result (Read ℕ)
   read-day-as Y.Day.Short = refused 17
@@ -80,13 +59,6 @@ module _ (input : List ℕ) where
     pub within : Stand-within r
 
 -- WRITING
-
--- the bytes xs at position at: all before them and behind them stays
-pub record Written-at (at : ℕ) (xs page page′ : List ℕ) (next : ℕ) : Type 0 where
-  pub ends : next ≡ at + length xs
-  pub fits : next ≤ length page
-  pub long : length page′ ≡ length page
-  pub is : page′ ≡ take at page ++ (xs ++ drop next page)
 
 -- the digits of v stand from r on
 pub record Digits-from (v : ℕ) (d : List ℕ) (r : ℕ) : Type 0 where

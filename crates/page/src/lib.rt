@@ -1,14 +1,14 @@
 // The program's page for its standard input (document 01, 'The program and its page'; document 02, Changes 1, 2 and 5).
 use engine::Answer;
 use engine::Form;
-use run::Ending;
 use run::Run;
+use stream::PartEnd;
 ghost use mathlib.Core.List.{_∷_, []};
 ghost use mathlib.Core.Path.{_≡_};
 ghost use Prim.Native.Nat.{_+_, _≤_, _<_};
 ghost use lib.ListN.{length, take, drop};
-ghost use Rattle.paper.specs.Page.{number, ending-number, spaced, line, term-word, answer-lines, own-lengths, answerBy};
-ghost use Rattle.run.specs.Contracts.{ending};
+ghost use Rattle.paper.specs.Page.{number, spaced, line, term-word, answer-lines, own-lengths, answerBy};
+ghost use Rattle.stream.specs.Contracts.{Written-at};
 ghost use Rattle.engine.specs.Spec.{run-values, reader};
 ghost use Rattle.page.specs.Spec as S;
 ghost use Rattle.page.specs.Contracts as C;
@@ -22,12 +22,6 @@ pub const INPUT: usize = 163850;
 
 // How many schedule bytes may follow.
 const SCHEDULE: usize = 32768;
-
-// The position behind counted bytes, or that they are cut short.
-enum PartEnd {
-    Short,
-    At(usize),
-}
 
 // The day and the position behind it, or that it is cut short.
 enum Day {
@@ -51,36 +45,12 @@ enum InputParts {
 
 // The input
 
-// Two bytes as one number, the most significant first.
-fn pair(input: &[u8], at: usize) -> usize
-    requires { ⌜ at + 2 ≤ length (now input) ⌝ }
-    ensures { λ r. ⌜ (r ≡ number 0 (take 2 (drop at (now (input .entry))))) × (r < 65536) ⌝ }
-{
-    casts::index(input[at]) * 256 + casts::index(input[at + 1])
-}
-
 // Four bytes as one number.
 fn quad(input: &[u8], at: usize) -> u32
     requires { ⌜ at + 4 ≤ length (now input) ⌝ }
     ensures { λ r. ⌜ r ≡ number 0 (take 4 (drop at (now (input .entry)))) ⌝ }
 {
-    casts::word(pair(input, at) * 65536 + pair(input, at + 2))
-}
-
-// The position behind the bytes whose length stands at position at.
-fn part_end(input: &[u8], at: usize) -> PartEnd
-    requires { ⌜ at ≤ length (now input) ⌝ }
-    ensures { λ r. ⌜ C.Part-ends (now (input .entry)) at r ⌝ }
-{
-    if input.len() - at < 2 {
-        return PartEnd::Short;
-    }
-    let n = pair(input, at);
-    let start = at + 2;
-    if input.len() - start < n {
-        return PartEnd::Short;
-    }
-    PartEnd::At(start + n)
+    casts::word(stream::pair(input, at) * 65536 + stream::pair(input, at + 2))
 }
 
 // The run's day: the two bytes at position at, if the book is dated; 0 stands for the day that an undated one ignores.
@@ -94,17 +64,17 @@ fn day_at(input: &[u8], at: usize, dated: bool) -> Day
     if input.len() - at < 2 {
         return Day::Short;
     }
-    Day::Read(casts::short(pair(input, at)), at + 2)
+    Day::Read(casts::short(stream::pair(input, at)), at + 2)
 }
 
 // Where the parts of the input stand.
 fn parts_of(input: &[u8]) -> InputParts
     ensures { λ r. ⌜ C.Parts-stand (now (input .entry)) r ⌝ }
 {
-    let PartEnd::At(book) = part_end(input, 0) else {
+    let PartEnd::At(book) = stream::part_end(input, 0) else {
         return InputParts::Refused;
     };
-    let PartEnd::At(line) = part_end(input, book) else {
+    let PartEnd::At(line) = stream::part_end(input, book) else {
         return InputParts::Refused;
     };
     let left = input.len() - line;
@@ -130,7 +100,7 @@ fn parts_of(input: &[u8]) -> InputParts
 
 fn put(bytes: &[u8], page: &mut [u8; 8192], at: usize) -> usize
     requires { ⌜ (length (now page) ≡ 8192) × (at + length (now bytes) ≤ 8192) ⌝ }
-    ensures { λ r. ⌜ C.Written-at at (now (bytes .entry)) (now (page .entry)) (now (page .exit)) r ⌝ }
+    ensures { λ r. ⌜ Written-at at (now (bytes .entry)) (now (page .entry)) (now (page .exit)) r ⌝ }
 {
     let mut i = 0;
     while i < bytes.len() {
@@ -162,7 +132,7 @@ fn digits(v: usize, d: &mut [u8; 20]) -> usize
 // A decimal field, with a space before it.
 fn decimal_field(v: usize, page: &mut [u8; 8192], at: usize) -> usize
     requires { ⌜ (length (now page) ≡ 8192) × (at + 21 ≤ 8192) ⌝ }
-    ensures { λ r. ⌜ C.Written-at at (C.decimal-field v) (now (page .entry)) (now (page .exit)) r × (r ≤ at + 21) ⌝ }
+    ensures { λ r. ⌜ Written-at at (C.decimal-field v) (now (page .entry)) (now (page .exit)) r × (r ≤ at + 21) ⌝ }
 {
     let mut d = [0u8; 20];
     let i = digits(v, &mut d);
@@ -173,7 +143,7 @@ fn decimal_field(v: usize, page: &mut [u8; 8192], at: usize) -> usize
 // A line: a word and one field.
 fn line(word: &[u8], v: usize, page: &mut [u8; 8192], at: usize) -> usize
     requires { ⌜ (length (now word) ≤ 8) × (length (now page) ≡ 8192) × (at + 30 ≤ 8192) ⌝ }
-    ensures { λ r. ⌜ C.Written-at at (line (now (word .entry)) (v ∷ [])) (now (page .entry)) (now (page .exit)) r × (r ≤ at + 30) ⌝ }
+    ensures { λ r. ⌜ Written-at at (line (now (word .entry)) (v ∷ [])) (now (page .entry)) (now (page .exit)) r × (r ≤ at + 30) ⌝ }
 {
     let p = put(word, page, at);
     let q = decimal_field(v, page, p);
@@ -183,7 +153,7 @@ fn line(word: &[u8], v: usize, page: &mut [u8; 8192], at: usize) -> usize
 // A field for each symbol: at most three digits each.
 fn symbols(term: &[u8], page: &mut [u8; 8192], at: usize) -> usize
     requires { ⌜ (length (now term) ≤ 1024) × (length (now page) ≡ 8192) × (at ≤ 4000) ⌝ }
-    ensures { λ r. ⌜ C.Written-at at (spaced (now (term .entry))) (now (page .entry)) (now (page .exit)) r × (r ≤ at + 4096) ⌝ }
+    ensures { λ r. ⌜ Written-at at (spaced (now (term .entry))) (now (page .entry)) (now (page .exit)) r × (r ≤ at + 4096) ⌝ }
 {
     let mut p = at;
     let mut i = 0;
@@ -196,32 +166,20 @@ fn symbols(term: &[u8], page: &mut [u8; 8192], at: usize) -> usize
 
 fn term_line(term: &[u8], page: &mut [u8; 8192], at: usize) -> usize
     requires { ⌜ (length (now term) ≤ 1024) × (length (now page) ≡ 8192) × (at ≤ 3000) ⌝ }
-    ensures { λ r. ⌜ C.Written-at at (line term-word (now (term .entry))) (now (page .entry)) (now (page .exit)) r ⌝ }
+    ensures { λ r. ⌜ Written-at at (line term-word (now (term .entry))) (now (page .entry)) (now (page .exit)) r ⌝ }
 {
     let p = put(b"term", page, at);
     let q = symbols(term, page, p);
     put(b"\n", page, q)
 }
 
-// The ending's number.
-fn ending_number(e: Ending) -> usize
-    ensures { λ r. ⌜ r ≡ ending-number (ending e) ⌝ }
-{
-    match e {
-        Ending::Finished => 0,
-        Ending::Spent => 1,
-        Ending::Full => 2,
-        Ending::Cut => 3,
-    }
-}
-
 // The lines of a run and its term.
 fn run_lines(r: Run, term: &[u8], page: &mut [u8; 8192], at: usize) -> usize
     requires { ⌜ (length (now term) ≤ 1024) × (length (now page) ≡ 8192) × (at ≤ 1000) ⌝ }
-    ensures { λ s. ⌜ C.Written-at at (C.run-lines (run-values r) (now (term .entry))) (now (page .entry)) (now (page .exit)) s ⌝ }
+    ensures { λ s. ⌜ Written-at at (C.run-lines (run-values r) (now (term .entry))) (now (page .entry)) (now (page .exit)) s ⌝ }
 {
     let ending = r.ending;
-    let a = line(b"end", ending_number(ending), page, at);
+    let a = line(b"end", run::ending_number(ending), page, at);
     let b = line(b"rewrites", casts::position(r.rewrites), page, a);
     let c = line(b"entries", r.entries, page, b);
     let d = line(b"granted", r.granted, page, c);
@@ -232,7 +190,7 @@ fn run_lines(r: Run, term: &[u8], page: &mut [u8; 8192], at: usize) -> usize
 // The lines of the engine's answer, whose term stands at the front of the output.
 fn answer(a: Answer, output: &[u8], page: &mut [u8; 8192], at: usize) -> usize
     requires { ⌜ (C.Term-fits a (now output)) × (length (now page) ≡ 8192) × (at ≤ 1000) ⌝ }
-    ensures { λ r. ⌜ C.Written-at at (C.lines a (now (output .entry))) (now (page .entry)) (now (page .exit)) r ⌝ }
+    ensures { λ r. ⌜ Written-at at (C.lines a (now (output .entry))) (now (page .entry)) (now (page .exit)) r ⌝ }
 {
     match a {
         Answer::Refused(k) => line(b"refused", casts::index(k), page, at),
@@ -246,7 +204,7 @@ fn answer(a: Answer, output: &[u8], page: &mut [u8; 8192], at: usize) -> usize
 // The run of a whole input, and its lines. The buffers that are lent are of just the lengths that are asked for.
 fn run_page(form: Form, input: &[u8], parts: Parts, page: &mut [u8; 8192], at: usize) -> usize
     requires { ⌜ C.Parts-within (now input) parts × (length (now page) ≡ 8192) × (at ≤ 1000) ⌝ }
-    ensures { λ r. ⌜ C.Written-at at (answer-lines (answerBy (reader form) own-lengths (C.request-of (now (input .entry)) parts))) (now (page .entry)) (now (page .exit)) r ⌝ }
+    ensures { λ r. ⌜ Written-at at (answer-lines (answerBy (reader form) own-lengths (C.request-of (now (input .entry)) parts))) (now (page .entry)) (now (page .exit)) r ⌝ }
 {
     let mut work = [0u8; engine::WORK];
     let mut net = [0u8; engine::NET];

@@ -3,8 +3,9 @@ use entry::Entry;
 use whole::Limits;
 use whole::Progress;
 ghost use mathlib.Core.Path.{_≡_};
-ghost use Prim.Native.Nat.{_≤_};
+ghost use Prim.Native.Nat.{_≤_, _<_};
 ghost use lib.ListN.{length};
+ghost use Rattle.paper.specs.Page.{ending-number};
 ghost use Rattle.flat.specs.Machine.{FlatState};
 ghost use Rattle.flat.specs.Run.{flat-run-from};
 ghost use Rattle.net.specs.Net.{book-by};
@@ -29,6 +30,18 @@ pub struct Run {
     pub length: usize,
 }
 
+// The ending's number.
+pub fn ending_number(e: Ending) -> usize
+    ensures { λ r. ⌜ (r ≡ ending-number (R.ending e)) × (r < 4) ⌝ }
+{
+    match e {
+        Ending::Finished => 0,
+        Ending::Spent => 1,
+        Ending::Full => 2,
+        Ending::Cut => 3,
+    }
+}
+
 // A run that ended so after so many entries, the present term being left in the symbols.
 fn ended(ending: Ending, entries: usize, p: Progress, symbols: &[u32; 1024]) -> Run
     ensures { λ r. ⌜ r ≡ R.ended ending entries p (now (symbols .entry)) ⌝ }
@@ -43,7 +56,7 @@ fn ended(ending: Ending, entries: usize, p: Progress, symbols: &[u32; 1024]) -> 
     }
 }
 
-// The run of a schedule from the term in the symbols, with nothing counted yet: the present term is left in the symbols.
+// The run of a schedule from the term in the symbols, with nothing counted yet: the present term is left in the symbols, and scratch as it comes.
 pub fn run_schedule(
     book: &[u8],
     operators: &[u8; 4352],
@@ -61,6 +74,7 @@ pub fn run_schedule(
     requires { λ s. ⌜ R.Runnable (now book) (now operators) (now net) l (now schedule) s ⌝ }
     ensures { λ s r. ⌜ R.answer r (now (symbols .exit)) ≡ flat-run-from (book-by (now (book .entry)) (now (net .entry))) (S.limited (l .budget)) 0 (now (schedule .entry)) s ⌝ }
     ensures { λ s r. ⌜ R.Bounded l (now (schedule .entry)) (now (symbols .exit)) r ⌝ }
+    ensures { λ s r. ⌜ length (now (scratch .exit)) ≡ 1024 ⌝ }
 {
     let mut p = Progress {
         rewrites: 0,

@@ -13,7 +13,9 @@ static const uint8_t letters[] = {43,   0x02, 0x22, 0x22, 0x22, 0x22, 0x22, 0x22
 static uint8_t work[KURVNEIST_WORK_LENGTH];
 static uint8_t net[KURVNEIST_NET_LENGTH];
 static uint8_t output[KURVNEIST_OUTPUT_LENGTH];
+static uint8_t answers[KURVNEIST_LONGEST_RECORD];
 static uint64_t answer[KURVNEIST_ANSWER_LENGTH];
+static uint64_t done[KURVNEIST_DONE_LENGTH];
 static int wrong = 0;
 
 static void due(const char *what, uint8_t expected, uint8_t told) {
@@ -22,10 +24,11 @@ static void due(const char *what, uint8_t expected, uint8_t told) {
     wrong++;
 }
 
-/* Both areas and the output, each with its length. */
+/* Both areas, the output and the answers, each with its length. */
 #define WORK work, sizeof work
 #define NET net, sizeof net
 #define OUTPUT output, sizeof output
+#define ANSWERS answers, sizeof answers
 #define NOTHING NULL, 0
 
 static void lines(void) {
@@ -60,6 +63,30 @@ static void texts(void) {
     due("the term of no text", 0, output[0]);
 }
 
+static void many(void) {
+    static const uint8_t one[] = {0, 1, 0}; /* a line of one byte */
+    due("many lines without a book", KURVNEIST_BOOK_RUNS_OUT,
+        kurvneist_reduce_lines(NOTHING, one, sizeof one, 1, 9, 0, NOTHING, WORK, NET, ANSWERS, done));
+    due("many lines without a work area", KURVNEIST_WORK_TOO_SHORT,
+        kurvneist_reduce_lines(constant, sizeof constant, one, sizeof one, 1, 9, 0, NOTHING, NOTHING, NET, ANSWERS, done));
+    due("many lines without an area for the net", KURVNEIST_WORK_TOO_SHORT,
+        kurvneist_reduce_lines(constant, sizeof constant, one, sizeof one, 1, 9, 0, NOTHING, WORK, NOTHING, ANSWERS, done));
+    due("no lines", KURVNEIST_ACCEPTED,
+        kurvneist_reduce_lines(constant, sizeof constant, NOTHING, 1, 9, 0, NOTHING, WORK, NET, NOTHING, done));
+    due("the stop of no lines", KURVNEIST_STOP_END, (uint8_t)done[KURVNEIST_DONE_STOP]);
+    due("no answers", KURVNEIST_ACCEPTED,
+        kurvneist_reduce_lines(constant, sizeof constant, one, sizeof one, 1, 9, 0, NOTHING, WORK, NET, NOTHING, done));
+    due("the stop without answers", KURVNEIST_STOP_ROOM, (uint8_t)done[KURVNEIST_DONE_STOP]);
+    due("no schedule for many lines", KURVNEIST_ACCEPTED,
+        kurvneist_reduce_lines(constant, sizeof constant, one, sizeof one, 1, 9, 0, NOTHING, WORK, NET, ANSWERS, done));
+    due("the record's bytes without a schedule", 33, (uint8_t)done[KURVNEIST_DONE_WRITTEN]);
+    due("the ending without a schedule, among many", KURVNEIST_CUT, answers[1]);
+    due("no texts", KURVNEIST_ACCEPTED,
+        kurvneist_payee_lines(letters, sizeof letters, NOTHING, 1, 9, 0, NOTHING, WORK, NET, NOTHING, done));
+    due("nothing, for many lines", KURVNEIST_BAD_UNITS,
+        kurvneist_payee_lines(NOTHING, NOTHING, 0, 0, 0, NOTHING, NOTHING, NOTHING, NOTHING, done));
+}
+
 static void books(void) {
     due("nothing to write", KURVNEIST_BOOK_RUNS_OUT, kurvneist_write_book(NULL, 0, NULL, 0, answer));
     due("nowhere to write", KURVNEIST_OUTPUT_TOO_SHORT, kurvneist_write_book(constant, sizeof constant, NULL, 0, answer));
@@ -68,6 +95,7 @@ static void books(void) {
 int main(void) {
     lines();
     texts();
+    many();
     books();
     return wrong != 0;
 }

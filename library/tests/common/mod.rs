@@ -2,7 +2,7 @@
 
 #![allow(dead_code)]
 
-use kurvneist::{Request, NET_LENGTH, OUTPUT_LENGTH, WORK_LENGTH};
+use kurvneist::{Lines, Request, NET_LENGTH, OUTPUT_LENGTH, WORK_LENGTH};
 
 #[derive(Clone, Copy)]
 pub enum Symbol {
@@ -110,12 +110,55 @@ pub fn book_p() -> Vec<u8> {
     )
 }
 
+/// f(X) gives f of 31 ticks over X, for ever.
+pub fn growing_book() -> Vec<u8> {
+    let right = [vec![op(1)], vec![op(2); 31], vec![X]].concat();
+    book(
+        &[(0, None), (1, Some(&[0])), (1, None)],
+        &[(&[op(1), X], &right)],
+    )
+}
+
+/// Operators 0 to 42 as texts ask for them, each with its default strategy.
+pub fn class_operators() -> Vec<Operator<'static>> {
+    [vec![(0, None)], vec![(1, None); 42]].concat()
+}
+
+pub fn class_book(rules: &[Rule]) -> Vec<u8> {
+    book(&class_operators(), rules)
+}
+
 /// The line of the page.
 pub const LINE_P: [u8; 5] = [2, 1, 0, 1, 0];
 
 /// The page's request but for its schedule.
 pub fn page<'a>(book: &'a [u8], schedule: &'a [u8]) -> Request<'a> {
     Request::new(book, &LINE_P).budget(9).schedule(schedule)
+}
+
+/// What a program's standard input asks, as the table of its parts says.
+pub fn request_of(input: &[u8]) -> Request<'_> {
+    let announced = |bytes: &[u8]| usize::from(u16::from_be_bytes([bytes[0], bytes[1]]));
+    let (book, rest) = input[2..].split_at(announced(input));
+    let (line, rest) = rest[2..].split_at(announced(rest));
+    let (day, schedule) = match book.first() {
+        Some(0) => (u16::from_be_bytes([rest[5], rest[6]]), &rest[7..]),
+        _ => (0, &rest[5..]),
+    };
+    Request::new(book, line)
+        .units(rest[0])
+        .budget(u32::from_be_bytes(rest[1..5].try_into().unwrap()))
+        .day(day)
+        .schedule(schedule)
+}
+
+/// These lines one after another.
+pub fn lines_of<L: AsRef<[u8]>>(lines: &[L]) -> Lines {
+    let mut together = Lines::new();
+    for line in lines {
+        together.push(line.as_ref()).unwrap();
+    }
+    together
 }
 
 /// Bytes that no function would write by chance.

@@ -298,7 +298,7 @@ pub fn batch(parsed: &Parsed) -> Result<Status, Stop> {
     let postings = files::output_name(parsed);
     let unwritten = |error| files::unusable(postings, error);
     let mut output = Output::create(postings).map_err(unwritten)?;
-    let run = batch::run(&mut *input, &settings, &mut output, &mut progress);
+    let run = batch::run(&mut input, &settings, &mut output, &mut progress);
     let done = run.and_then(|summary| match output.finish() {
         Ok(()) => Ok(summary),
         Err(error) => Err(batch::Failure::Write(error)),

@@ -2,7 +2,7 @@
 
 use std::ffi::OsStr;
 use std::fs::{self, File};
-use std::io::{self, BufRead, BufReader, Read, Write};
+use std::io::{self, Read, Write};
 use std::os::fd::AsFd;
 use std::path::Path;
 
@@ -46,7 +46,7 @@ pub fn bytes(name: &OsStr) -> Result<Vec<u8>, Stop> {
 
 /// A file to be read line by line, and its length if it has one; `-` is
 /// standard input.
-pub fn input(name: &OsStr) -> Result<(Box<dyn BufRead>, Option<u64>), Stop> {
+pub fn input(name: &OsStr) -> Result<(File, Option<u64>), Stop> {
     let file = match name == "-" {
         true => io::stdin().as_fd().try_clone_to_owned().map(File::from),
         false => File::open(name),
@@ -54,7 +54,7 @@ pub fn input(name: &OsStr) -> Result<(Box<dyn BufRead>, Option<u64>), Stop> {
     let file = file.map_err(|error| unusable(name, error))?;
     let metadata = file.metadata().ok().filter(|metadata| metadata.is_file());
     let length = metadata.map(|metadata| metadata.len());
-    Ok((Box::new(BufReader::with_capacity(1 << 16, file)), length))
+    Ok((file, length))
 }
 
 /// To a file; `-` is standard output, whose reader may go away, as `head` does.

@@ -212,10 +212,11 @@ with TERM=dumb; COLUMNS says how wide it is. With --payee too, blank lines and
 those that begin with # stay as they are. Each line ends as it did, in LF or
 CR LF.
 
-Lines are read and written one by one, or with --jobs in blocks of 64, so LINES
-may have any length. With -o the postings stand in FILE.PID-0.part until all are
-there, and FILE is as it was if the batch is interrupted. No output may be an
-input, also not through a link.
+Lines are read, posted and written in blocks, so LINES may have any length. The
+book is read once a block, which has at most 256 lines, fewer where they take
+long, and only lines that are there already. With -o the postings stand in
+FILE.PID-0.part until all are there, and FILE is as it was if the batch is
+interrupted. No output may be an input, also not through a link.
 
 With --column, LINES is a bank export (CSV): a record on each line, its fields
 between separators. A field in quotes may have separators, line ends and doubled

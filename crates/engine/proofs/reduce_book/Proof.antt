@@ -4,7 +4,7 @@ use mathlib.Core.Path.{refl}
 use native.Mathlib.Omega.{arith}
 use Rattle.engine.proofs.Frame.{framed}
 use Rattle.engine.proofs.Answers.{by-book, by-line, refuses}
-use Rattle.engine.proofs.Readers.{by-tables, loaded, reduced-alike, framed-as, as-asked}
+use Rattle.engine.proofs.Readers.{by-tables, reduced-alike, framed-as, as-asked}
 use Rattle.engine.proofs.reduce_book.Statement.{statement}
 use Rattle.engine.proofs.reduce_book.Tie as tie
 
@@ -23,8 +23,10 @@ run-checked-requires c κs =
     let n = x .before .before .before .before in
     let b = n .before .before in
     let is = rw (n .n .given .1) at (b .read-book .ensures .is) in
-    let t = rw (l .length .given .1) at (by-tables (is .0) (is .2) (x .read-term .ensures)) in
-    (framed-as (i .index .ensures .0) (entry b .pre), (loaded (is .0) (omega (arith, is .1, entry b .fits)) t, omega (arith, entry b .fits)))
+    let t = rw (l .length .given .1) at (by-tables (is .0) (is .2) (x .read-term .ensures)) in (
+      framed-as (i .index .ensures .0) (entry b .pre),
+      (record { tables = is .0; day = omega (arith, is .1, entry b .fits); given = t .given }, omega (arith, entry b .fits)),
+    )
 
 returns : tie.Need-returns
 returns c =

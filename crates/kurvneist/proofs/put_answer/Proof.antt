@@ -7,7 +7,7 @@ use Rattle.kurvneist.proofs.put_answer.Tie as tie
 returns-2 : tie.Need-returns-2
 returns-2 c =
     let a = c .before .before .before .before .before in
-    rw (a .a2 .given .1) (refl, rw (c .before .before .ending-number .ensures) at (c .put-numbers2 .ensures))
+    rw (a .a2 .given .1) (refl, rw (c .before .before .ending-number .ensures .0) at (c .put-numbers2 .ensures))
 
 pub put-answer-spec : {M : Type 1} → statement M
 put-answer-spec =

@@ -8,7 +8,7 @@ use lib.Seq.{length-take-le}
 use Rattle.paper.specs.Page.{line, refused-word}
 use Rattle.engine.specs.declared.Answer as A
 use Rattle.page.specs.Contracts.{lines}
-use Rattle.page.proofs.Puts.{put-as}
+use Rattle.stream.proofs.Puts.{put-as}
 use borrow.Author.Needs.{needs}
 use Rattle.page.proofs.answer.Statement.{statement}
 use Rattle.page.proofs.answer.Tie as tie

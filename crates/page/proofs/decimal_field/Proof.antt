@@ -5,7 +5,7 @@ use lib.Seq.{take-all}
 use mathlib.Core.Path.{_≡_, ap, _∙_}
 use Prim.Native.Nat.{ℕ, _-_}
 use native.Mathlib.Omega.{arith}
-use Rattle.page.proofs.Puts.{put-as, put-both}
+use Rattle.stream.proofs.Puts.{put-as, put-both}
 use borrow.Author.Needs.{needs}
 use Rattle.page.proofs.decimal_field.Statement.{statement}
 use Rattle.page.proofs.decimal_field.Tie as tie

@@ -1,6 +1,6 @@
 -- `page::line` meets its contract: its three parts stand one after another. Assumes nothing.
 use native.Mathlib.Omega.{arith}
-use Rattle.page.proofs.Puts.{put-as, put-both}
+use Rattle.stream.proofs.Puts.{put-as, put-both}
 use Rattle.page.proofs.Decimals.{one-field}
 use borrow.Author.Needs.{needs}
 use Rattle.page.proofs.line.Statement.{statement}

@@ -3,7 +3,7 @@ use mathlib.Core.Path.{_∙_}
 use native.Mathlib.Omega.{arith}
 use denote.Ref.{now}
 use Rattle.paper.specs.Page.{line}
-use Rattle.page.proofs.Puts.{put-as, put-both}
+use Rattle.stream.proofs.Puts.{put-as, put-both}
 use Rattle.page.proofs.Lines.{page-cut, page-whole, paged}
 use borrow.Author.Needs.{needs}
 use Rattle.page.proofs.page.Statement.{statement}

@@ -2,7 +2,7 @@
 use mathlib.Core.List.{List}
 use denote.Ref.{now}
 use lib.Seq.{paste, paste-zero, paste-suc}
-use Rattle.page.proofs.Puts.{put-all}
+use Rattle.stream.proofs.Puts.{put-all}
 use mathlib.Core.Path.{_≡_, sym, ap, _∙_}
 use Prim.Native.Nat.{ℕ, _+_, _-_, _≤_}
 use native.Mathlib.Omega.{arith}

@@ -1,7 +1,7 @@
 -- `page::quad` meets its contract, by the law of four bytes. Assumes nothing.
 use denote.Ref.{now}
 use native.Mathlib.Omega.{arith}
-use Rattle.page.proofs.Input.{number-four}
+use Rattle.stream.proofs.Numbers.{number-four}
 use borrow.Author.Needs.{needs}
 use Rattle.page.proofs.quad.Statement.{statement}
 use Rattle.page.proofs.quad.Tie as tie

@@ -6,7 +6,7 @@ use native.Mathlib.Omega.{arith}
 use denote.Ref.{now}
 use lib.ListN.{length, drop, length-drop, length-replicate}
 use lib.Seq.{take-all}
-use Rattle.page.proofs.Puts.{put-as}
+use Rattle.stream.proofs.Puts.{put-as}
 use Rattle.page.proofs.Lines.{reduced-fits, reduced-lines}
 use borrow.Author.Needs.{needs}
 use Rattle.page.proofs.run_page.Statement.{statement}

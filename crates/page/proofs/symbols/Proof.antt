@@ -2,8 +2,8 @@
 -- measure is how many symbols are left. Assumes nothing.
 use mathlib.Core.List.{List}
 use Rattle.paper.specs.Page.{spaced}
-use Rattle.page.specs.Contracts.{Written-at}
-use Rattle.page.proofs.Puts.{put-none, put-as, put-both}
+use Rattle.stream.specs.Contracts.{Written-at}
+use Rattle.stream.proofs.Puts.{put-none, put-as, put-both}
 use Rattle.page.proofs.Decimals.{field-short, spaced-more, spaced-end}
 use mathlib.Core.Path.{_≡_, _∙_}
 use Prim.Native.Nat.{ℕ, _+_, _*_, _-_, _≤_}

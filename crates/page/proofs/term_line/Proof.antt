@@ -1,5 +1,5 @@
 -- `page::term_line` meets its contract: its three parts stand one after another. Assumes nothing.
-use Rattle.page.proofs.Puts.{put-as, put-both}
+use Rattle.stream.proofs.Puts.{put-as, put-both}
 use Rattle.page.proofs.Decimals.{all-fields}
 use borrow.Author.Needs.{needs}
 use Rattle.page.proofs.term_line.Statement.{statement}

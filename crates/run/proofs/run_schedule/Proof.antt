@@ -44,7 +44,8 @@ returns c =
     let q = m .before .before .before .before in
     let b = turn (q .before) in
     let e = rw (m .enum-told .given .1) at (q .enter .ensures) in
-    along-ends (b .before .loop .inv .0) (b .loop-test .taken) _ (q .before .index .ensures .0) Ending.Finished (e .0) (e .1) _ (c .ended .ensures)
+    let (x, y) = along-ends (b .before .loop .inv .0) (b .loop-test .taken) _ (q .before .index .ensures .0) Ending.Finished (e .0) (e .1) _ (c .ended .ensures) in
+    (x, (y, e .1 .scratch-long))
 
 returns-2 : tie.Need-returns-2 Inv-loop μ-loop
 returns-2 c =
@@ -52,7 +53,8 @@ returns-2 c =
     let q = m .before .before .before .before in
     let b = turn (q .before) in
     let e = rw (m .enum-told2 .given .1) at (q .enter .ensures) in
-    along-ends (b .before .loop .inv .0) (b .loop-test .taken) _ (q .before .index .ensures .0) Ending.Spent (e .0) (e .1) _ (c .ended2 .ensures)
+    let (x, y) = along-ends (b .before .loop .inv .0) (b .loop-test .taken) _ (q .before .index .ensures .0) Ending.Spent (e .0) (e .1) _ (c .ended2 .ensures) in
+    (x, (y, e .1 .scratch-long))
 
 returns-3 : tie.Need-returns-3 Inv-loop μ-loop
 returns-3 c =
@@ -60,7 +62,8 @@ returns-3 c =
     let q = m .before .before .before .before in
     let b = turn (q .before) in
     let e = rw (m .enum-told3 .given .1) at (q .enter .ensures) in
-    along-ends (b .before .loop .inv .0) (b .loop-test .taken) _ (q .before .index .ensures .0) Ending.Full (e .0) (e .1) _ (c .ended3 .ensures)
+    let (x, y) = along-ends (b .before .loop .inv .0) (b .loop-test .taken) _ (q .before .index .ensures .0) Ending.Full (e .0) (e .1) _ (c .ended3 .ensures) in
+    (x, (y, e .1 .scratch-long))
 
 loop-again : tie.Need-loop-again Inv-loop μ-loop
 loop-again c =
@@ -70,7 +73,10 @@ loop-again c =
     (along-goes (b .before .loop .inv .0) (b .loop-test .taken) _ (q .before .index .ensures .0) _ (e .0) (e .1), search needs)
 
 returns-4 : tie.Need-returns-4 Inv-loop μ-loop
-returns-4 c = along-cut (c .before .before .before .loop .inv .0) (c .before .before .loop-test .left) _ (c .ended4 .ensures)
+returns-4 c =
+    let a = c .before .before .before .loop .inv .0 in
+    let (x, y) = along-cut a (c .before .before .loop-test .left) _ (c .ended4 .ensures) in
+    (x, (y, a .arrays .scratch-long))
 
 pub run-schedule-spec : {M : Type 1} → statement M
 run-schedule-spec =

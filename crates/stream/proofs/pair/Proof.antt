@@ -1,10 +1,10 @@
--- `page::pair` meets its contract, by the law of two bytes. Assumes nothing.
+-- `stream::pair` meets its contract, by the law of two bytes. Assumes nothing.
 use denote.Ref.{now}
 use native.Mathlib.Omega.{arith}
-use Rattle.page.proofs.Input.{number-two}
+use Rattle.stream.proofs.Numbers.{number-two}
 use borrow.Author.Needs.{needs}
-use Rattle.page.proofs.pair.Statement.{statement}
-use Rattle.page.proofs.pair.Tie as tie
+use Rattle.stream.proofs.pair.Statement.{statement}
+use Rattle.stream.proofs.pair.Tie as tie
 
 returns : tie.Need-returns
 returns c =

@@ -1,10 +1,10 @@
--- `page::part_end` meets its contract, by the laws of counted bytes. Assumes nothing.
+-- `stream::part_end` meets its contract, by the laws of counted bytes. Assumes nothing.
 use mathlib.Core.Path.{refl}
 use native.Mathlib.Omega.{arith}
-use Rattle.page.proofs.Input.{counted-none, counted-few, counted-at}
+use Rattle.stream.proofs.Parts.{counted-none, counted-few, counted-at}
 use borrow.Author.Needs.{needs}
-use Rattle.page.proofs.part_end.Statement.{statement}
-use Rattle.page.proofs.part_end.Tie as tie
+use Rattle.stream.proofs.part_end.Statement.{statement}
+use Rattle.stream.proofs.part_end.Tie as tie
 
 returns : tie.Need-returns
 returns c = let s = c .before .before in record { is = counted-none _ (s .args .at) (omega arith); within = tt }
