@@ -301,6 +301,13 @@ static void stack_row(const workload *w) {
 
 static workload main_workloads[MAIN_WORKLOADS];
 
+static const workload *main_workload(const char *name) {
+    for (int i = 0; i < MAIN_WORKLOADS; i++)
+        if (!strcmp(main_workloads[i].name, name)) return &main_workloads[i];
+    printf("no workload %s\n", name);
+    exit(2);
+}
+
 static void growth(void) {
     static const unsigned symbols[] = {16, 32, 64, 128, 256, 512, 1000}, rules[] = {1, 2, 4, 8, 16, 32, 64, 128, 255};
     static workload w, base;
@@ -316,6 +323,8 @@ static void growth(void) {
         make_rules_base(&base, rules[i]);
         row("rules", ready(&w), ready(&base), rules[i], 1);
     }
+    for (uint8_t units = 1; units <= 8; units++) row("units", main_workload("payee1000"), NULL, units, units);
+    for (uint8_t units = 1; units <= 8; units++) row("units", main_workload("sort"), NULL, units, units);
 }
 
 // Two payees that differ in the first letter, in another, in none. The first is the base of the others.
@@ -338,11 +347,8 @@ static void equal_parts(void) {
 // A single workload over and over, for a profiler.
 static void repeat(const char *name, uint8_t units, double seconds) {
     static result r;
-    for (int i = 0; i < MAIN_WORKLOADS; i++) {
-        if (strcmp(main_workloads[i].name, name)) continue;
-        job j = job_of(c_reduce, &main_workloads[i], units);
-        for (double start = now(); now() - start < 1e9 * seconds;) run(kurvneist_reduce, &j, &r);
-    }
+    job j = job_of(c_reduce, main_workload(name), units);
+    for (double start = now(); now() - start < 1e9 * seconds;) run(kurvneist_reduce, &j, &r);
 }
 
 // bench_run FILE [quick] writes the fields to FILE; bench_run - WORKLOAD UNITS SECONDS repeats a workload.

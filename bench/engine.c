@@ -2,7 +2,8 @@
 // preorder, each with the number of symbols under and including it; a unit's orders are a stack of frames of three bytes in the work area, an
 // operator's orders are a row of steps. Rules are found by a net over their left sides (net.h), built in the lent area.
 //
-// It is compiled twice. With PACKED it also makes the library's choices for rules and frames (engine.h).
+// It is compiled several times. With PACKED it also makes the library's choices for rules and frames, with LOWEST it has the FORK of before Change 9, with
+// COUNTED it counts (engine.h).
 #include "engine.h"
 #include "../library/include/kurvneist.h"
 #include "net.h"
@@ -40,6 +41,8 @@ typedef struct {
     uint8_t *work;
     net *net; // in the lent area, which is longer
     unsigned units, busy; // a bit for each busy unit
+    uint32_t queue; // the idle units in fields of four bits, the one idle longest lowest
+    unsigned idle; // the bits that they take
     uint8_t *tops[UNITS]; // the frame on top
     uint32_t budget, rewrites;
     int ending;
@@ -291,6 +294,41 @@ static void replace(engine *e, unsigned unit, unsigned offset, unsigned size) {
     }
 }
 
+// The queue of idle units.
+
+static inline void rest(engine *e, unsigned unit) {
+    e->busy &= ~(1u << unit);
+    e->queue |= (uint32_t)unit << e->idle;
+    e->idle += 4;
+}
+
+// The unit of the field that begins at a bit leaves the queue.
+static inline unsigned wake(engine *e, unsigned at) {
+    unsigned unit = e->queue >> at & 15;
+    uint32_t before = ((uint32_t)1 << at) - 1;
+    e->queue = (e->queue & before) | (e->queue >> 4 & ~before);
+    e->idle -= 4;
+    e->busy |= 1u << unit;
+    return unit;
+}
+
+// The bit at which the field of an idle unit begins.
+static inline unsigned place_of(const engine *e, unsigned unit) {
+    unsigned at = 0;
+    while ((e->queue >> at & 15) != unit) at += 4;
+    return at;
+}
+
+// FORK takes the unit that has been idle longest, which is first; with LOWEST the one of the lowest number.
+static inline unsigned place_to_take(const engine *e) {
+#ifdef LOWEST
+    return place_of(e, (unsigned)__builtin_ctz(~e->busy));
+#else
+    (void)e;
+    return 0;
+#endif
+}
+
 // Orders.
 
 // The top job, of operator o, goes on with step k and a count.
@@ -324,17 +362,16 @@ static int whole(engine *e, unsigned unit, uint8_t *top, unsigned o, unsigned of
 }
 
 static void fork_part(engine *e, unsigned unit, uint8_t *top, unsigned o, unsigned offset, unsigned k, unsigned count, unsigned argument) {
-    unsigned part = skip(e->cells, offset + 1, argument), idle = ~e->busy & ((1u << e->units) - 1);
-    if (!idle) {
+    unsigned part = skip(e->cells, offset + 1, argument);
+    if (!e->idle) {
         e->kept++;
         proceed(e, unit, top, o, offset, k, count - 1);
         push(e, unit, 0, part);
         return;
     }
-    unsigned v = (unsigned)__builtin_ctz(idle);
+    unsigned v = wake(e, place_to_take(e));
     push(e, v, EXIT + unit, (unsigned)(top - frame(e, unit, 0)) / 3);
     push(e, v, 0, part);
-    e->busy |= 1u << v;
     e->granted++;
     proceed(e, unit, top, o, offset, k, count);
 }
@@ -345,7 +382,7 @@ static void leave(engine *e, unsigned unit, const uint8_t *top) {
     e->tops[unit] -= 3;
     unsigned value = get(job) - 1024;
     set(job, value);
-    if (value < 1024) e->busy |= 1u << v;
+    if (value < 1024 && !(e->busy >> v & 1)) wake(e, place_of(e, v));
 }
 
 // A job's next order, the one of step k - 1; for k = 0 VISIT.
@@ -367,7 +404,7 @@ INLINE int job(engine *e, unsigned unit, uint8_t *top) {
         enter(e, unit, part);
     } else if (step < JOIN) fork_part(e, unit, top, o, offset, k, count, step - FORK);
     else if (count == 0) proceed(e, unit, top, o, offset, k, e->joins[16 * o + k]);
-    else e->busy &= ~(1u << unit);
+    else rest(e, unit);
     return GOING;
 }
 
@@ -376,7 +413,7 @@ INLINE int act(engine *e, unsigned unit) {
     uint8_t *top = e->tops[unit];
     if (top[0] < EXIT) return job(e, unit, top);
     if (top[0] == BINGO) return FINISHED;
-    if (top[0] == SLEEP) e->busy &= ~(1u << unit);
+    if (top[0] == SLEEP) rest(e, unit);
     else leave(e, unit, top);
     return GOING;
 }
@@ -395,11 +432,24 @@ static void count_joins(engine *e, unsigned operators) {
     }
 }
 
+// With COUNTED: what an entry of the unit adds to the counts.
+static inline void count(const engine *e, unsigned unit) {
+#ifdef COUNTED
+    unsigned busy = e->busy >> unit & 1;
+    counted.orders[unit] += busy;
+    counted.changes += busy != counted.busy[unit];
+    counted.busy[unit] = (uint8_t)busy;
+#else
+    (void)e, (void)unit;
+#endif
+}
+
 static void run_all(engine *e, const uint8_t *schedule, size_t entries) {
     int ending = GOING;
     size_t i = 0;
     while (i < entries && ending == GOING) {
         unsigned unit = schedule[i++];
+        count(e, unit);
         if (e->busy >> unit & 1) ending = act(e, unit);
     }
     e->ending = ending == GOING ? CUT : ending;
@@ -407,12 +457,15 @@ static void run_all(engine *e, const uint8_t *schedule, size_t entries) {
 }
 
 static void start(engine *e) {
+    e->busy = 1;
+    e->queue = 0;
+    e->idle = 0;
     for (unsigned u = 0; u < e->units; u++) {
         e->tops[u] = frame(e, u, 0) - 3;
         push(e, u, u ? SLEEP : BINGO, 0);
+        if (u) rest(e, u);
     }
     push(e, 0, 0, 0);
-    e->busy = 1;
     e->rewrites = 0;
     e->granted = e->kept = 0;
 }

@@ -28,4 +28,18 @@ lines_reducer c_reduce_lines;
 // The library's own choices: sides stay packed, every frame is looked at after a rewrite.
 reducer c_reduce_packed;
 lines_reducer c_reduce_lines_packed;
+
+// As c_reduce, but FORK takes the idle unit of the lowest number, as before Change 9. It keeps the queue, so that the choice alone differs.
+reducer c_reduce_lowest;
+
+// The same two, and they add to the counts, which bench_units.c has.
+reducer c_reduce_counted, c_reduce_lowest_counted;
+
+typedef struct {
+    size_t orders[8]; // the entries at which a unit was busy
+    size_t changes; // the entries that found a unit busy where its entry before found it idle, or the other way round
+    uint8_t busy[8]; // what a unit's last entry found
+} unit_counts;
+
+extern unit_counts counted;
 #endif

@@ -3,8 +3,8 @@
 //! Slips are put in from outside, so that the model itself stays plain. Those
 //! of runs are the document's own list of where hands slip.
 
-use std::collections::HashMap;
-use std::io;
+use std::collections::{HashMap, VecDeque};
+use std::{io, mem};
 
 use crate::broken_lines;
 use crate::model::{
@@ -70,10 +70,18 @@ pub enum Slip {
     Twice,
     /// The page has its line `kept` above `granted`.
     Lines,
-    /// FORK looks from unit 1 up.
+    /// FORK passes unit 0 by.
     Main,
     /// FORK takes the lowest other unit, busy or idle.
     Busy,
+    /// FORK takes the idle unit of the lowest number.
+    Lowest,
+    /// FORK takes the unit that has been idle shortest.
+    Shortest,
+    /// A unit that becomes idle stands in front of the others.
+    Newcomer,
+    /// A unit woken by an EXIT has its old place when it is idle again.
+    Woken,
     /// A waiting unit gets its work below its JOIN.
     Below,
     /// Of a repeated variable's parts only the lengths are compared.
@@ -125,7 +133,7 @@ pub enum Slip {
     Rest,
 }
 
-pub const SLIPS: [(&str, Slip); 51] = [
+pub const SLIPS: [(&str, Slip); 55] = [
     ("join", Slip::Join),
     ("list", Slip::List),
     ("zeros", Slip::Zeros),
@@ -153,6 +161,10 @@ pub const SLIPS: [(&str, Slip); 51] = [
     ("lines", Slip::Lines),
     ("main", Slip::Main),
     ("busy", Slip::Busy),
+    ("lowest", Slip::Lowest),
+    ("shortest", Slip::Shortest),
+    ("newcomer", Slip::Newcomer),
+    ("woken", Slip::Woken),
     ("below", Slip::Below),
     ("lengths", Slip::Lengths),
     ("last", Slip::Last),
@@ -390,6 +402,7 @@ impl BrokenModel {
 
     fn run<'b>(&self, machine: &mut Machine<'b>, schedule: &[u8], singles: &'b [Book]) -> u8 {
         let mut open = HashMap::new();
+        let mut places = machine.queue.iter().copied().collect();
         let walker = Walker::new(machine.book);
         for &unit in schedule {
             let unit = usize::from(unit);
@@ -400,12 +413,11 @@ impl BrokenModel {
                 Slip::Copies => entry_counting_copies_once(machine, unit),
                 Slip::Kept => entry_counting_at_joins(machine, unit, &mut open),
                 Slip::Twice => entry_counting_grants_twice(machine, unit),
-                Slip::Main => {
-                    entry_with_states(machine, unit, |other| (other == 0).then_some(true))
+                Slip::Main | Slip::Busy | Slip::Lowest | Slip::Shortest => {
+                    entry_with_queue(machine, unit, self.slip)
                 }
-                Slip::Busy => {
-                    entry_with_states(machine, unit, |other| (other != unit).then_some(false))
-                }
+                Slip::Newcomer => entry_queueing_in_front(machine, unit),
+                Slip::Woken => entry_keeping_places(machine, unit, &mut places),
                 Slip::Below => entry_working_below(machine, unit),
                 Slip::Lengths | Slip::Last | Slip::Anew => {
                     entry_taking_as_alike(machine, unit, self.slip)
@@ -592,26 +604,63 @@ fn entry_counting_grants_twice(machine: &mut Machine, unit: usize) -> Option<u8>
     ending
 }
 
-/// A FORK sees units as busy or idle where `seen` says so; a unit that gets no
-/// part has its own state again afterwards.
-fn entry_with_states(
-    machine: &mut Machine,
-    unit: usize,
-    seen: impl Fn(usize) -> Option<bool>,
-) -> Option<u8> {
+/// A FORK sees another queue. The unit that gets its part is then taken from
+/// the one that there is.
+fn entry_with_queue(machine: &mut Machine, unit: usize, slip: Slip) -> Option<u8> {
     if !is_due(machine, unit, |order| matches!(order, Order::Fork { .. })) {
         return machine.entry(unit);
     }
-    let before: Vec<(bool, usize)> = machine.units.iter().map(state_and_height).collect();
-    for (other, unit) in machine.units.iter_mut().enumerate() {
-        unit.busy = seen(other).unwrap_or(unit.busy);
-    }
+    let seen = seen_queue(machine, unit, slip);
+    let mut queue = mem::replace(&mut machine.queue, seen.clone());
+    let granted = machine.granted;
     let ending = machine.entry(unit);
-    for (unit, (busy, height)) in machine.units.iter_mut().zip(before) {
-        if unit.orders.len() <= height {
-            unit.busy = busy;
+    if machine.granted > granted {
+        queue.retain(|&idle| idle != seen[0]);
+    }
+    machine.queue = queue;
+    ending
+}
+
+fn seen_queue(machine: &Machine, unit: usize, slip: Slip) -> VecDeque<usize> {
+    let mut queue = machine.queue.clone();
+    match slip {
+        Slip::Main => queue.retain(|&idle| idle != 0),
+        Slip::Busy => {
+            queue = (0..machine.units.len())
+                .filter(|&other| other != unit)
+                .collect()
+        }
+        Slip::Lowest => queue.make_contiguous().sort_unstable(),
+        _ => queue.make_contiguous().reverse(),
+    }
+    queue
+}
+
+fn entry_queueing_in_front(machine: &mut Machine, unit: usize) -> Option<u8> {
+    let idle = machine.queue.len();
+    let ending = machine.entry(unit);
+    if machine.queue.len() > idle {
+        machine.queue.rotate_right(1);
+    }
+    ending
+}
+
+/// `places` are the queue with the woken units still in it; one that becomes
+/// idle again has its old place.
+fn entry_keeping_places(machine: &mut Machine, unit: usize, places: &mut Vec<usize>) -> Option<u8> {
+    let is_fork = is_due(machine, unit, |order| matches!(order, Order::Fork { .. }));
+    let first = machine.queue.front().copied();
+    let ending = machine.entry(unit);
+    if is_fork {
+        places.retain(|&place| Some(place) != first);
+    }
+    for &idle in &machine.queue {
+        if !places.contains(&idle) {
+            places.push(idle);
         }
     }
+    let is_idle = |place: &usize| !machine.units[*place].busy;
+    machine.queue = places.iter().copied().filter(is_idle).collect();
     ending
 }
 

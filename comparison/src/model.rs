@@ -5,6 +5,7 @@
 //! so that a step can be held against its sentence there; nothing is arranged
 //! for speed.
 
+use std::collections::VecDeque;
 use std::fmt::Write;
 
 pub const TERM_LIMIT: usize = 1024;
@@ -870,6 +871,8 @@ pub struct Machine<'b> {
     pub size: usize,
     pub size_limit: usize,
     pub units: Vec<Unit>,
+    /// The idle units, the one that has been idle longest in front.
+    pub queue: VecDeque<usize>,
     pub budget: u64,
     pub rewrites: u64,
     pub entries: u64,
@@ -887,6 +890,7 @@ impl<'b> Machine<'b> {
             size_limit: TERM_LIMIT,
             term: line,
             units: [Unit::main()].into_iter().chain(others).collect(),
+            queue: (1..usize::from(units)).collect(),
             budget: u64::from(budget),
             rewrites: 0,
             entries: 0,
@@ -946,7 +950,7 @@ impl<'b> Machine<'b> {
     }
 
     fn fork(&mut self, unit: usize, argument: Position, join: usize) {
-        match self.lowest_idle() {
+        match self.queue.pop_front() {
             Some(helper) => {
                 self.granted += 1;
                 let helper = &mut self.units[helper];
@@ -962,21 +966,19 @@ impl<'b> Machine<'b> {
         }
     }
 
-    /// From unit 0 up: the main unit is idle while it waits at a JOIN.
-    fn lowest_idle(&self) -> Option<usize> {
-        self.units.iter().position(|unit| !unit.busy)
-    }
-
     fn wait(&mut self, unit: usize, top: Order) {
         self.units[unit].orders.push(top);
         self.units[unit].busy = false;
+        self.queue.push_back(unit);
     }
 
-    /// The woken unit tests its own top order at its next entry: that may be
-    /// another JOIN than the one whose count fell.
+    /// A woken unit leaves its place in the queue. It tests its own top order
+    /// at its next entry: that may be another JOIN than the one whose count
+    /// fell.
     fn exit(&mut self, parent: usize, join: usize) {
         if self.lower_count(parent, join) == 0 {
             self.units[parent].busy = true;
+            self.queue.retain(|&idle| idle != parent);
         }
     }
 

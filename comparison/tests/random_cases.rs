@@ -90,6 +90,50 @@ fn some_unit_can_act_and_joins_count_what_is_open() {
     }
 }
 
+/// The queue has each idle unit once, and no other; a FORK's part goes to a
+/// unit that no other has been idle longer than, and of those idle as long to
+/// the lowest.
+#[test]
+fn the_longest_idle_unit_gets_the_part() {
+    let (mut grants, mut past_a_lower) = (0, 0);
+    for (case, _) in runs(31).take(1000) {
+        let book = read_book(&case.book()).unwrap().on_day(case.day);
+        let line = read_line(&book, &case.line).unwrap();
+        let mut machine = Machine::new(&book, line, case.units, case.budget);
+        // The entry at which each unit became idle.
+        let mut since: Vec<usize> = vec![0; machine.units.len()];
+        for (entry, &unit) in (1..).zip(&case.schedule) {
+            let (before, granted) = (machine.units.clone(), machine.granted);
+            if machine.entry(unit.into()).is_some() {
+                break;
+            }
+            assert_queue_is_of_idle_units(&machine, &case);
+            if machine.granted > granted {
+                let idle = (0..before.len()).filter(|&unit| !before[unit].busy);
+                let due = idle.clone().min_by_key(|&unit| (since[unit], unit));
+                assert_eq!(Some(helper(&before, &machine.units)), due, "{case:?}");
+                grants += 1;
+                past_a_lower += u64::from(due != idle.min());
+            }
+            for (number, since) in since.iter_mut().enumerate() {
+                if before[number].busy && !machine.units[number].busy {
+                    *since = entry;
+                }
+            }
+        }
+    }
+    assert!(grants > 1000, "{grants} grants");
+    assert!(past_a_lower > 100, "{past_a_lower} past a lower unit");
+}
+
+fn assert_queue_is_of_idle_units(machine: &Machine, case: &Case) {
+    let mut queue: Vec<usize> = machine.queue.iter().copied().collect();
+    queue.sort_unstable();
+    let is_idle = |unit: &usize| !machine.units[*unit].busy;
+    let idle: Vec<usize> = (0..machine.units.len()).filter(is_idle).collect();
+    assert_eq!(queue, idle, "{case:?}");
+}
+
 /// When a FORK gives work to a unit, that unit has SLEEP or a JOIN with a count
 /// above 0 on top, unit 0 never SLEEP. The orders below stay as they are, but
 /// for the counts of JOINs, until the work has exited.

@@ -376,7 +376,7 @@ fn unit_woken_at_another_join_waits_again() {
 }
 
 #[test]
-fn lowest_idle_unit_gets_the_part() {
+fn at_the_start_unit_1_has_been_idle_longest() {
     let found = ask(&book_p(), &LINE_P, 8, 9, &[0, 0, 1, 1, 1, 1]).unwrap();
     assert_eq!(found.granted, 1);
     let book = read_book(&book_p().encode()).unwrap();
@@ -384,6 +384,7 @@ fn lowest_idle_unit_gets_the_part() {
     machine.run(&[0, 0]);
     let busy: Vec<bool> = machine.units.iter().map(|unit| unit.busy).collect();
     assert_eq!(busy, [true, true, false, false, false, false, false, false]);
+    assert_eq!(machine.queue, [2, 3, 4, 5, 6, 7]);
 }
 
 /// A node with both arguments in a group, and no rules.
@@ -417,6 +418,30 @@ fn main_unit_helps_while_it_waits() {
     assert_eq!(machine.units[0].orders, waiting);
     assert!(!machine.units[0].busy);
     assert_eq!(machine.run(&[0, 1].repeat(10)), ending::FINISHED);
+}
+
+#[test]
+fn woken_unit_leaves_its_place() {
+    let book = read_book(&nodes().encode()).unwrap();
+    let line = [1, 1, 0, 0, 0];
+    let mut machine = Machine::new(&book, read_line(&book, &line).unwrap(), 3, 9);
+    // Unit 0 waits for unit 1, behind unit 2.
+    machine.run(&[0; 5]);
+    assert_eq!(machine.queue, [2, 0]);
+    // Unit 2 gets the inner part, though unit 0 is idle; then unit 1 waits.
+    machine.run(&[1; 5]);
+    assert_eq!(machine.queue, [0, 1]);
+    // Unit 2 wakes unit 1 from behind unit 0, and sleeps.
+    machine.run(&[2; 4]);
+    assert_eq!(machine.queue, [0, 2]);
+    // An entry for an idle unit changes nothing.
+    machine.run(&[2, 0, 2]);
+    assert_eq!(machine.queue, [0, 2]);
+    // Unit 1 wakes unit 0 from the front.
+    machine.run(&[1; 3]);
+    assert_eq!(machine.queue, [2]);
+    assert_eq!(machine.run(&[1, 0, 0, 0]), ending::FINISHED);
+    assert_eq!(machine.queue, [2, 1]);
 }
 
 #[test]

@@ -59,7 +59,7 @@ fn every_command_says_what_the_tour_shows() {
         }
     }
     assert!(commands >= 10);
-    for picture in ["etoile", "helping", "statement"] {
+    for picture in ["etoile", "helping", "queue", "statement"] {
         let picture = &format!("examples/{picture}.svg");
         let drawn = fs::read_to_string(folder.join(picture)).unwrap();
         assert_eq!(drawn, fs::read_to_string(picture).unwrap());

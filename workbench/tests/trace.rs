@@ -64,12 +64,38 @@ fn traces_equal_the_engine_and_count_what_it_counts() {
         assert_eq!(keeps, trace.kept);
         assert!(trace.steps.len() <= request.schedule.len());
         states_fit(&trace);
+        queue_fits(&trace);
         pictured(named, &trace);
     });
     assert!(traced > 200, "{traced}");
     assert!(granted > 200 && kept > 200, "{granted} {kept}");
     assert!(helped > 20, "unit 0 took {helped} parts");
     assert!(endings.iter().all(|number| *number > 0), "{endings:?}");
+}
+
+/// The queue has the units that are not busy, each once, and a part goes to the
+/// first: to one that has been idle for as long as any other.
+fn queue_fits(trace: &Trace) {
+    let mut queue: Vec<usize> = (1..trace.units).collect();
+    for (entry, step) in trace.steps.iter().enumerate() {
+        for unit in 0..trace.units {
+            let place = queue.iter().position(|&idle| idle == unit);
+            assert_eq!(trace.place(unit, entry), place.map(|place| place + 1));
+        }
+        let mut due = queue;
+        match step.deed {
+            Deed::Fork(Some(unit)) => assert_eq!(due.remove(0), unit),
+            Deed::Fork(None) => assert!(due.is_empty()),
+            Deed::Exit { unit, woken, .. } if woken => due.retain(|&idle| idle != unit),
+            Deed::Join(1..) | Deed::Sleep => due.push(step.unit),
+            _ => {}
+        }
+        assert_eq!(step.queue, due);
+        for (unit, state) in step.states.iter().enumerate() {
+            assert_eq!(state.acts(), !due.contains(&unit));
+        }
+        queue = due;
+    }
 }
 
 /// A unit acts exactly if it was busy, waits exactly after a JOIN that didn't
@@ -281,6 +307,60 @@ fn unit_0_helps_above_its_join() {
     assert_eq!(boxes("y=\"74.0\"", "height=\"18\" fill=\"#9ccbee\""), 1);
     assert_eq!(boxes("y=\"92.0\"", "height=\"8\" fill=\"url(#waits)\""), 1);
     assert!(picture.contains("V91.0\" stroke=\"#00664b\""));
+}
+
+/// Unit 3 was never busy, unit 0 waits for long, and unit 2 has just gone to
+/// sleep: their places are drawn where they change, in the lanes that begin at
+/// 74, 166 and 212.
+#[test]
+fn parts_go_to_the_unit_idle_longest() {
+    let picture = file("queue.svg", "");
+    let line = "both(line(payee(Weiß), rent-and-charges), 1600-deposits)";
+    let words = ["trace", "examples/payees.book", line, "--units=4", "--svg"];
+    let ran = kurvneist(&[&words[..], &[&picture]].concat());
+    assert_eq!(ran.status, 0);
+    let taken: Vec<&str> = ran
+        .output
+        .lines()
+        .filter(|row| row.contains("takes"))
+        .map(|row| row[..65].trim_end())
+        .collect();
+    assert_eq!(
+        taken,
+        [
+            "    5     0  FORK   unit 1, idle longest, takes this part",
+            "   10     1  FORK   unit 2, idle longest, takes this part",
+            "   42     1  FORK   unit 3, idle longest, takes this part",
+            "   48     3  FORK   unit 0, idle longest, takes it above its JOIN",
+            "   50     1  FORK   unit 2 takes this part",
+        ]
+    );
+    let picture = std::fs::read_to_string(picture).unwrap();
+    well_formed(&picture);
+    assert!(picture.contains("the one idle longest first: a FORK takes number 1"));
+    // The number behind the last mark of each line of the lane.
+    let places = |lane: f64| -> Vec<&str> {
+        let mark = format!("y=\"{:.1}\" font-size=\"10\"", lane + 7.0);
+        let lines = picture.lines().filter(|line| line.contains(&mark));
+        lines
+            .map(|line| line.strip_suffix("</text>").unwrap())
+            .map(|line| line.rsplit_once('>').unwrap().1)
+            .collect()
+    };
+    assert_eq!(places(74.0)[..2], ["2", "1"]);
+    assert_eq!(places(166.0)[..2], ["2", "1"]);
+    assert_eq!(places(212.0)[..3], ["3", "2", "1"]);
+}
+
+/// Of two units at most one is idle.
+#[test]
+fn a_picture_of_two_units_has_no_places() {
+    let picture = file("two.svg", "");
+    let line = "both(tick(end), tick(end))";
+    let words = ["trace", "examples/ticks.book", line, "--units=2", "--svg"];
+    assert_eq!(kurvneist(&[&words[..], &[&picture]].concat()).status, 0);
+    let picture = std::fs::read_to_string(picture).unwrap();
+    assert!(!picture.contains("class=\"place\"") && !picture.contains("idle longest"));
 }
 
 #[test]

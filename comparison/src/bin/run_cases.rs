@@ -149,6 +149,10 @@ fn check(cases: &[Case]) {
         Slip::Twice,
         Slip::Main,
         Slip::Busy,
+        Slip::Lowest,
+        Slip::Shortest,
+        Slip::Newcomer,
+        Slip::Woken,
         Slip::Below,
         Slip::Lengths,
         Slip::Last,
@@ -218,6 +222,7 @@ fn picked_cases() -> Vec<Case> {
             main_unit("1024 symbols, mostly unit 0's, above its JOIN, cut", 2000),
         ],
         helping_cases(),
+        queue_cases(),
         matching_cases(),
         net_cases(),
         dated_cases(),
@@ -754,9 +759,39 @@ fn helping_cases() -> Vec<Case> {
         nodes("two units lend to each other", 40).schedule(by_sixes(42)),
         nodes("two units lend to each other, 1023 symbols", 511).schedule(by_sixes(520)),
         nodes("two units lend to each other, cut at the deepest", 511).schedule(by_sixes(256)),
-        nodes("unit 0 before unit 2, both idle", 2)
-            .units(3)
-            .schedule(lent(2, &[0, 1, 2].repeat(14))),
+    ]
+}
+
+/// A node over two of the depth below, down to 0.
+fn full(depth: usize) -> Vec<u8> {
+    match depth {
+        0 => vec![0],
+        _ => [vec![1], full(depth - 1), full(depth - 1)].concat(),
+    }
+}
+
+fn queue_cases() -> Vec<Case> {
+    let nodes = |name, line: Vec<u8>, units| {
+        case(name, nodes_book())
+            .line(line)
+            .units(units)
+            .budget(2000)
+    };
+    let bursts = |units: u8, length: usize, times: usize| {
+        let burst = |unit: u8| vec![unit; length];
+        (0..units)
+            .flat_map(burst)
+            .collect::<Vec<u8>>()
+            .repeat(times)
+    };
+    vec![
+        nodes("unit 2 before unit 0, idle longer", leaning(2), 3)
+            .schedule([&[0; 5][..], &[1; 2], &[0, 1, 2].repeat(14)].concat()),
+        nodes("three units, each woken and idle again", full(3), 3).schedule(bursts(3, 4, 20)),
+        nodes("four units share a full tree", full(4), 4).turns(400),
+        nodes("four units share a full tree in bursts", full(4), 4).schedule(bursts(4, 5, 20)),
+        nodes("eight units share a full tree", full(5), 8).turns(600),
+        nodes("eight units share a full tree, cut", full(5), 8).turns(100),
     ]
 }
 

@@ -9,7 +9,8 @@ use borrow.Author.Tests.{le-ltb}
 use Rattle.paper.specs.Result.{accepted}
 use Rattle.paper.specs.Tree.{Correct, size, preorder}
 use Rattle.paper.specs.Book.{Book, arity}
-use Rattle.paper.specs.Run.{Answer, run}
+use Rattle.paper.specs.Machine.{in-force}
+use Rattle.paper.specs.Run.{Answer, run, moments}
 use Rattle.paper.specs.Line.{readLine}
 use Rattle.paper.specs.Page.{all-below}
 use Rattle.paper.specs.Sound.{All}
@@ -19,7 +20,9 @@ use Rattle.paper.proofs.Line.{line-correct}
 use Rattle.paper.proofs.Trees.{size-preorder}
 use Rattle.paper.proofs.Above.{helps}
 use Rattle.paper.proofs.Demand3.{demand-3, forks-within}
+use Rattle.paper.proofs.Longest.{picks-longest}
 use Rattle.paper.proofs.OneUnit.{grants, accounted}
+use Rattle.paper.proofs.Queue.{queued-throughout}
 use Rattle.flat.specs.Machine.{FlatState, flat-start}
 use Rattle.flat.specs.Rules.{spells}
 use Rattle.flat.specs.Run.{FlatAnswer, flat-run, flat-run-from, Reached, flatten}
@@ -168,7 +171,7 @@ module _ {l : Limits} {schedule book table net bytes : List ℕ} {n work : ℕ} 
           accepted (record { ending = a .ending; rewrites = a .rewrites; entries = a .entries; granted = a .granted; kept = a .kept; length = n })) answer-is length-is
 
       pub posted : Posted B line l schedule symbols′ r
-      unfolding run
+      unfolding run moments
       posted =
           let read = o .netted .tables .read in
           let d = demand-3 book line (any-book book) (day-of net) (g .term) read (g .term-read) units budget schedule in
@@ -181,6 +184,8 @@ module _ {l : Limits} {schedule book table net bytes : List ℕ} {n work : ℕ} 
               is = refl;
               demand-3 = d;
               helps = helps book line (any-book book) (day-of net) (g .term) read (g .term-read) units budget schedule;
+              queued = queued-throughout in-force B (limited budget) units schedule (g .term);
+              picks = picks-longest in-force B (limited budget) units schedule (g .term);
               posting = d .posting;
               grants = grants B sound (g .term) (of-line .0) (limited budget) units schedule;
               accounted = accounted B sound (g .term) (of-line .0) (limited budget) units schedule;

@@ -1,7 +1,7 @@
 -- The entry points of a run: which definition their answers equal, and what becomes of the lent buffers (document 01, 'What is checked where', 'How a
--- run ends', 'What a reviewer will try, in order'; document 02, Changes 1 to 3, 5 and 8). Assumes nothing.
+-- run ends', 'What a reviewer will try, in order'; document 02, Changes 1 to 3, 5, 8 and 9). Assumes nothing.
 use mathlib.Core.Bool.{true}
-use mathlib.Core.List.{List, _++_}
+use mathlib.Core.List.{List, [], _++_}
 use mathlib.Core.Path.{_≡_}
 use Prim.Native.Nat.{ℕ, _+_, _≤_}
 use lib.ListN.{length, drop, replicate}
@@ -12,11 +12,11 @@ use Rattle.paper.specs.Dated.{AnyBook, readAny, on-day}
 use Rattle.paper.specs.Line.{readLine}
 use Rattle.paper.specs.Text.{readText}
 use Rattle.paper.specs.Reduction.{rewrites, Reduces}
-use Rattle.paper.specs.Machine.{Ending, in-force}
-use Rattle.paper.specs.Run.{Answer, run}
+use Rattle.paper.specs.Machine.{Ending, in-force, start}
+use Rattle.paper.specs.Run.{Answer, run, moments}
 use Rattle.paper.specs.OneUnit.{Grants, Accounted}
-use Rattle.paper.specs.Demand3.{Demand3}
-use Rattle.paper.specs.Idle.{Helps}
+use Rattle.paper.specs.Demand3.{Demand3, Throughout}
+use Rattle.paper.specs.Idle.{Queued, PicksLongest, WithPast, Helps}
 use Rattle.paper.specs.Page.{Request, Lengths, LineReader, all-below, answerBy}
 use Rattle.entry.specs.State.{limited}
 use Rattle.run.specs.Contracts.{ending}
@@ -97,6 +97,9 @@ pub record RunHolds (rules : Book) (term : Term) (units budget : ℕ) (schedule 
   pub demand-3 : Demand3 in-force rules (limited budget) units schedule term
   -- work that an idle unit takes, unit 0 at its JOIN included, lies above what it waited at; a finished run has left nothing to do
   pub helps : Helps in-force rules (limited budget) units schedule term
+  -- in each of its states a unit is idle exactly if it stands in the queue, once; and a FORK there would take the unit that has been idle longest
+  pub queued : Throughout Queued (start units term) (moments rules (limited budget) units schedule term)
+  pub picks : WithPast PicksLongest (start units term) [] (moments rules (limited budget) units schedule term)
   -- a posting: term and rewrites of a finished run are those of reduction one after the other
   pub posting : A .ending ≡ Ending.finished → Reduces rules rewrites term (A .rewrites) (A .term)
   -- FORKs granted in a finished run are at most the FORK orders of a one-unit run without symbol limit

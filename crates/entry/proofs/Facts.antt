@@ -34,10 +34,10 @@ use Rattle.term.specs.Present.{length-in, Sized}
 use Rattle.term.proofs.Skipping.{sizes-book, spells-book}
 use Rattle.net.specs.Net.{book-by}
 use Rattle.net.proofs.Laws.{tables-by}
-use Rattle.units.specs.Stacks.{store, height-in, busy-in, unit-in}
+use Rattle.units.specs.Stacks.{store, rank-in, busy-in, height-in, unit-in}
 use Rattle.units.specs.Contracts.{Top-is, Has-frame}
 use Rattle.units.specs.declared.frames.Job.{Job}
-use Rattle.units.proofs.Units.{length-units, unit-at, height-at}
+use Rattle.units.proofs.Units.{length-units, unit-at, height-at, busy-rank, idle-rank}
 use Rattle.orders.specs.Contracts.{Can-proceed}
 use Rattle.whole.specs.declared.Progress.{Progress}
 use Rattle.whole.specs.declared.Limits.{Limits}
@@ -107,14 +107,18 @@ module _ {bytes operators net symbols scratch work units : List ℕ} {u : ℕ} {
   pub has-frame : Has-frame (store work units) u 0
   has-frame = record { fit = z .fit; unit = unit-small; index = omega (arith, height-is u (t .one), stack-there u) }
 
-  busy-kept : unit (s .units) u .busy ≡ busy-in units u
-  busy-kept = ap (λ (x : FlatUnit). x .busy) (unit-at work units (l .units) u (t .one))
+  rank-kept : unit (s .units) u .rank ≡ rank-in units u
+  rank-kept = ap (λ (x : FlatUnit). x .rank) (unit-at work units (l .units) u (t .one))
 
   -- AN IDLE UNIT
 
   pub idle-entry : busy-in units u ≡ false → flat-entry B L u s ≡ going s
   unfolding flat-entry turn
-  idle-entry e = rw (busy-kept ∙ e)
+  idle-entry e = go (unit (s .units) u .rank) (omega (arith, rank-kept, idle-rank units u e))
+    where
+      go : (k : ℕ) → 1 ≤ k → turn B L u s k (stack s u) ≡ going s
+      go zero h = absurd (omega arith)
+      go (suc k) h = refl
 
   -- A BUSY UNIT with the frame f on top
 
@@ -125,12 +129,12 @@ module _ {bytes operators net symbols scratch work units : List ℕ} {u : ℕ} {
     pub stack-is : stack s u ≡ f ∷ below
     stack-is = top .stack (l .units) (t .one)
 
-    pub unit-is : unit (s .units) u ≡ flat-unit true (f ∷ below)
-    unit-is = ap₂ flat-unit (busy-kept ∙ b) stack-is
+    pub unit-is : unit (s .units) u ≡ flat-unit 0 (f ∷ below)
+    unit-is = ap₂ flat-unit (rank-kept ∙ busy-rank units u b) stack-is
 
     pub entry-is : flat-entry B L u s ≡ carry-out B L u s below f
     unfolding flat-entry turn
-    entry-is = ap₂ (turn B L u s) (busy-kept ∙ b) stack-is
+    entry-is = ap₂ (turn B L u s) (rank-kept ∙ busy-rank units u b) stack-is
 
     pub top-in : In f (stack s u)
     top-in = subst (λ (fs : List Frame). In f fs) (sym stack-is) (inl refl)

@@ -11,9 +11,9 @@ use lib.ListN.{set as put}
 use lib.Seq.{getD-set-same}
 use Rattle.paper.specs.Strategy.{Step}
 use Rattle.paper.specs.Book.{arity, steps}
-use Rattle.flat.specs.Machine.{Frame, FlatUnit, flat-unit, asleep, FlatState, FlatOutcome, going, proceed, idle, idle-from, do-fork, do-step, flat-entry}
+use Rattle.flat.specs.Machine.{Frame, FlatUnit, flat-unit, asleep, FlatState, FlatOutcome, unit, going, proceed, first-idle, do-fork, do-step, flat-entry}
 use Rattle.flat.specs.Rules.{stack}
-use Rattle.flat.proofs.Idle.{idle-is, idle-other}
+use Rattle.flat.proofs.Idle.{idle-is, idle-other, leave-stack}
 use Rattle.flat.proofs.Inside.{fork-within}
 use Rattle.tables.specs.Layout.{step-of, code-in, steps-in}
 use Rattle.net.proofs.Laws.{tables-by}
@@ -59,39 +59,40 @@ module _ {bytes operators net symbols scratch work units : List ℕ} {u : ℕ} {
   said = argument-said (tables-by (r .netted)) (s .symbols) (r .known) x i there
 
   -- by the answer of the search for an idle unit
-  by-idle : (v : Option ℕ) → idle (s .units) ≡ v →
+  by-idle : (v : Option ℕ) → first-idle (s .units) ≡ v →
       flat-entry (F.B z r t) (F.L z r t) u s ≡ do-fork (F.B z r t) (F.L z r t) u s (x .offset) (a .offset) (x .next) (x .count) (drop (x .next) ss) fs v
   unfolding do-step
   by-idle v q =
       orders.step-entry z r t w one e
-      ∙ ap (λ (b : O.Argument). do-fork (F.B z r t) (F.L z r t) u s (x .offset) (b .offset) (x .next) (x .count) (drop (x .next) ss) fs (idle (s .units))) (sym said)
+      ∙ ap (λ (b : O.Argument). do-fork (F.B z r t) (F.L z r t) u s (x .offset) (b .offset) (x .next) (x .count) (drop (x .next) ss) fs (first-idle (s .units))) (sym said)
       ∙ ap (do-fork (F.B z r t) (F.L z r t) u s (x .offset) (a .offset) (x .next) (x .count) (drop (x .next) ss) fs) q
 
   inside : u < length (s .units)
   inside = omega (arith, F.units-count z r t, t .one)
 
   -- a unit's stack after the entry
-  stack-fits : (s′ : FlatState) (us : List FlatUnit) (v : ℕ) (y : FlatUnit) → flat-entry (F.B z r t) (F.L z r t) u s ≡ going s′ → s′ .units ≡ put us v y →
+  stack-fits : (s′ : FlatState) (us : List FlatUnit) (v : ℕ) (y : FlatUnit) → flat-entry (F.B z r t) (F.L z r t) u s ≡ going s′ → stack s′ v ≡ unit (put us v y) v .stack →
       v < length us → length (y .stack) ≤ 1026
   stack-fits s′ us v y q h m =
-      omega (arith, F.room-after z r t s′ q v, ap (λ (us : List FlatUnit). length (getD us v asleep .stack)) h, ap (λ (y : FlatUnit). length (y .stack)) (getD-set-same us v y asleep m))
+      omega (arith, F.room-after z r t s′ q v, ap length h, ap (λ (y : FlatUnit). length (y .stack)) (getD-set-same us v y (asleep 1) m))
 
   -- kept: the stack after the entry fits
-  kept-fits : idle (s .units) ≡ none → O.Room-for (O.keeps ss x (a .offset)) u (store work units)
+  kept-fits : first-idle (s .units) ≡ none → O.Room-for (O.keeps ss x (a .offset)) u (store work units)
   unfolding do-fork
   kept-fits q =
       subst (λ (gs : List Frame). length (O.keeps ss x (a .offset) gs) ≤ 1026) (sym (F.stack-kept z r t u (t .one)))
-      (stack-fits _ (s .units) u (flat-unit true (O.keeps ss x (a .offset) (stack s u))) (by-idle none q) refl inside)
+      (stack-fits _ (s .units) u (flat-unit 0 (O.keeps ss x (a .offset) (stack s u))) (by-idle none q) refl inside)
 
   -- granted: two frames more fit on the idle unit's stack
-  granted-fits : (v : ℕ) → idle (s .units) ≡ some v → (v ≢ u) × (height-in units v + 2 ≤ 1026)
+  granted-fits : (v : ℕ) → first-idle (s .units) ≡ some v → (v ≢ u) × (height-in units v + 2 ≤ 1026)
   unfolding do-fork
   granted-fits v q =
       let m = idle-is (s .units) v q .0 in
-      let us = put (s .units) u (flat-unit true (O.goes-on ss x (x .count) (stack s u))) in
-      let y = flat-unit true (Frame.job (a .offset) 0 0 ∷ Frame.exit u (length fs) ∷ stack s v) in
-      let h = stack-fits _ us v y (by-idle (some v) q) refl (omega (arith, m, length-set (s .units) u (flat-unit true (O.goes-on ss x (x .count) (stack s u))))) in (
-        idle-other (s .units) u v q (ap (λ (b : FlatUnit). b .busy) (F.unit-is z r t (w .busy) (w .top))),
+      let us = put (s .units) u (flat-unit 0 (O.goes-on ss x (x .count) (stack s u))) in
+      let y = flat-unit (unit (s .units) v .rank) (Frame.job (a .offset) 0 0 ∷ Frame.exit u (length fs) ∷ stack s v) in
+      let h = stack-fits _ us v y (by-idle (some v) q) (leave-stack 1 (put us v y) v)
+      (omega (arith, m, length-set (s .units) u (flat-unit 0 (O.goes-on ss x (x .count) (stack s u))))) in (
+        idle-other (s .units) u v q (ap (λ (b : FlatUnit). b .rank) (F.unit-is z r t (w .busy) (w .top))),
         omega (arith, h, F.height-is z r t v (omega (arith, m, F.units-count z r t))),
       )
 

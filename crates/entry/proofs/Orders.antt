@@ -1,7 +1,7 @@
 -- Entries that leave the term and the counts as they are: an idle unit's, BINGO's, VISIT's, JOIN's, EXIT's, SLEEP's, and WHOLE's with no match. What the
 -- code asks holds of each state that runs reach, and what it leaves is the machine's outcome. Assumes nothing.
 use mathlib.Core.Path.{_≡_, refl, sym, ap, subst, subst₂, _∙_}
-use mathlib.Core.Bool.{Bool, true, false}
+use mathlib.Core.Bool.{true, false}
 use mathlib.Core.List.{List, _∷_}
 use mathlib.Core.Option.{some}
 use Prim.Native.Nat.{ℕ, zero, suc, _-_, _≤_, _<_}
@@ -19,7 +19,7 @@ use Rattle.flat.proofs.Sizes.{arguments-inside}
 use Rattle.tables.specs.Layout.{step-of, code-in, steps-in, Rowed}
 use Rattle.net.proofs.Laws.{tables-by}
 use Rattle.units.specs.Stacks.{store, busy-in, units-in, unit-in}
-use Rattle.units.specs.Contracts.{Top-is, Stacks-fit, Has-frame, Cell-changed, idled}
+use Rattle.units.specs.Contracts.{Top-is, Stacks-fit, Has-frame, Cell-idled}
 use Rattle.units.specs.declared.frames.Job.{Job}
 use Rattle.units.specs.declared.frames.Exit.{Exit}
 use Rattle.orders.specs.Contracts as O
@@ -56,7 +56,7 @@ module _ {bytes operators net symbols scratch work units : List ℕ} {u : ℕ} {
   finished b top = (sym (F.entry-is z r t b top), z)
 
   -- SLEEP
-  pub slept : busy-in units u ≡ true → Top-is u Frame.sleep (store work units) → {units′ : List ℕ} → Cell-changed u idled units units′ → GoesOn work units′
+  pub slept : busy-in units u ≡ true → Top-is u Frame.sleep (store work units) → {units′ : List ℕ} → Cell-idled (l .units) u units units′ → GoesOn work units′
   slept b top d =
       went-on (d .change work (z .fit) .fit)
       (F.entry-is z r t b top
@@ -65,15 +65,15 @@ module _ {bytes operators net symbols scratch work units : List ℕ} {u : ℕ} {
 
   -- EXIT
   module _ {x : Exit} (b : busy-in units u ≡ true) (top : Top-is u (Frame.exit (x .unit) (x .index)) (store work units)) where
+    joins-there : x .unit < l .units
+    joins-there = omega (arith, exit-unit (F.rules-hold z r t) u (x .unit) (x .index) (F.top-in z r t b top), F.units-count z r t)
+
     pub exit-asks : O.Can-exit x u (store work units)
     exit-asks =
-        let q = F.rules-hold z r t in
-        let i = F.top-in z r t b top in
-        let e = q .exits u (x .unit) (x .index) i in
-        let h : x .unit < l .units = omega (arith, exit-unit q u (x .unit) (x .index) i, F.units-count z r t) in
+        let e = F.rules-hold z r t .exits u (x .unit) (x .index) (F.top-in z r t b top) in
         record {
           top = F.has-frame z r t;
-          join = record { fit = z .fit; unit = omega (arith, h, z .few); index = omega (arith, e .1, F.height-is z r t (x .unit) h) };
+          join = record { fit = z .fit; unit = omega (arith, joins-there, z .few); index = omega (arith, e .1, F.height-is z r t (x .unit) joins-there) };
           other = e .0;
         }
 
@@ -81,7 +81,8 @@ module _ {bytes operators net symbols scratch work units : List ℕ} {u : ℕ} {
     exited d =
         went-on (d .fit)
         (F.entry-is z r t b top
-        ∙ entries.exit-entry (F.B z r t) (F.L z r t) u (l .units) s (store work units) refl (t .one) _ (F.below z r t b top) (F.unit-is z r t b top) {x = x} d)
+        ∙ entries.exit-entry (F.B z r t) (F.L z r t) u (l .units) s (store work units) refl (t .one) _ (F.below z r t b top) (F.unit-is z r t b top) {x = x} joins-there
+        d)
 
   -- A JOB
 
@@ -125,13 +126,13 @@ module _ {bytes operators net symbols scratch work units : List ℕ} {u : ℕ} {
           (F.operator-is z r t w)
 
       -- a stack that the machine gives unit u fits
-      pub next-fits : (b : Bool) (gs : List Frame) → flat-entry (F.B z r t) (F.L z r t) u s ≡ going (with-unit s u b gs) → length gs ≤ 1026
-      next-fits b gs e =
+      pub next-fits : (k : ℕ) (gs : List Frame) → flat-entry (F.B z r t) (F.L z r t) u s ≡ going (with-unit s u k gs) → length gs ≤ 1026
+      next-fits k gs e =
           omega (
             arith,
-            F.room-after z r t (with-unit s u b gs) e u,
+            F.room-after z r t (with-unit s u k gs) e u,
             ap (λ (y : FlatUnit). length (y .stack))
-                (getD-set-same (s .units) u (flat-unit b gs) asleep (omega (arith, F.units-count z r t, t .one))),
+                (getD-set-same (s .units) u (flat-unit k gs) (asleep 1) (omega (arith, F.units-count z r t, t .one))),
           )
 
       -- argument i of its term, if it has one
@@ -165,7 +166,7 @@ module _ {bytes operators net symbols scratch work units : List ℕ} {u : ℕ} {
             let said = argument-said (tables-by (r .netted)) (s .symbols) (r .known) x i (argument-there visit-there) in
             subst₂ (λ (b : O.Argument) (gs : List Frame). length (O.visits (steps-in operators o) x b gs) ≤ 1026) (sym said)
             (sym (F.stack-kept z r t u (t .one)))
-            (next-fits true (O.visits (steps-in operators o) x (argument-by (F.B z r t) (s .symbols) x i) (stack s u)) (step-entry e))
+            (next-fits 0 (O.visits (steps-in operators o) x (argument-by (F.B z r t) (s .symbols) x i) (stack s u)) (step-entry e))
 
         pub visit-argument-asks : O.Can-visit (steps-in operators o) x a u (store work units)
         visit-argument-asks = record { job = F.can-proceed z r t w; room = visit-fits }
@@ -182,14 +183,14 @@ module _ {bytes operators net symbols scratch work units : List ℕ} {u : ℕ} {
 
       -- JOIN
       pub joined : {c : ℕ} → some (Step.join c) ≡ step-of (code-in operators o (x .next - 1)) → {work′ units′ : List ℕ} →
-          O.Joined (steps-in operators o) x u (store work units) (store work′ units′) → GoesOn work′ units′
+          O.Joined (steps-in operators o) x (l .units) u (store work units) (store work′ units′) → GoesOn work′ units′
       joined {c} e {work′} {units′} d =
           went-on (d .change .fit)
           (F.entry-is z r t (w .busy) (w .top)
           ∙ entries.join-entry (F.B z r t) (F.L z r t) u (l .units) s (store work units) refl (t .one) _ fs (F.unit-is z r t (w .busy) (w .top)) (tables-by (r .netted))
           (r .known) x inside one (omega (arith, F.next-most z r t w)) c
           (by-operator (λ (q : ℕ). some (Step.join c) ≡ step-of (code-in operators q (x .next - 1))) e) refl
-          (by-operator (λ (q : ℕ). O.Joined (steps-in operators q) x u (store work units) (store work′ units′)) d))
+          (by-operator (λ (q : ℕ). O.Joined (steps-in operators q) x (l .units) u (store work units) (store work′ units′)) d))
 
       -- WHOLE with no match
       pub missed : some Step.whole ≡ step-of (code-in operators o (x .next - 1)) →

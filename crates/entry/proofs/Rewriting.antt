@@ -166,7 +166,7 @@ module _ {bytes operators net symbols scratch work units : List ℕ} {u : ℕ} {
           let c : O.Proceeded ss x u (store work units) (store work″ units″) = subst (λ (k : List ℕ). O.Proceeded ss x u (store k units) (store work″ units″)) same-work q in
           let e : flat-entry (F.B z r t) (F.L z r t) u s ≡ going (with-units s (units-in (store work″ units″) (l .units))) =
           outcome-is D.Whole.Missed d
-          ∙ ap₂ (λ (v k : ℕ). going (with-unit s v true (proceed k (suc (x .next)) (x .count) (drop (x .next) ss) fs))) at off
+          ∙ ap₂ (λ (v k : ℕ). going (with-unit s v 0 (proceed k (suc (x .next)) (x .count) (drop (x .next) ss) fs))) at off
           ∙ ap (λ (us : List FlatUnit). going (with-units s us))
           (sym (at-is u (s .units) (O.restack (O.goes-on ss x (x .count))) _ (F.unit-is z r t (w .busy) (w .top))) ∙ sym (c .change .units (l .units))) in (
             ap (λ (xs : List ℕ). going (state xs work″ units″ p l)) same-symbols ∙ sym e,

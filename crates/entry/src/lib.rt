@@ -146,7 +146,7 @@ fn step(
             Entry::Going(forked(p, granted))
         }
         Step::Join(_) => {
-            orders::join(operators, work, units, u, o, job);
+            orders::join(operators, work, units, l.units, u, o, job);
             Entry::Going(p)
         }
         // WHOLE: a job with no step left is not kept on a stack.
@@ -253,7 +253,7 @@ pub fn enter(
             Entry::Going(p)
         }
         Frame::Sleep => {
-            units::sleep_unit(units, u);
+            units::sleep_unit(units, l.units, u);
             Entry::Going(p)
         }
         Frame::Bingo => Entry::Finished,

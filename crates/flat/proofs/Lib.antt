@@ -8,6 +8,7 @@ pub mod Lists
 pub mod Places
 pub mod Apart
 pub mod Relation
+pub mod Ranks
 pub mod Entry
 pub mod Run
 pub mod Bounds

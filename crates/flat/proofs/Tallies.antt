@@ -13,7 +13,7 @@ use Rattle.paper.specs.Book.{Book, arity, steps}
 use Rattle.paper.specs.Machine.{Limits, exceeds}
 use Rattle.paper.proofs.Tests.{eqb-cases}
 use Rattle.flat.specs.Symbols.{Hit, argument, rewrite}
-use Rattle.flat.specs.Machine.{Frame, unit, idle, FlatState, FlatOutcome, going, ended, do-fork, do-join, do-rewrite, do-whole, do-step, carry-out, turn, flat-entry}
+use Rattle.flat.specs.Machine.{Frame, unit, first-idle, FlatState, FlatOutcome, going, ended, do-fork, do-join, do-rewrite, do-whole, do-step, carry-out, turn, flat-entry}
 
 -- rewrites are within the budget, and no more FORKs are counted than n
 pub record Tallied (budget n : ℕ) (s : FlatState) : Type 0 where
@@ -60,7 +60,7 @@ module _ (B : Book) (L : Limits) (u : ℕ) (s : FlatState) {n : ℕ} (t : Tallie
   unfolding do-step
   by-step a k c [] fs = same _ refl refl refl
   by-step a k c (Step.visit i ∷ ss) fs = same _ refl refl refl
-  by-step a k c (Step.fork i ∷ ss) fs = by-fork a (argument (arity B) (s .symbols) a i) k c ss fs (idle (s .units))
+  by-step a k c (Step.fork i ∷ ss) fs = by-fork a (argument (arity B) (s .symbols) a i) k c ss fs (first-idle (s .units))
   by-step a k c (Step.join d ∷ ss) fs = by-join a k c ss fs
   by-step a k c (Step.whole ∷ ss) fs = by-whole a k c ss fs (rewrite (arity B) (B .rules) a (s .symbols))
 
@@ -72,12 +72,12 @@ module _ (B : Book) (L : Limits) (u : ℕ) (s : FlatState) {n : ℕ} (t : Tallie
   by-frame fs Frame.sleep = same _ refl refl refl
   by-frame fs Frame.bingo = tt
 
-  by-turn : (b : Bool) (fs : List Frame) → TalliedBy (L .budget) (suc n) (turn B L u s b fs)
+  by-turn : (r : ℕ) (fs : List Frame) → TalliedBy (L .budget) (suc n) (turn B L u s r fs)
   unfolding turn
-  by-turn false fs = same _ refl refl refl
-  by-turn true [] = same _ refl refl refl
-  by-turn true (f ∷ fs) = by-frame fs f
+  by-turn (suc r) fs = same _ refl refl refl
+  by-turn zero [] = same _ refl refl refl
+  by-turn zero (f ∷ fs) = by-frame fs f
 
   pub tallied-next : {s′ : FlatState} → flat-entry B L u s ≡ going s′ → Tallied (L .budget) (suc n) s′
   unfolding flat-entry
-  tallied-next e = subst (TalliedBy (L .budget) (suc n)) e (by-turn (unit (s .units) u .busy) (unit (s .units) u .stack))
+  tallied-next e = subst (TalliedBy (L .budget) (suc n)) e (by-turn (unit (s .units) u .rank) (unit (s .units) u .stack))

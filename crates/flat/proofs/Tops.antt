@@ -44,7 +44,7 @@ frames-some B [] h = absurd (omega arith)
 frames-some B (g ∷ gs) h = omega arith
 
 pub stack-some : {B : Book} {L : Limits} {s : FlatState} → FlatInv B L s → (u : ℕ) → 0 < length (stack s u)
-stack-some {B} (flat-inv t U n j D bs e good inv sz) u =
+stack-some {B} (flat-inv t U n j D bs e good inv ranked queued sz) u =
     let l = frames-some B (at U u .frames) (omega (arith, orders-some u D bs (inv .same), ap length (sym (inv .fits u .0) ∙ list-at B U u))) in
     omega (
       arith,

@@ -9,13 +9,13 @@ use native.Mathlib.Numerals.{add-one}
 use lib.ListN.{length, getD, drop}
 use Rattle.paper.specs.Strategy.{Step}
 use Rattle.flat.specs.Sizes.{hop}
-use Rattle.flat.specs.Machine.{Frame, FlatUnit, flat-unit, next-count, proceed, arrive}
+use Rattle.flat.specs.Machine.{Frame, FlatUnit, flat-unit, next-count, proceed, idle-count, arrive}
 use Rattle.tables.specs.Layout.{arity-in, steps-in, Rowed}
 use Rattle.symbol.specs.Record.{operator, sizes}
 use Rattle.term.specs.Present.{length-in, operators-in, Hops}
 use Rattle.term.proofs.Sized.{operator-is, argument-hops, argument-is, argument-inside}
 use Rattle.units.specs.Stacks.{height-in, Store, store, units-in, unit-in}
-use Rattle.units.specs.Contracts.{Stacks-fit, Has-frame, Has-room, dropped, idled, pushed, topped, at, Changed, Cell-changed}
+use Rattle.units.specs.Contracts.{Stacks-fit, Has-frame, Has-room, dropped, pushed, topped, Changed, Cell-idled, Arrived}
 use Rattle.units.specs.declared.frames.Job.{Job}
 use Rattle.units.specs.declared.frames.Exit.{Exit}
 use Rattle.units.proofs.Units.{changed-none, changed-then, changed-as, height-is, unit-same, height-other}
@@ -47,7 +47,7 @@ module _ {ss : List Step} {x : Job} {u : ℕ} {s s′ : Store} where
       let fs = drop 1 (unit-in s u .stack) in
       record {
         change = changed-as p
-            (ap (flat-unit (unit-in s u .busy))
+            (ap (flat-unit (unit-in s u .rank))
             (ap (λ (j : ℕ). Frame.job (x .offset) j (x .count) ∷ fs) (add-one (x .next))
             ∙ sym (proceed-some (drop (x .next) ss) n (x .offset) (suc (x .next)) (x .count) fs)));
       }
@@ -55,7 +55,7 @@ module _ {ss : List Step} {x : Job} {u : ℕ} {s s′ : Store} where
   pub proceeds-none : is-some (drop (x .next) ss) ≡ false → Changed u dropped s s′ → Proceeded ss x u s s′
   proceeds-none n p = record {
     change = changed-as p
-        (ap (flat-unit (unit-in s u .busy))
+        (ap (flat-unit (unit-in s u .rank))
         (sym (proceed-none (drop (x .next) ss) n (x .offset) (suc (x .next)) (x .count) (drop 1 (unit-in s u .stack)))));
   }
 
@@ -73,13 +73,13 @@ module _ {ss : List Step} {a u : ℕ} {s : Store} where
       let fs = unit-in s u .stack in
       record {
         change = changed-as p
-            (ap (flat-unit (unit-in s u .busy))
+            (ap (flat-unit (unit-in s u .rank))
             (ap (λ (j : ℕ). Frame.job a 1 j ∷ fs) (q .is) ∙ sym (proceed-some ss n a 1 (next-count ss) fs)));
       }
 
   pub enters-none : is-some ss ≡ false → Can-enter ss a u s → Entered ss a u s s
   enters-none n q = record {
-    change = changed-none (q .fit) (ap (flat-unit (unit-in s u .busy)) (proceed-none ss n a 1 (next-count ss) (unit-in s u .stack)));
+    change = changed-none (q .fit) (ap (flat-unit (unit-in s u .rank)) (proceed-none ss n a 1 (next-count ss) (unit-in s u .stack)));
   }
 
 -- the job goes on with a count that is that of the next JOIN of the steps left: VISIT, from the first step; JOIN at count 0, from the one behind it
@@ -89,19 +89,19 @@ visited {ss} {a} {u} {s = s} {s′ = s′} q p = record {
   change = subst (λ (c : ℕ). Restacked (λ (fs : List Frame). proceed a 1 c ss (drop 1 fs)) u s s′) (q .is) (p .change);
 }
 
-pub join-passes : {ss : List Step} {x : Job} {u c : ℕ} {s s′ : Store} → x .count ≡ 0 → Counted (drop (x .next) ss) c →
-    Proceeded ss (record { offset = x .offset; next = x .next; count = c }) u s s′ → Joined ss x u s s′
-join-passes {ss} {x} {u} {s = s} {s′ = s′} e q p = record {
+pub join-passes : {ss : List Step} {x : Job} {n u c : ℕ} {s s′ : Store} → x .count ≡ 0 → Counted (drop (x .next) ss) c →
+    Proceeded ss (record { offset = x .offset; next = x .next; count = c }) u s s′ → Joined ss x n u s s′
+join-passes {ss} {x} {n} {u} {s = s} {s′ = s′} e q p = record {
   change =
       let y : Restacked (goes-on ss x (next-count (drop (x .next) ss))) u s s′ = subst (λ (c : ℕ). Restacked (goes-on ss x c) u s s′) (q .is) (p .change) in
-      subst (λ (c : ℕ). Changed u (joins ss x c) s s′) (sym e) y;
+      subst (λ (c : ℕ). Changed u (joins ss x (suc (idle-count (units-in s n))) c) s s′) (sym e) y;
 }
 
-pub join-waits : {ss : List Step} {x : Job} {u : ℕ} {w c c′ : List ℕ} → Stacks-fit (store w c) → x .count ≢ 0 → Cell-changed u idled c c′ →
-    Joined ss x u (store w c) (store w c′)
-join-waits {ss} {x} {u} {w} {c} {c′} f n t = record { change = go (x .count) n }
+pub join-waits : {ss : List Step} {x : Job} {n u : ℕ} {w c c′ : List ℕ} → Stacks-fit (store w c) → x .count ≢ 0 → Cell-idled n u c c′ →
+    Joined ss x n u (store w c) (store w c′)
+join-waits {ss} {x} {n} {u} {w} {c} {c′} f ne t = record { change = go (x .count) ne }
   where
-    go : (k : ℕ) → k ≢ 0 → Changed u (joins ss x k) (store w c) (store w c′)
+    go : (k : ℕ) → k ≢ 0 → Changed u (joins ss x (suc (idle-count (units-in (store w c) n))) k) (store w c) (store w c′)
     go zero z = absurd (z refl)
     go (suc k) z = t .change w f
 
@@ -159,7 +159,7 @@ module _ {operators symbols : List ℕ} {x : Job} {i : ℕ} (q : Argument-inside
         Argument-visited ss x (argument-of operators xs x i) u s s₂
     argument-visited {ss} {u} {s} p e = record {
       change = changed-as (changed-then (p .change) (e .change))
-          (ap (flat-unit (unit-in s u .busy)) (argument-enters (goes-on ss x (x .count) (unit-in s u .stack))));
+          (ap (flat-unit (unit-in s u .rank)) (argument-enters (goes-on ss x (x .count) (unit-in s u .stack))));
     }
 
 -- EXIT
@@ -170,9 +170,9 @@ exit-join {x} {s₁ = s₁} q p v i ev ei = record {
   index = omega (arith, q .join .index, height-other p (x .unit) (q .other), ap (λ (j : ℕ). height-in (s₁ .cells) j) ev);
 }
 
-pub exited : {x : Exit} {u v i : ℕ} {s s₁ s₂ : Store} → Changed u dropped s s₁ → v ≡ x .unit → i ≡ x .index → Changed v (arrive i) s₁ s₂ → Exited x u s s₂
+pub exited : {x : Exit} {u v i : ℕ} {s s₁ s₂ : Store} → Changed u dropped s s₁ → v ≡ x .unit → i ≡ x .index → Arrived v i s₁ s₂ → Exited x u s s₂
 exited {x} {s₁ = s₁} p ev ei q = record {
   fit = q .fit;
-  units = λ n.
-      q .units n ∙ ap₂ (λ (y z : ℕ). at y (arrive z) (units-in s₁ n)) ev ei ∙ ap (at (x .unit) (arrive (x .index))) (p .units n);
+  units = λ n l.
+      q .units n (omega arith) ∙ ap₂ (λ (y z : ℕ). arrive y z (units-in s₁ n)) ev ei ∙ ap (arrive (x .unit) (x .index)) (p .units n);
 }

@@ -14,13 +14,13 @@ use Rattle.paper.specs.Book.{Book, arity}
 use Rattle.paper.specs.Machine.{Limits}
 use Rattle.paper.specs.Sound.{All}
 use Rattle.flat.specs.Symbols.{Hit, rewrite}
-use Rattle.flat.specs.Machine.{Frame, FlatUnit, flat-unit, unit, FlatState, FlatOutcome, going, with-units, next-count, visit, arrive, idle, do-fork, do-join, do-whole, do-step, carry-out}
+use Rattle.flat.specs.Machine.{Frame, FlatUnit, flat-unit, unit, FlatState, FlatOutcome, going, with-units, next-count, visit, idle-count, first-idle, leave, arrive, do-fork, do-join, do-whole, do-step, carry-out}
 use Rattle.tables.specs.Layout.{step-of, code-in, steps-in}
 use Rattle.tables.specs.Tables.{Tables}
 use Rattle.tables.proofs.Rows.{here-is}
 use Rattle.flat.proofs.Idle.{idle-other}
 use Rattle.units.specs.Stacks.{height-in, Store, units-in}
-use Rattle.units.specs.Contracts.{Stacks-fit, dropped, idled, at, Changed, Cell-changed}
+use Rattle.units.specs.Contracts.{Stacks-fit, dropped, at, Changed, Cell-idled}
 use Rattle.units.specs.declared.frames.Job.{Job}
 use Rattle.units.specs.declared.frames.Exit.{Exit}
 use Rattle.units.proofs.Units.{height-at, at-is, at-else}
@@ -54,9 +54,9 @@ counted-fork s us false =
 
 -- unit u, one of n, is busy with the frame f on top of fs; t is how the units are kept
 module _ (B : Book) (L : Limits) (u n : ℕ) (s : FlatState) (t : Store) (us : s .units ≡ units-in t n) (l : u < n) (f : Frame) (fs : List Frame)
-    (e : unit (s .units) u ≡ flat-unit true (f ∷ fs)) where
+    (e : unit (s .units) u ≡ flat-unit 0 (f ∷ fs)) where
   abbrev busy : FlatUnit
-  busy = flat-unit true (f ∷ fs)
+  busy = flat-unit 0 (f ∷ fs)
 
   at-here : (g : FlatUnit → FlatUnit) → put (s .units) u (g busy) ≡ at u g (units-in t n)
   at-here g = sym (at-is u (s .units) g busy e) ∙ ap (at u g) us
@@ -65,16 +65,22 @@ module _ (B : Book) (L : Limits) (u n : ℕ) (s : FlatState) (t : Store) (us : s
       _≡_ {A = FlatOutcome} (going (with-units s (put (s .units) u y))) (going (with-units s (units-in t′ n)))
   changed {g} y c q = ap (λ (v : List FlatUnit). going (with-units s v)) (ap (put (s .units) u) q ∙ at-here g ∙ sym (c .units n))
 
-  pub sleep-entry : {c′ : List ℕ} → f ≡ Frame.sleep → Stacks-fit t → Cell-changed u idled (t .cells) c′ →
+  -- the rank of a unit that becomes idle
+  abbrev last : ℕ
+  last = suc (idle-count (s .units))
+
+  last-is : last ≡ suc (idle-count (units-in t n))
+  last-is = ap (λ (us : List FlatUnit). suc (idle-count us)) us
+
+  pub sleep-entry : {c′ : List ℕ} → f ≡ Frame.sleep → Stacks-fit t → Cell-idled n u (t .cells) c′ →
       carry-out B L u s fs Frame.sleep ≡ going (with-units s (units-in (record { work = t .work; cells = c′ }) n))
   unfolding carry-out
-  sleep-entry q z d = changed (flat-unit false (Frame.sleep ∷ fs)) (d .change (t .work) z) (ap (λ (y : Frame). flat-unit false (y ∷ fs)) (sym q))
+  sleep-entry q z d = changed (flat-unit last (Frame.sleep ∷ fs)) (d .change (t .work) z) (ap₂ (λ (r : ℕ) (y : Frame). flat-unit r (y ∷ fs)) last-is (sym q))
 
-  pub exit-entry : {x : Exit} {t′ : Store} → Exited x u t t′ →
+  pub exit-entry : {x : Exit} {t′ : Store} → x .unit < n → Exited x u t t′ →
       carry-out B L u s fs (Frame.exit (x .unit) (x .index)) ≡ going (with-units s (units-in t′ n))
   unfolding carry-out
-  exit-entry {x} d =
-      ap (λ (y : List FlatUnit). going (with-units s y)) (ap (at (x .unit) (arrive (x .index))) (at-here dropped) ∙ sym (d .units n))
+  exit-entry {x} k d = ap (λ (y : List FlatUnit). going (with-units s y)) (ap (arrive (x .unit) (x .index)) (at-here dropped) ∙ sym (d .units n k))
 
   -- a job: the operator of its term is the book's
   module _ {bytes operators rules : List ℕ} (T : Tables bytes operators rules B) (known : All (λ o. o < length (B .operators)) (s .symbols)) where
@@ -86,8 +92,8 @@ module _ (B : Book) (L : Limits) (u n : ℕ) (s : FlatState) (t : Store) (us : s
         carry-out B L u s fs (Frame.job a zero c) ≡ going (with-units s (units-in t′ n))
     unfolding carry-out visit
     visit-entry a c la d =
-        changed (flat-unit true (visit B (s .symbols) a fs)) (d .change)
-        (ap (λ (ss : List Step). flat-unit true (enters ss a fs)) (sym (steps-said T (s .symbols) known a la)))
+        changed (flat-unit 0 (visit B (s .symbols) a fs)) (d .change)
+        (ap (λ (ss : List Step). flat-unit 0 (enters ss a fs)) (sym (steps-said T (s .symbols) known a la)))
 
     -- its next step, which is one more than its place in the operator's steps
     module _ (x : Job) (lx : x .offset < length (s .symbols)) (p : 1 ≤ x .next) (m : x .next ≤ 16) where
@@ -115,8 +121,8 @@ module _ (B : Book) (L : Limits) (u n : ℕ) (s : FlatState) (t : Store) (us : s
       unfolding do-step visit
       visit-argument-entry i q la d =
           step-entry (Step.visit i) q
-          ∙ changed (flat-unit true (visits ss x (argument-by B (s .symbols) x i) (f ∷ fs))) (d .change)
-          (ap (λ (a : Argument). flat-unit true (visits ss x a (f ∷ fs))) (sym (argument-said T (s .symbols) known x i la)))
+          ∙ changed (flat-unit 0 (visits ss x (argument-by B (s .symbols) x i) (f ∷ fs))) (d .change)
+          (ap (λ (a : Argument). flat-unit 0 (visits ss x a (f ∷ fs))) (sym (argument-said T (s .symbols) known x i la)))
 
       pub whole-entry : {t′ : Store} → some Step.whole ≡ step-of (code-in operators (operator (x .offset)) (x .next - 1)) →
           rewrite (arity B) (B .rules) (x .offset) (s .symbols) ≡ Hit.miss → Proceeded ss x u t t′ →
@@ -124,18 +130,19 @@ module _ (B : Book) (L : Limits) (u n : ℕ) (s : FlatState) (t : Store) (us : s
       unfolding do-step do-whole
       whole-entry q h d =
           step-entry Step.whole q ∙ ap (do-whole B L u s (x .offset) (x .next) (x .count) (drop (x .next) ss) fs) h
-          ∙ changed (flat-unit true (goes-on ss x (x .count) (f ∷ fs))) (d .change) refl
+          ∙ changed (flat-unit 0 (goes-on ss x (x .count) (f ∷ fs))) (d .change) refl
 
       pub join-entry : (c : ℕ) {t′ : Store} → some (Step.join c) ≡ step-of (code-in operators (operator (x .offset)) (x .next - 1)) →
-          f ≡ Frame.job (x .offset) (x .next) (x .count) → Joined ss x u t t′ →
+          f ≡ Frame.job (x .offset) (x .next) (x .count) → Joined ss x n u t t′ →
           carry-out B L u s fs (Frame.job (x .offset) (x .next) (x .count)) ≡ going (with-units s (units-in t′ n))
       unfolding do-step do-join
       join-entry c {t′} q h d = step-entry (Step.join c) q ∙ go (x .count) h (d .change)
         where
-          go : (k : ℕ) → f ≡ Frame.job (x .offset) (x .next) k → Changed u (joins ss x k) t t′ →
+          go : (k : ℕ) → f ≡ Frame.job (x .offset) (x .next) k → Changed u (joins ss x (suc (idle-count (units-in t n))) k) t t′ →
               do-join B L u s (x .offset) (x .next) k (drop (x .next) ss) fs ≡ going (with-units s (units-in t′ n))
-          go zero z y = changed (flat-unit true (goes-on ss x (next-count (drop (x .next) ss)) (f ∷ fs))) y refl
-          go (suc k) z y = changed (flat-unit false (Frame.job (x .offset) (x .next) (suc k) ∷ fs)) y (ap (λ (b : Frame). flat-unit false (b ∷ fs)) (sym z))
+          go zero z y = changed (flat-unit 0 (goes-on ss x (next-count (drop (x .next) ss)) (f ∷ fs))) y refl
+          go (suc k) z y =
+              changed (flat-unit last (Frame.job (x .offset) (x .next) (suc k) ∷ fs)) y (ap₂ (λ (r : ℕ) (b : Frame). flat-unit r (b ∷ fs)) last-is (sym z))
 
       -- FORK, by the unit that is idle
       height-here : height-in (t .cells) u - 1 ≡ length fs
@@ -155,7 +162,7 @@ module _ (B : Book) (L : Limits) (u n : ℕ) (s : FlatState) (t : Store) (us : s
           let m : unit (s .units) v ≡ unit (at u g (units-in t n)) v =
           ap (λ (y : List FlatUnit). unit y v) us ∙ sym (at-else u (units-in t n) g v (q v refl)) in
           ap (λ (y : List FlatUnit). going (counted-fork s y true))
-          (ap₂ (λ (y : List FlatUnit) (z : FlatUnit). put y v z) (at-here g)
+          (ap₂ (λ (y : List FlatUnit) (z : FlatUnit). leave 1 (put y v z)) (at-here g)
           (ap₂ (λ (z : FlatUnit) (j : ℕ). given u j b z) m (sym height-here)))
 
       pub fork-entry : (i : ℕ) {t′ : Store} {r : Bool} → some (Step.fork i) ≡ step-of (code-in operators (operator (x .offset)) (x .next - 1)) →
@@ -165,8 +172,8 @@ module _ (B : Book) (L : Limits) (u n : ℕ) (s : FlatState) (t : Store) (us : s
       fork-entry i q la d =
           let h = height-in (t .cells) u in
           step-entry (Step.fork i) q
-          ∙ by-idle (argument-by B (s .symbols) x i .offset) (idle (s .units))
-          (λ v z. idle-other (s .units) u v z (ap (λ (y : FlatUnit). y .busy) e))
-          ∙ ap₂ (λ (y : List FlatUnit) (a : Argument). going (counted-fork s (forks ss x (a .offset) u h (units-in t n) (idle y)) (grants (idle y)))) us
+          ∙ by-idle (argument-by B (s .symbols) x i .offset) (first-idle (s .units))
+          (λ v z. idle-other (s .units) u v z (ap (λ (y : FlatUnit). y .rank) e))
+          ∙ ap₂ (λ (y : List FlatUnit) (a : Argument). going (counted-fork s (forks ss x (a .offset) u h (units-in t n) (first-idle y)) (grants (first-idle y)))) us
           (sym (argument-said T (s .symbols) known x i la))
           ∙ ap₂ (λ (y : List FlatUnit) (z : Bool). going (counted-fork s y z)) (sym (d .units)) (sym (d .answer))

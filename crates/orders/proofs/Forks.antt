@@ -7,9 +7,9 @@ use mathlib.Core.Option.{none, some}
 use Prim.Native.Nat.{ℕ, _+_, _-_, _≤_, _<_, pred}
 use native.Mathlib.Omega.{arith}
 use Rattle.paper.specs.Strategy.{Step}
-use Rattle.flat.specs.Machine.{Frame, FlatUnit, idle}
+use Rattle.flat.specs.Machine.{Frame, FlatUnit, first-idle, leave}
 use Rattle.units.specs.Stacks.{height, height-in, Store, store, units-in}
-use Rattle.units.specs.Contracts.{Has-room, woken, pushed, at, Changed, Cell-changed}
+use Rattle.units.specs.Contracts.{Has-room, pushed, at, Changed, Cells-left}
 use Rattle.units.specs.declared.frames.Job.{Job}
 use Rattle.units.proofs.Units.{changed-then, height-is, height-same, height-other}
 use Rattle.orders.specs.Contracts.{
@@ -22,6 +22,7 @@ use Rattle.orders.specs.Contracts.{
   Can-keep,
   Argument-kept,
   given,
+  Given,
   forks,
   Can-grant,
   Granted,
@@ -40,30 +41,32 @@ module _ {ss : List Step} (x : Job) {u c : ℕ} {s s₁ : Store} (e : c ≡ pred
   pub argument-kept : {b : ℕ} {s₂ : Store} → Changed u (pushed (Frame.job b 0 0)) s₁ s₂ → Argument-kept ss x b u s s₂
   argument-kept q = record { change = changed-then lowered q }
 
--- given: two frames are pushed, and the unit is busy
+-- given: two frames are pushed, and the first of the idle queue leaves it
 pub second-room : {v : ℕ} {f : Frame} {s s₁ : Store} → Has-room s v 2 → Changed v (pushed f) s s₁ → Has-room s₁ v 1
 second-room {v} {s = s} r p = record { fit = p .fit; unit = r .unit; room = omega (arith, r .room, height-same p, height-is s v) }
 
 pub gave : {v u i b : ℕ} {s s₁ : Store} {w c c′ : List ℕ} → Changed v (pushed (Frame.exit u i)) s s₁ → Changed v (pushed (Frame.job b 0 0)) s₁ (store w c) →
-    Cell-changed v woken c c′ → Changed v (given u i b) s (store w c′)
-gave {w = w} p q t = changed-then (changed-then p q) (t .change w (q .fit))
+    Cells-left 1 c c′ → Given v u i b s (store w c′)
+gave {w = w} p q t =
+    let a = t .change w (q .fit) in
+    record { fit = a .fit; units = λ n. a .units n ∙ ap (leave 1) (changed-then p q .units n) }
 
 -- granted: the job goes on, and unit v gets the argument
 module _ {ss : List Step} {x : Job} {u : ℕ} {s s₁ : Store} (p : Proceeded ss x u s s₁) where
   pub grant-room : {b v : ℕ} → Can-grant x b v u s → Has-room s₁ v 2
   grant-room {v = v} q = record { fit = p .change .fit; unit = q .idle-unit; room = omega (arith, q .room, height-other (p .change) v (q .other)) }
 
-  pub granted : {b v j i : ℕ} {s₂ : Store} → j ≡ u → i ≡ height-in (s .cells) u - 1 → Changed v (given j i b) s₁ s₂ → Granted ss x b v u s s₂
+  pub granted : {b v j i : ℕ} {s₂ : Store} → j ≡ u → i ≡ height-in (s .cells) u - 1 → Given v j i b s₁ s₂ → Granted ss x b v u s s₂
   granted {b} {v} {j} {i} ej ei q = record {
     fit = q .fit;
     units = λ n.
-        q .units n ∙ ap (at v (given j i b)) (p .change .units n)
-        ∙ ap₂ (λ (y z : ℕ). at v (given y z b) (at u (restack (goes-on ss x (x .count))) (units-in s n))) ej ei;
+        q .units n ∙ ap (λ (us : List FlatUnit). leave 1 (at v (given j i b) us)) (p .change .units n)
+        ∙ ap₂ (λ (y z : ℕ). leave 1 (at v (given y z b) (at u (restack (goes-on ss x (x .count))) (units-in s n)))) ej ei;
   }
 
 -- by the search, for the argument at offset b
 module _ {ss : List Step} {x : Job} {p : Argument} {b n u : ℕ} {s s′ : Store} (e : b ≡ p .offset) where
-  pub fork-grants : {v : ℕ} → idle (units-in s n) ≡ some v → Granted ss x b v u s s′ → Forked ss x p n u s s′ true
+  pub fork-grants : {v : ℕ} → first-idle (units-in s n) ≡ some v → Granted ss x b v u s s′ → Forked ss x p n u s s′ true
   fork-grants {v} z g = record {
     fit = g .fit;
     units =
@@ -72,7 +75,7 @@ module _ {ss : List Step} {x : Job} {p : Argument} {b n u : ℕ} {s s′ : Store
     answer = rw z;
   }
 
-  pub fork-keeps : idle (units-in s n) ≡ none → Argument-kept ss x b u s s′ → Forked ss x p n u s s′ false
+  pub fork-keeps : first-idle (units-in s n) ≡ none → Argument-kept ss x b u s s′ → Forked ss x p n u s s′ false
   fork-keeps z d = record {
     fit = d .change .fit;
     units =

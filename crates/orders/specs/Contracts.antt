@@ -9,7 +9,7 @@ use Prim.Native.Nat.{ℕ, zero, suc, _+_, _-_, _≤_, _<_, pred}
 use lib.ListN.{length, getD, drop}
 use Rattle.paper.specs.Strategy.{Step}
 use Rattle.flat.specs.Symbols.{argument}
-use Rattle.flat.specs.Machine.{Frame, FlatUnit, flat-unit, next-count, proceed, arrive, idle}
+use Rattle.flat.specs.Machine.{Frame, FlatUnit, flat-unit, next-count, proceed, idle-count, first-idle, leave, arrive}
 use Rattle.tables.specs.Layout.{arity-in, steps-in, Rowed}
 use Rattle.term.specs.Present.{length-in, operators-in, Sized}
 use Rattle.units.specs.Stacks.{height, height-in, Store, units-in, unit-in}
@@ -56,9 +56,9 @@ pub record Argument-rowed (operators symbols : List ℕ) (x : Job) (i : ℕ) : T
 
 -- ONE STACK
 
--- unit u's stack has been changed by f, and it is busy or idle as it was; there is room for what f makes of it
+-- unit u's stack has been changed by f, and its rank is as it was; there is room for what f makes of it
 abbrev pub restack : (List Frame → List Frame) → FlatUnit → FlatUnit
-restack f y = flat-unit (y .busy) (f (y .stack))
+restack f y = flat-unit (y .rank) (f (y .stack))
 
 abbrev pub Restacked : (List Frame → List Frame) → ℕ → Store → Store → Type 0
 Restacked f u s s′ = Changed u (restack f) s s′
@@ -121,13 +121,13 @@ pub record Argument-kept (ss : List Step) (x : Job) (b u : ℕ) (s s′ : Store)
 
 -- UNITS
 
--- JOIN by its count c
-abbrev pub joins : List Step → Job → ℕ → FlatUnit → FlatUnit
-joins ss x zero = restack (goes-on ss x (next-count (drop (x .next) ss)))
-joins ss x (suc c) = idled
+-- JOIN by its count c; r is the rank of a unit that becomes idle, behind all that are of n
+abbrev pub joins : List Step → Job → ℕ → ℕ → FlatUnit → FlatUnit
+joins ss x r zero = restack (goes-on ss x (next-count (drop (x .next) ss)))
+joins ss x r (suc c) = idled r
 
-pub record Joined (ss : List Step) (x : Job) (u : ℕ) (s s′ : Store) : Type 0 where
-  pub change : Changed u (joins ss x (x .count)) s s′
+pub record Joined (ss : List Step) (x : Job) (n u : ℕ) (s s′ : Store) : Type 0 where
+  pub change : Changed u (joins ss x (suc (idle-count (units-in s n))) (x .count)) s s′
 
 -- EXIT: the top frame goes, and it arrives at its JOIN's unit, which is another and has a frame with the index
 pub record Can-exit (x : Exit) (u : ℕ) (s : Store) : Type 0 where
@@ -137,16 +137,20 @@ pub record Can-exit (x : Exit) (u : ℕ) (s : Store) : Type 0 where
 
 pub record Exited (x : Exit) (u : ℕ) (s s′ : Store) : Type 0 where
   pub fit : Stacks-fit s′
-  pub units : (n : ℕ) → units-in s′ n ≡ at (x .unit) (arrive (x .index)) (at u dropped (units-in s n))
+  pub units : (n : ℕ) → x .unit < n → units-in s′ n ≡ arrive (x .unit) (x .index) (at u dropped (units-in s n))
 
--- FORK of the term at offset b that unit v gets, over an EXIT for the job at index i of unit u
+-- FORK of the term at offset b that unit v gets, over an EXIT for the job at index i of unit u: it leaves the idle queue, whose first it is
 abbrev pub given : ℕ → ℕ → ℕ → FlatUnit → FlatUnit
-given u i b y = flat-unit true (Frame.job b 0 0 ∷ Frame.exit u i ∷ y .stack)
+given u i b = restack (λ (fs : List Frame). Frame.job b 0 0 ∷ Frame.exit u i ∷ fs)
+
+pub record Given (v u i b : ℕ) (s s′ : Store) : Type 0 where
+  pub fit : Stacks-fit s′
+  pub units : (n : ℕ) → units-in s′ n ≡ leave 1 (at v (given u i b) (units-in s n))
 
 -- by the answer of the search for an idle unit; h is the height of unit u's stack
 abbrev pub forks : List Step → Job → ℕ → ℕ → ℕ → List FlatUnit → Option ℕ → List FlatUnit
 forks ss x b u h us none = at u (restack (keeps ss x b)) us
-forks ss x b u h us (some v) = at v (given u (h - 1) b) (at u (restack (goes-on ss x (x .count))) us)
+forks ss x b u h us (some v) = leave 1 (at v (given u (h - 1) b) (at u (restack (goes-on ss x (x .count))) us))
 
 abbrev pub grants : Option ℕ → Bool
 grants none = false
@@ -168,10 +172,10 @@ pub record Granted (ss : List Step) (x : Job) (b v u : ℕ) (s s′ : Store) : T
 pub record Can-fork (ss : List Step) (x : Job) (p : Argument) (n u : ℕ) (s : Store) : Type 0 where
   pub job : Can-proceed x u s
   pub few : n ≤ 8
-  pub keep : idle (units-in s n) ≡ none → Room-for (keeps ss x (p .offset)) u s
-  pub grant : (v : ℕ) → idle (units-in s n) ≡ some v → (v ≢ u) × (height-in (s .cells) v + 2 ≤ height)
+  pub keep : first-idle (units-in s n) ≡ none → Room-for (keeps ss x (p .offset)) u s
+  pub grant : (v : ℕ) → first-idle (units-in s n) ≡ some v → (v ≢ u) × (height-in (s .cells) v + 2 ≤ height)
 
 pub record Forked (ss : List Step) (x : Job) (p : Argument) (n u : ℕ) (s s′ : Store) (r : Bool) : Type 0 where
   pub fit : Stacks-fit s′
-  pub units : units-in s′ n ≡ forks ss x (p .offset) u (height-in (s .cells) u) (units-in s n) (idle (units-in s n))
-  pub answer : r ≡ grants (idle (units-in s n))
+  pub units : units-in s′ n ≡ forks ss x (p .offset) u (height-in (s .cells) u) (units-in s n) (first-idle (units-in s n))
+  pub answer : r ≡ grants (first-idle (units-in s n))

@@ -154,19 +154,20 @@ pub fn visit_argument(
     enter(operators, work, units, u, p, b);
 }
 
-// JOIN at count 0 passes, and the job goes on; otherwise the unit waits.
+// JOIN by unit u of so many: at count 0 it passes, and the job goes on; otherwise the unit waits.
 pub fn join(
     operators: &[u8; 4352],
     work: &mut [u8],
     units: &mut [u32; 8],
+    count: usize,
     u: usize,
     o: u8,
     job: Job,
 )
     ghost { K.Store }
     requires { λ s. ⌜ K.store (now work) (now units) ≡ s ⌝ }
-    requires { λ s. ⌜ L.Rowed (now operators) o × O.Can-proceed job u s ⌝ }
-    ensures { λ s _. ⌜ O.Joined (L.steps-in (now (operators .entry)) o) job u s (K.store (now (work .exit)) (now (units .exit))) ⌝ }
+    requires { λ s. ⌜ L.Rowed (now operators) o × O.Can-proceed job u s × (count ≤ 8) ⌝ }
+    ensures { λ s _. ⌜ O.Joined (L.steps-in (now (operators .entry)) o) job count u s (K.store (now (work .exit)) (now (units .exit))) ⌝ }
 {
     if job.count == 0 {
         let c = next_count(operators, o, job.next);
@@ -183,7 +184,7 @@ pub fn join(
             },
         );
     } else {
-        units::wait_unit(units, u);
+        units::wait_unit(units, count, u);
     }
 }
 
@@ -252,12 +253,12 @@ fn keep(
     );
 }
 
-// The term at offset b is put on unit v's stack, over an EXIT.
+// The term at offset b is put on unit v's stack, over an EXIT; v is the first of the idle queue, and leaves it.
 fn give(work: &mut [u8], units: &mut [u32; 8], v: usize, exit: Exit, b: u16)
     ghost { K.Store }
     requires { λ s. ⌜ K.store (now work) (now units) ≡ s ⌝ }
     requires { λ s. ⌜ U.Has-room s v 2 × (exit .unit < 8) × (b < 1024) ⌝ }
-    ensures { λ s _. ⌜ U.Changed v (O.given (exit .unit) (exit .index) b) s (K.store (now (work .exit)) (now (units .exit))) ⌝ }
+    ensures { λ s _. ⌜ O.Given v (exit .unit) (exit .index) b s (K.store (now (work .exit)) (now (units .exit))) ⌝ }
 {
     units::push(work, units, v, Frame::Exit(exit));
     units::push(
@@ -270,7 +271,7 @@ fn give(work: &mut [u8], units: &mut [u32; 8], v: usize, exit: Exit, b: u16)
             count: 0,
         }),
     );
-    units::wake_unit(units, v);
+    units::leave(units, 1);
 }
 
 // FORK with an idle unit v: it gets the argument at offset b.
@@ -303,7 +304,7 @@ fn grant(
     );
 }
 
-// FORK of argument i, by unit u of so many: the lowest-numbered idle unit gets it, or it is kept; whether it was granted.
+// FORK of argument i, by unit u of so many: the first of the idle queue gets it, or it is kept; whether it was granted.
 pub fn fork(
     operators: &[u8; 4352],
     symbols: &[u32; 1024],
@@ -322,7 +323,7 @@ pub fn fork(
     ensures { λ s r. ⌜ O.Forked (L.steps-in (now (operators .entry)) o) job (O.argument-of (now (operators .entry)) (operators-in (now (symbols .entry))) job i) count u s (K.store (now (work .exit)) (now (units .exit))) r ⌝ }
 {
     let b = argument(symbols, job, i);
-    match units::lowest_idle(units, count) {
+    match units::first_idle(units, count) {
         Idle::Unit(v) => {
             grant(operators, work, units, u, o, job, b, v);
             true

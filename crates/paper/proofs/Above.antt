@@ -9,7 +9,7 @@ use Prim.Native.Nat.{ℕ, zero, suc, _+_, _-_, _<_, _≤_, pred}
 use native.Mathlib.Omega.{arith}
 use native.Mathlib.Decide.{ℕ-discrete}
 use lib.Dec.{eqb}
-use lib.ListN.{length, length-set, drop, replicate}
+use lib.ListN.{length, length-set, drop}
 use lib.ListN.{set as put}
 use lib.Seq.{getD-set-same, getD-set-other}
 use Rattle.paper.specs.Result.{accepted}
@@ -22,18 +22,19 @@ use Rattle.paper.specs.Match.{rewrite}
 use Rattle.paper.specs.Machine.{Order, orders, lower, fall, arrive, zero-in, UnitState, unit-state, asleep, State, Event, Ending, Outcome, going, ended, Limits, exceeds, Grant, unit, do-visit, do-fork, do-join, do-exit, do-rewrite, do-whole, carry-out-by, turn-by, entry-by, in-force, start}
 use Rattle.paper.specs.Run.{Answer, Moment, on, moments-from-by, moments-by}
 use Rattle.paper.specs.Sound.{Sound}
-use Rattle.paper.specs.Idle.{IsIdle, OnlyIdle, Waits, SameOrder, SameOrders, StandsOn, UntilExited, Taken, EachTaken, left-in, Done, Helps}
+use Rattle.paper.specs.Idle.{IsIdle, Queued, OnlyIdle, Waits, SameOrder, SameOrders, StandsOn, UntilExited, Taken, EachTaken, left-in, Done, Helps}
 use Rattle.paper.proofs.Dated.{day-sound}
 use Rattle.paper.proofs.Course.{Course, c-cut, c-end, c-more, e-finished, e-spent, e-full}
 use Rattle.paper.proofs.Demand3.{first, start-inv, whole-course}
 use Rattle.paper.proofs.Entry.{entry-next-by}
 use Rattle.paper.proofs.Exit.{arrive-unit}
 use Rattle.paper.proofs.Ghost.{Ghost, todo}
-use Rattle.paper.proofs.Idle.{lowest-idle}
+use Rattle.paper.proofs.Idle.{longest-idle}
 use Rattle.paper.proofs.Invariant.{Inv, Next, n-going}
 use Rattle.paper.proofs.Line.{line-correct}
 use Rattle.paper.proofs.Numbers.{exits-of, fall-append}
-use Rattle.paper.proofs.Stack.{busy-in}
+use Rattle.paper.proofs.Queue.{QueuedAfter, entry-queued, start-queued}
+use Rattle.paper.proofs.Stack.{asleep-at, busy-in}
 use Rattle.paper.proofs.View.{Block}
 use Rattle.paper.proofs.Waits.{idle-waits, still-done}
 
@@ -128,7 +129,7 @@ arrive-list j x = go (zero-in j (fall j (x .list)))
     go false = refl
 
 -- ONE ENTRY
-module _ (G : Grant) (only : OnlyIdle G) (B : Book) (L : Limits) (u : ℕ) (s : State) (bz : unit (s .units) u .busy ≡ true) where
+module _ (G : Grant) (only : OnlyIdle G) (B : Book) (L : Limits) (u : ℕ) (s : State) (qd : Queued s) (bz : unit (s .units) u .busy ≡ true) where
   in-range : u < length (s .units)
   in-range = busy-in (s .units) u bz
 
@@ -191,14 +192,14 @@ module _ (G : Grant) (only : OnlyIdle G) (B : Book) (L : Limits) (u : ℕ) (s : 
     unfolding carry-out-by do-visit
     order-keeps (Order.visit p) os e = λ v q.
         inr (one-list _ e (unit-state true (orders (s .joins) p (steps B (label (subterm p (s .term)))) ++ os)) (λ z. k .steps (s .joins) p (steps B (label (subterm p (s .term)))) os (k .visited p os z)) v q)
-    order-keeps (Order.fork p j) os e = fork-keeps p j os e (G s) (only s)
+    order-keeps (Order.fork p j) os e = fork-keeps p j os e (G s) (only s qd)
     order-keeps (Order.join j c) os e = join-keeps j c os e
     order-keeps (Order.exit p j) os e = exit-keeps p j os e
     order-keeps (Order.whole p i) os e = whole-keeps p i os e (rewrite (B .rules) (subterm p (s .term)))
     order-keeps Order.sleep os e = λ v q. inr (one-list _ e (unit-state false (Order.sleep ∷ os)) (λ z. z) v q)
     order-keeps Order.bingo os e = tt
 
-module _ (G : Grant) (only : OnlyIdle G) (B : Book) (L : Limits) (u : ℕ) (s : State) where
+module _ (G : Grant) (only : OnlyIdle G) (B : Book) (L : Limits) (u : ℕ) (s : State) (qd : Queued s) where
   entry-keeps : (P : List Order → Type 0) (Stop : Position → ℕ → Type 0) → Kept P Stop → Keeps P Stop s (entry-by G B L u s)
   unfolding entry-by
   entry-keeps P Stop k = go (unit (s .units) u .busy) (unit (s .units) u .list) refl refl
@@ -206,7 +207,7 @@ module _ (G : Grant) (only : OnlyIdle G) (B : Book) (L : Limits) (u : ℕ) (s : 
       go : (b : Bool) (l : List Order) → unit (s .units) u .busy ≡ b → unit (s .units) u .list ≡ l → Keeps P Stop s (turn-by G B L u s b l)
       go false l bz e = unfold turn-by in λ v q. inr q
       go true [] bz e = unfold turn-by in λ v q. inr q
-      go true (o ∷ os) bz e = unfold turn-by in order-keeps G only B L u s bz P Stop k o os e
+      go true (o ∷ os) bz e = unfold turn-by in order-keeps G only B L u s qd bz P Stop k o os e
 
 -- THE ORDERS BELOW A WHOLE
 
@@ -390,7 +391,7 @@ abbrev Gives : State → Outcome → Type 0
 Gives s (going ev s′) = Gave s ev s′
 Gives s (ended e s′) = Unit {0}
 
-module _ (G : Grant) (only : OnlyIdle G) (B : Book) (L : Limits) (u : ℕ) (s : State) where
+module _ (G : Grant) (only : OnlyIdle G) (B : Book) (L : Limits) (u : ℕ) (s : State) (qd : Queued s) where
   fork-gives : (os : List Order) (p : Position) (j : ℕ) (x : Option ℕ) → ((v : ℕ) → x ≡ some v → IsIdle s v) → Gives s (do-fork B L u s os p j x)
   unfolding do-fork
   fork-gives os p j none picks = tt
@@ -411,7 +412,7 @@ module _ (G : Grant) (only : OnlyIdle G) (B : Book) (L : Limits) (u : ℕ) (s : 
   order-gives : (os : List Order) (o : Order) → Gives s (carry-out-by G B L u s os o)
   unfolding carry-out-by do-visit do-join do-exit
   order-gives os (Order.visit p) = tt
-  order-gives os (Order.fork p j) = fork-gives os p j (G s) (only s)
+  order-gives os (Order.fork p j) = fork-gives os p j (G s) (only s qd)
   order-gives os (Order.join j zero) = tt
   order-gives os (Order.join j (suc c)) = tt
   order-gives os (Order.exit p j) = tt
@@ -430,12 +431,13 @@ module _ (G : Grant) (only : OnlyIdle G) (B : Book) (L : Limits) (u : ℕ) (s : 
 
 module _ (G : Grant) (only : OnlyIdle G) (B : Book) (L : Limits) where
   -- until its EXIT has been carried out, work taken stands on what was below
-  stands-until : (os : List Order) (p : Position) (j v : ℕ) (us : List ℕ) (s : State) → Owns (list-at s v) × StandsOn os p j (list-at s v) →
+  stands-until : (os : List Order) (p : Position) (j v : ℕ) (us : List ℕ) (s : State) → Queued s → Owns (list-at s v) × StandsOn os p j (list-at s v) →
       UntilExited p j (λ (z : State). StandsOn os p j (list-at z v)) (moments-from-by G B L us s)
   unfolding moments-from-by
-  stands-until os p j v [] s h = tt
-  stands-until os p j v (u ∷ us) s h =
-      go (entry-by G B L u s) (entry-keeps G only B L u s _ (Stops os p j) (stands-kept os p j)) (λ s′. stands-until os p j v us s′)
+  stands-until os p j v [] s qd h = tt
+  stands-until os p j v (u ∷ us) s qd h =
+      go (entry-by G B L u s) (entry-queued G B L u s qd) (entry-keeps G only B L u s qd _ (Stops os p j) (stands-kept os p j))
+      (λ s′. stands-until os p j v us s′)
     where
       after : (ev : Event) (s′ : State) → Stopped (Stops os p j) ev ⊎ (Owns (list-at s′ v) × StandsOn os p j (list-at s′ v)) →
           (Owns (list-at s′ v) × StandsOn os p j (list-at s′ v) → UntilExited p j (λ (z : State). StandsOn os p j (list-at z v)) (moments-from-by G B L us s′)) →
@@ -452,50 +454,47 @@ module _ (G : Grant) (only : OnlyIdle G) (B : Book) (L : Limits) where
       after Event.slept s′ (inl e) r = absurd e
       after ev s′ (inr q) r = inr (q .1, r q)
 
-      go : (x : Outcome) → Keeps (λ (now : List Order). Owns now × StandsOn os p j now) (Stops os p j) s x →
-          ((s′ : State) → Owns (list-at s′ v) × StandsOn os p j (list-at s′ v) →
+      go : (x : Outcome) → QueuedAfter x → Keeps (λ (now : List Order). Owns now × StandsOn os p j now) (Stops os p j) s x →
+          ((s′ : State) → Queued s′ → Owns (list-at s′ v) × StandsOn os p j (list-at s′ v) →
           UntilExited p j (λ (z : State). StandsOn os p j (list-at z v)) (moments-from-by G B L us s′)) →
           UntilExited p j (λ (z : State). StandsOn os p j (list-at z v)) (on (moments-from-by G B L us) x)
-      go (going ev s′) k r = unfold on in after ev s′ (k v h) (r s′)
-      go (ended e s′) k r = unfold on in tt
+      go (going ev s′) qd′ k r = unfold on in after ev s′ (k v h) (r s′ qd′)
+      go (ended e s′) qd′ k r = unfold on in tt
 
   -- each FORK that gives its part to a unit
-  each-taken : (sound : Sound B) (us : List ℕ) (s : State) (D : Ghost) (bs : List Block) → Inv B L s D bs → AllOwn s → EachTaken s (moments-from-by G B L us s)
+  each-taken : (sound : Sound B) (us : List ℕ) (s : State) (D : Ghost) (bs : List Block) → Inv B L s D bs → Queued s → AllOwn s →
+      EachTaken s (moments-from-by G B L us s)
   unfolding moments-from-by
-  each-taken sound [] s D bs inv own = tt
-  each-taken sound (u ∷ us) s D bs inv own =
-      go (entry-by G B L u s) (entry-next-by G only B L sound s u D bs inv) (entry-gives G only B L u s) (entry-keeps G only B L u s Owns (λ p j. ⊥) owns-kept)
+  each-taken sound [] s D bs inv qd own = tt
+  each-taken sound (u ∷ us) s D bs inv qd own =
+      go (entry-by G B L u s) (entry-next-by G only B L sound s qd u D bs inv) (entry-queued G B L u s qd) (entry-gives G only B L u s qd)
+      (entry-keeps G only B L u s qd Owns (λ p j. ⊥) owns-kept)
       (λ s′ D′ bs′. each-taken sound us s′ D′ bs′)
     where
-      taken : (ev : Event) (s′ : State) → Gave s ev s′ → AllOwn s′ → Taken s (record { event = ev; state = s′ }) (moments-from-by G B L us s′)
-      taken ev s′ g own′ p j e =
+      taken : (ev : Event) (s′ : State) → Queued s′ → Gave s ev s′ → AllOwn s′ → Taken s (record { event = ev; state = s′ }) (moments-from-by G B L us s′)
+      taken ev s′ qd′ g own′ p j e =
           let (v, i, l) = subst (λ (z : Event). Gave s z s′) e g in (
             v,
             i,
             idle-waits B L s D bs inv v i,
             l,
-            stands-until (list-at s v) p j v us s′ (own′ v, (Order.visit p ∷ [], list-at s v, l, same-orders (list-at s v))),
+            stands-until (list-at s v) p j v us s′ qd′ (own′ v, (Order.visit p ∷ [], list-at s v, l, same-orders (list-at s v))),
           )
 
       owned : (ev : Event) (s′ : State) → ((v : ℕ) → Owns (list-at s v) → Stopped (λ p j. ⊥) ev ⊎ Owns (list-at s′ v)) → AllOwn s′
       owned ev s′ k v = elim (k v (own v)) [ inl z ↦ absurd (never ev z) | inr r ↦ r ]
 
-      go : (x : Outcome) → Next B L u s D bs x → Gives s x → Keeps Owns (λ p j. ⊥) s x →
-          ((s′ : State) (D′ : Ghost) (bs′ : List Block) → Inv B L s′ D′ bs′ → AllOwn s′ → EachTaken s′ (moments-from-by G B L us s′)) →
+      go : (x : Outcome) → Next B L u s D bs x → QueuedAfter x → Gives s x → Keeps Owns (λ p j. ⊥) s x →
+          ((s′ : State) (D′ : Ghost) (bs′ : List Block) → Inv B L s′ D′ bs′ → Queued s′ → AllOwn s′ → EachTaken s′ (moments-from-by G B L us s′)) →
           EachTaken s (on (moments-from-by G B L us) x)
-      go (going ev s′) (n-going D′ bs′ inv′ sh cn mv ln sw) g k r =
-          unfold on in let own′ = owned ev s′ k in (taken ev s′ g own′, r s′ D′ bs′ inv′ own′)
-      go (ended e s′) n g k r = unfold on in tt
+      go (going ev s′) (n-going D′ bs′ inv′ sh cn mv ln sw) qd′ g k r =
+          unfold on in let own′ = owned ev s′ k in (taken ev s′ qd′ g own′, r s′ D′ bs′ inv′ qd′ own′)
+      go (ended e s′) n qd′ g k r = unfold on in tt
 
 start-owns : (units : ℕ) (t : Term) → AllOwn (start units t)
 unfolding start
 start-owns units t zero = tt
 start-owns units t (suc v) = subst (λ (x : UnitState). Owns (x .list)) (sym (asleep-at (units - 1) v)) tt
-  where
-    asleep-at : (m v : ℕ) → unit (replicate m asleep) v ≡ asleep
-    asleep-at zero v = refl
-    asleep-at (suc m) zero = refl
-    asleep-at (suc m) (suc v) = asleep-at m v
 
 -- A FINISHED RUN
 pub course-done : {B : Book} {L : Limits} {n : ℕ} {us : List ℕ} {s : State} {D : Ghost} {bs : List Block} {A : Answer} {ms : List Moment} → Course B L n us s D bs A ms →
@@ -510,7 +509,7 @@ pub helps-of : (G : Grant) → OnlyIdle G → (B : Book) → Sound B → (t : Te
     Helps G B L units schedule t
 unfolding moments-by
 helps-of G only B sound t c L units schedule = record {
-  above = each-taken G only B L sound schedule (start units t) (todo t) first (start-inv B L units t c) (start-owns units t);
+  above = each-taken G only B L sound schedule (start units t) (todo t) first (start-inv B L units t c) (start-queued units t) (start-owns units t);
   done = course-done (whole-course G only B sound t c L units schedule);
 }
 
@@ -520,4 +519,4 @@ pub helps : (bytes line : List ℕ) (A : AnyBook) (d : ℕ) (t : Term) → readA
     Helps in-force (on-day d A) L units schedule t
 helps bytes line A d t e q units budget schedule =
     let B = on-day d A in
-    helps-of in-force lowest-idle B (day-sound bytes A e d) t (line-correct B line t q .0) (record { budget = budget; symbols = some symbol-limit }) units schedule
+    helps-of in-force longest-idle B (day-sound bytes A e d) t (line-correct B line t q .0) (record { budget = budget; symbols = some symbol-limit }) units schedule

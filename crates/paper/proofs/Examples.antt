@@ -16,8 +16,8 @@ use Rattle.paper.specs.Reader.{readBook}
 use Rattle.paper.specs.Writer.{writeBook}
 use Rattle.paper.specs.Line.{readLine}
 use Rattle.paper.specs.Match.{Symbols, rewrite-over, rewrite}
-use Rattle.paper.specs.Machine.{Order, unit-state, Event, Ending}
-use Rattle.paper.specs.Run.{Answer, run, Moment, moments, events}
+use Rattle.paper.specs.Machine.{Order, unit-state, Event, Ending, lowest}
+use Rattle.paper.specs.Run.{Answer, run, run-by, Moment, moments, events}
 use Rattle.paper.specs.Page.{Lengths, answerBy, answerOf, pageOf, writtenOf}
 use Rattle.paper.proofs.Starred.{ascii, P-bytes, input-on, input, turns, none-of, one-of, two-of, x, y, P-operators, P, end, tick, both, Q, dup, limits}
 
@@ -134,6 +134,10 @@ lists-page line budget = pageOf (input-on lists-bytes line 1 budget (replicate 9
 -- 0 `end`, 1 `three` of arity 3 with ({1 2 3} 0); no rule
 abbrev pub three-bytes : List ℕ
 three-bytes = 0x02 ∷ 0x07 ∷ 0x34 ∷ 0x09 ∷ 0x1c ∷ 0x80 ∷ 0x00 ∷ []
+
+-- unit 0 forks; unit 1 takes the part, exits and sleeps; unit 0 forks again; unit 2 has the entries of a part
+abbrev pub rested : List ℕ
+rested = 0 ∷ 0 ∷ 1 ∷ 1 ∷ 1 ∷ 1 ∷ 0 ∷ 0 ∷ 2 ∷ 2 ∷ 2 ∷ replicate 20 0
 
 -- the page for three(three(end, end, end), end, three(end, end, end)) on five units
 unfoldable pub three-page : List ℕ → List ℕ
@@ -486,10 +490,31 @@ pub record Runs : Type 0 where
   pub first-argument : lists-page (2 ∷ 1 ∷ 0 ∷ 1 ∷ 0 ∷ []) 1 ≡ ascii "REDUCE 1\nend 1\nrewrites 1\nentries 11\ngranted 0\nkept 0\nterm 2 0 1 0\n"
   -- in shut(tick(end), tick(end)) nothing is
   pub empty-given : lists-page (3 ∷ 1 ∷ 0 ∷ 1 ∷ 0 ∷ []) 9 ≡ ascii "REDUCE 1\nend 0\nrewrites 0\nentries 2\ngranted 0\nkept 0\nterm 3 1 0 1 0\n"
-  -- a FORK goes to the lowest-numbered idle unit: the part is unit 1's, and unit 2 has nothing to do
-  pub lowest-idle : pageOf (input (2 ∷ 0 ∷ 0 ∷ []) 3 9 (0 ∷ 0 ∷ 1 ∷ 1 ∷ 1 ∷ replicate 7 0)) ≡
+  -- the idle units are 1, 2 and up at the start: the part is unit 1's, and unit 2 has nothing to do
+  pub from-1-up : pageOf (input (2 ∷ 0 ∷ 0 ∷ []) 3 9 (0 ∷ 0 ∷ 1 ∷ 1 ∷ 1 ∷ replicate 7 0)) ≡
       ascii "REDUCE 1\nend 0\nrewrites 1\nentries 12\ngranted 1\nkept 0\nterm 0\n"
-  -- from 0 up: unit 0 waits at its JOIN, and takes the FORK of unit 1
+  -- unit 1 has had a part and sleeps, so that unit 2 has been idle longer, and the next part is unit 2's
+  pub longest-idle : pageOf (input (2 ∷ 0 ∷ 2 ∷ 0 ∷ 0 ∷ []) 3 9 rested) ≡
+      ascii "REDUCE 1\nend 0\nrewrites 2\nentries 22\ngranted 2\nkept 0\nterm 0\n"
+  -- by the rule of Change 3 it was unit 1's, which has no entry left: the ending differs
+  pub lowest-idle : run-by lowest P (limits 1024) 3 rested (both end (both end end)) ≡
+      record { ending = Ending.cut; rewrites = 0; entries = 31; granted = 2; kept = 0; term = both end (both end end) }
+  -- the queue after each entry: units 1 and 2 take a part each; unit 0 waits; it wakes and leaves its place; unit 1 sleeps; unit 0 waits again, at the end
+  pub queues : map (λ (m : Moment). m .state .queue) (moments P (limits 9) 3 (replicate 7 0 ++ (1 ∷ 1 ∷ 1 ∷ 1 ∷ 0 ∷ [])) (both end (both end end))) ≡
+      (1 ∷ 2 ∷ [])
+      ∷ (2 ∷ [])
+      ∷ (2 ∷ [])
+      ∷ []
+      ∷ []
+      ∷ []
+      ∷ (0 ∷ [])
+      ∷ (0 ∷ [])
+      ∷ (0 ∷ [])
+      ∷ []
+      ∷ (1 ∷ [])
+      ∷ (1 ∷ 0 ∷ [])
+      ∷ []
+  -- unit 0 waits at its JOIN, and takes the FORK of unit 1
   pub unit-0-helps : pageOf (input (2 ∷ 2 ∷ 0 ∷ 0 ∷ 0 ∷ []) 2 9 (0 ∷ 0 ∷ 0 ∷ 0 ∷ 0 ∷ 1 ∷ 1 ∷ [])) ≡
       ascii "REDUCE 1\nend 3\nrewrites 0\nentries 7\ngranted 2\nkept 0\nterm 2 2 0 0 0\n"
   -- every FORK accounted for: of the two, two units grant one and keep one, and one unit keeps both
@@ -520,7 +545,7 @@ pub record Runs : Type 0 where
       Event.exited (0 ∷ []) 0 ∷ Event.waited ∷ []
 
 pub runs : Runs
-unfolding ascii input turns pageOf readBook writtenOf rewrite run moments events strategies grow-page tree-after lists-page done three-page
+unfolding ascii input turns pageOf readBook writtenOf rewrite run run-by lowest moments events strategies grow-page tree-after lists-page done three-page
 runs = record {
   first-general = refl;
   first-special = refl;
@@ -533,7 +558,10 @@ runs = record {
   none-given = refl;
   first-argument = refl;
   empty-given = refl;
+  from-1-up = refl;
+  longest-idle = refl;
   lowest-idle = refl;
+  queues = refl;
   unit-0-helps = refl;
   forks-of-two = refl;
   forks-of-one = refl;

@@ -33,7 +33,9 @@ pub mod Examples
 pub mod Payees
 pub mod Days
 pub mod Fork
+pub mod Queue
 pub mod Idle
+pub mod Longest
 pub mod Exit
 pub mod Entry
 pub mod Progress

@@ -1,54 +1,54 @@
 -- What the functions that store a unit, its frames or both have done to the units. Assumes nothing.
 use mathlib.Core.Path.{_≡_, refl, sym, ap, ap₂, subst, _∙_}
 use mathlib.Core.Bool.{Bool, true, false}
-use mathlib.Core.List.{List, _∷_}
-use Prim.Native.Nat.{ℕ, _+_, _*_, _-_, _/_, _%_, _≤_, _<_}
+use mathlib.Core.List.{List, [], _∷_}
+use Prim.Native.Nat.{ℕ, zero, suc, _+_, _*_, _-_, _/_, _%_, _≤_, _<_}
 use native.Mathlib.Omega.{arith}
 use native.Mathlib.Decide.{ℕ-discrete}
+use native.Mathlib.Numerals.{add-one}
 use lib.Dec.{ltb}
-use lib.ListN.{length, getD, set, drop, length-set}
+use lib.ListN.{length, getD, set, drop, length-set, List·getD-eq-default}
 use lib.Seq.{getD-set-same, getD-set-other, set-getD}
-use borrow.Author.Tests.{lt-ltb, le-ltb, ltb-true, ltb-false}
-use Rattle.flat.specs.Machine.{Frame, FlatUnit, flat-unit, arrive, lower, is-zero, fall, zero-in}
+use borrow.Author.Tests.{ltb-true, ltb-false}
+use Rattle.flat.specs.Machine.{Frame, FlatUnit, flat-unit, unit, idle-count, left, leave, lowered, woken, arrive, lower, is-zero, fall, zero-in}
+use Rattle.flat.proofs.Ranks.{left-below}
 use Rattle.units.specs.Frames.{frameAt, In-three-bytes}
-use Rattle.units.specs.Stacks.{height, base, stackOf, cell, busy-in, end-in, height-in, Store, store, unit-in}
+use Rattle.units.specs.Stacks.{height, base, stackOf, cell, rank-in, end-in, height-in, units-from, units-of, Store, store, units-in, unit-in}
 use Rattle.units.specs.Contracts.{
   Same-outside,
   Frame-put,
   Stacks-fit,
   Has-frame,
   Has-room,
-  woken,
   dropped,
   pushed,
   topped,
+  at,
   Changed,
   Cell-changed,
+  Cell-idled,
+  Cells-left,
+  Arrived,
   Top-is,
+  Idle-count,
 }
 use Rattle.units.proofs.Areas.{outside-none}
 use Rattle.units.proofs.Stacks.{top, push, fall-at, zero-at, outside-unit}
-use Rattle.units.proofs.Units.{unit-at, units-changed, changed-then, changed-as}
+use Rattle.units.proofs.Units.{unit-at, units-changed}
 
 -- a cell, read as it was made
-cell-busy : (t : Bool) (end : ℕ) → end < 65536 → ltb (cell t end) 65536 ≡ t
-cell-busy true end l = lt-ltb end 65536 l
-cell-busy false end l = le-ltb (end + 65536) 65536 (omega arith)
+pub cell-rank : (rank end : ℕ) → end < 65536 → cell rank end / 65536 ≡ rank
+cell-rank rank end l = omega arith
 
-cell-end : (t : Bool) (end : ℕ) → end < 65536 → cell t end % 65536 ≡ end
-cell-end true end l = omega arith
-cell-end false end l = omega arith
+pub cell-end : (rank end : ℕ) → end < 65536 → cell rank end % 65536 ≡ end
+cell-end rank end l = omega arith
 
--- a cell with a frame more says the same of busy
-next-busy : (x : ℕ) → x % 65536 < 65533 → ltb (x + 3) 65536 ≡ ltb x 65536
-next-busy x l = go (ltb x 65536) refl
-  where
-    go : (t : Bool) → ltb x 65536 ≡ t → ltb (x + 3) 65536 ≡ t
-    go true e = let k = ltb-true x 65536 e in lt-ltb (x + 3) 65536 (omega arith)
-    go false e = let k = ltb-false x 65536 e in le-ltb (x + 3) 65536 (omega arith)
+-- a cell with a frame more says the same rank
+next-rank : (x : ℕ) → x % 65536 < 65533 → (x + 3) / 65536 ≡ x / 65536
+next-rank x l = omega arith
 
--- unit u's cell is x, which says t and y frames, and frames of its region are written; the others are as they were
-module _ (s s′ : Store) (u x : ℕ) (t : Bool) (y : ℕ) (ec : s′ .cells ≡ set (s .cells) u x) (et : ltb x 65536 ≡ t) (ey : x % 65536 ≡ base u + 3 * y) where
+-- unit u's cell is x, which says rank t and y frames, and frames of its region are written; the others are as they were
+module _ (s s′ : Store) (u x t y : ℕ) (ec : s′ .cells ≡ set (s .cells) u x) (et : x / 65536 ≡ t) (ey : x % 65536 ≡ base u + 3 * y) where
   at-u : u < length (s .cells) → getD (s′ .cells) u 0 ≡ x
   at-u l = rw (ec, getD-set-same (s .cells) u x 0 l)
 
@@ -79,29 +79,93 @@ module _ (s s′ : Store) (u x : ℕ) (t : Bool) (y : ℕ) (ec : s′ .cells ≡
   stored a l k m q p r ly e =
       units-changed (set-fit a l (q .size) ly) (λ v n. store-other k m q p r v n (a .most v)) (store-same (omega (arith, a .regions .eight)) ∙ e)
 
--- the stack alone, to height y: unit u is busy or idle as it was
+-- the stack alone, to height y: unit u's rank is as it was
 restacked : (s s′ : Store) (u x y k m : ℕ) (g : List Frame → List Frame) → Stacks-fit s → u < 8 → s′ .cells ≡ set (s .cells) u x →
-    ltb x 65536 ≡ busy-in (s .cells) u → x % 65536 ≡ base u + 3 * y → Same-outside k m (s .work) (s′ .work) → base u ≤ k → m ≤ base (u + 1) → y ≤ height →
-    stackOf (s′ .work) (base u) y ≡ g (unit-in s u .stack) → Changed u (λ (x : FlatUnit). flat-unit (x .busy) (g (x .stack))) s s′
+    x / 65536 ≡ rank-in (s .cells) u → x % 65536 ≡ base u + 3 * y → Same-outside k m (s .work) (s′ .work) → base u ≤ k → m ≤ base (u + 1) → y ≤ height →
+    stackOf (s′ .work) (base u) y ≡ g (unit-in s u .stack) → Changed u (λ (x : FlatUnit). flat-unit (x .rank) (g (x .stack))) s s′
 restacked s s′ u x y k m g a l ec et ey q p r ly e =
-    stored s s′ u x (busy-in (s .cells) u) y ec et ey a l k m q p r ly (ap (flat-unit (busy-in (s .cells) u)) e)
+    stored s s′ u x (rank-in (s .cells) u) y ec et ey a l k m q p r ly (ap (flat-unit (rank-in (s .cells) u)) e)
 
--- the cell alone
-pub turned : {c c′ : List ℕ} {u : ℕ} {t : Bool} (end : ℕ) (b : Bool) → u < 8 → end < 65536 → c′ ≡ set c u (cell b end) → b ≡ t → end ≡ end-in c u →
-    Cell-changed u (λ (x : FlatUnit). flat-unit t (x .stack)) c c′
-turned {c} {c′} {u} end b l le ec es ee = record {
+-- the cell alone: unit u becomes idle, of the rank behind all that are
+pub joins : {c c′ : List ℕ} {n u k rank : ℕ} (end : ℕ) → u < 8 → end < 65536 → Idle-count c n k → rank ≡ k + 1 → c′ ≡ set c u (cell rank end) → end ≡ end-in c u →
+    Cell-idled n u c c′
+joins {c} {c′} {n} {u} {k} {rank} end l le q er ec ee = record {
   change = λ w a.
-      stored (store w c) (store w c′) u (cell b end) b (height-in c u) ec (cell-busy b end le) (cell-end b end le ∙ ee ∙ a .placed u l) a l (base u) (base u)
-      outside-none (omega arith) (omega arith) (a .most u) (rw es);
+      let e : rank ≡ suc (idle-count (units-of w c n)) = er ∙ add-one k ∙ ap suc (sym (q .units w)) in
+      stored (store w c) (store w c′) u (cell rank end) rank (height-in c u) ec (cell-rank rank end le) (cell-end rank end le ∙ ee ∙ a .placed u l) a l (base u)
+      (base u) outside-none (omega arith) (omega arith) (a .most u) (ap (λ (r : ℕ). flat-unit r (stackOf w (base u) (height-in c u))) e);
 }
 
--- a busy unit is woken: nothing changes
-pub awake : {c : List ℕ} {u : ℕ} → u < 8 → busy-in c u ≡ true → Cell-changed u woken c c
-awake {c} {u} l b =
-    let x = getD c u 0 in
-    let k = ltb-true x 65536 b in
-    let e : x ≡ x % 65536 = omega arith in
-    turned (x % 65536) true l (omega arith) (sym (set-getD c u 0) ∙ ap (λ (y : ℕ). set c u y) e) refl refl
+-- a busy unit leaves no queue
+leave-none : (us : List FlatUnit) → leave 0 us ≡ us
+unfolding left
+leave-none [] = refl
+leave-none (x ∷ us) = ap (λ (z : List FlatUnit). x ∷ z) (leave-none us)
+
+pub left-none : {c : List ℕ} (r : ℕ) → r ≡ 0 → Cells-left r c c
+left-none {c} r e = record { change = λ w a. record { fit = a; units = λ n. sym (ap (λ (k : ℕ). leave k (units-of w c n)) e ∙ leave-none (units-of w c n)) } }
+
+pub left-as : {c c′ : List ℕ} {r k : ℕ} → r ≡ k → Cells-left r c c′ → Cells-left k c c′
+left-as {c} {c′} e q = subst (λ (k : ℕ). Cells-left k c c′) e q
+
+-- the cells one by one: those of units 0 to v - 1 are as the unit of rank r has left them
+pub record Left-below (r v : ℕ) (c c′ : List ℕ) : Type 0 where
+  pub size : length c′ ≡ length c
+  pub below : (u : ℕ) → u < v → u < length c → getD c′ u 0 ≡ cell (left r (rank-in c u)) (end-in c u)
+  pub above : (u : ℕ) → v ≤ u → getD c′ u 0 ≡ getD c u 0
+
+pub left-start : {r : ℕ} {c : List ℕ} → Left-below r 0 c c
+left-start = record { size = refl; below = λ u l k. absurd (omega arith); above = λ u l. refl }
+
+pub left-more : {r v : ℕ} {c c₁ c₂ : List ℕ} (rank end : ℕ) → Left-below r v c c₁ → rank ≡ left r (rank-in c₁ v) → end ≡ end-in c₁ v → c₂ ≡ set c₁ v (cell rank end) →
+    Left-below r (v + 1) c c₂
+left-more {r} {v} {c} {c₁} rank end q er ee ec = record {
+  size = rw (ec, length-set) (q .size);
+  below = λ u l k.
+      elim (ℕ-discrete u v) [
+        | yes d ↦
+            ap (λ (z : List ℕ). getD z u 0) ec ∙ ap (λ (j : ℕ). getD (set c₁ v (cell rank end)) j 0) d
+            ∙ getD-set-same c₁ v (cell rank end) 0 (omega (arith, k, d, q .size)) ∙ ap₂ cell er ee
+            ∙ ap (λ (x : ℕ). cell (left r (x / 65536)) (x % 65536)) (q .above v (omega arith) ∙ ap (λ (j : ℕ). getD c j 0) (sym d))
+        | no d ↦ ap (λ (z : List ℕ). getD z u 0) ec ∙ getD-set-other c₁ v u (cell rank end) 0 d ∙ q .below u (omega (arith, l, d)) k
+      ];
+  above = λ u l. ap (λ (z : List ℕ). getD z u 0) ec ∙ getD-set-other c₁ v u (cell rank end) 0 (λ d. omega (arith, d, l)) ∙ q .above u (omega (arith, l));
+}
+
+pub left-all : {r v : ℕ} {c c′ : List ℕ} → 0 < r → v ≡ 8 → Left-below r v c c′ → Cells-left r c c′
+unfolding units-from
+left-all {r} {v} {c} {c′} l ev q = record { change = λ w a. record { fit = fit w a; units = λ n. from w a 0 n } }
+  where
+    busy-stays : left r 0 ≡ 0
+    busy-stays = left-below r 0 l
+
+    is : length c ≡ 8 → (u : ℕ) → getD c′ u 0 ≡ cell (left r (rank-in c u)) (end-in c u)
+    is e u = go (ltb u 8) refl
+      where
+        go : (t : Bool) → ltb u 8 ≡ t → getD c′ u 0 ≡ cell (left r (rank-in c u)) (end-in c u)
+        go true z = q .below u (omega (arith, ltb-true u 8 z, ev)) (omega (arith, ltb-true u 8 z, e))
+        go false z =
+            let d = List·getD-eq-default c 0 {n = u} (omega (arith, ltb-false u 8 z, e)) in
+            q .above u (omega (arith, ltb-false u 8 z, ev)) ∙ d ∙ sym (ap (λ (x : ℕ). cell (left r (x / 65536)) (x % 65536)) d ∙ ap (λ (k : ℕ). cell k 0) busy-stays)
+
+    end-is : length c ≡ 8 → (u : ℕ) → end-in c′ u ≡ end-in c u
+    end-is e u = ap (λ (x : ℕ). x % 65536) (is e u) ∙ cell-end (left r (rank-in c u)) (end-in c u) (omega arith)
+
+    unit-is : (w : List ℕ) → length c ≡ 8 → (u : ℕ) → unit-in (store w c′) u ≡ flat-unit (left r (rank-in c u)) (stackOf w (base u) (height-in c u))
+    unit-is w e u =
+        ap₂ (λ (k z : ℕ). flat-unit k (stackOf w (base u) (z / 3 - u * height)))
+        (ap (λ (x : ℕ). x / 65536) (is e u) ∙ cell-rank (left r (rank-in c u)) (end-in c u) (omega arith)) (end-is e u)
+
+    from : (w : List ℕ) → Stacks-fit (store w c) → (u m : ℕ) → units-from w c′ u m ≡ leave r (units-from w c u m)
+    from w a u zero = refl
+    from w a u (suc m) = ap₂ (λ (x : FlatUnit) (us : List FlatUnit). x ∷ us) (unit-is w (a .regions .eight) u) (from w a (suc u) m)
+
+    fit : (w : List ℕ) → Stacks-fit (store w c) → Stacks-fit (store w c′)
+    fit w a = record {
+      regions = record { bytes = a .regions .bytes; eight = q .size ∙ a .regions .eight };
+      most = λ u. omega (arith, a .most u, end-is (a .regions .eight) u);
+      placed = λ u k. omega (arith, a .placed u k, end-is (a .regions .eight) u);
+    }
 
 -- the top frame, and the stack below it, of height y
 under : (w : List ℕ) (from h y : ℕ) → h ≡ y + 1 → stackOf w from y ≡ drop 1 (stackOf w from h)
@@ -136,7 +200,7 @@ drops {c} {c′} {u} z l p e ec = record {
       let m = a .most u in
       let r = end-less z (getD c u 0) e (omega arith) in
       restacked (store w c) (store w c′) u z (h - 1) (base u) (base u) (λ (fs : List Frame). drop 1 fs) a l ec
-      (sym (next-busy z (omega arith)) ∙ ap (λ (x : ℕ). ltb x 65536) e) (omega arith) outside-none (omega arith) (omega arith)
+      (sym (next-rank z (omega arith)) ∙ ap (λ (x : ℕ). x / 65536) e) (omega arith) outside-none (omega arith) (omega arith)
       (omega arith) (under w (base u) h (h - 1) (omega arith));
 }
 
@@ -158,11 +222,11 @@ module _ {s : Store} {u k : ℕ} {f : Frame} {w′ : List ℕ} (p : Frame-put k 
       let r = q .room in
       let l = q .unit in
       restacked s (store w′ c′) u (getD (s .cells) u 0 + 3) (h + 1) k (k + 3) (λ (fs : List Frame). f ∷ fs) (q .fit) l ec
-      (next-busy (getD (s .cells) u 0) (omega arith)) (omega arith) (p .outside) (omega arith) (omega arith) r (push p (base u) h (h + 1) (ek ∙ b) refl)
+      (next-rank (getD (s .cells) u 0) (omega arith)) (omega arith) (p .outside) (omega arith) (omega arith) r (push p (base u) h (h + 1) (ek ∙ b) refl)
 
 -- EXIT arrives: the count is now 0, or it isn't
 module _ {s : Store} {v i k : ℕ} {w′ : List ℕ} (h : Has-frame s v i) (ek : k ≡ base v + 3 * i) (q : Frame-put k (lower (frameAt (s .work) k)) (s .work) w′) where
-  fallen : Changed v (λ (x : FlatUnit). flat-unit (x .busy) (fall i (x .stack))) s (store w′ (s .cells))
+  fallen : Changed v (lowered i) s (store w′ (s .cells))
   fallen =
       let y = height-in (s .cells) v in
       let m = h .fit .most v in
@@ -174,10 +238,30 @@ module _ {s : Store} {v i k : ℕ} {w′ : List ℕ} (h : Has-frame s v i) (ek :
       let y = height-in (s .cells) v in
       ap (zero-in i) (sym (fall-at (base v) i ek q y (h .index))) ∙ zero-at w′ (base v) i y (h .index) ∙ ap (λ (j : ℕ). is-zero (frameAt w′ j)) (sym ek) ∙ z
 
-  pub arrive-last : is-zero (frameAt w′ k) ≡ true → {c′ : List ℕ} → Cell-changed v woken (s .cells) c′ → Changed v (arrive i) s (store w′ c′)
-  unfolding arrive
-  arrive-last z t = changed-as (changed-then fallen (t .change w′ (fallen .fit))) (rw (zero-is true z, arrive))
+  -- the rank that leaves
+  woken-is : (t : Bool) (r : ℕ) → is-zero (frameAt w′ k) ≡ t → elim t as (λ z. ℕ) [ true ↦ rank-in (s .cells) v | false ↦ 0 ] ≡ r → (n : ℕ) → v < n →
+      woken i (lowered i (unit (units-in s n) v)) ≡ r
+  unfolding woken
+  woken-is t r z e n l =
+      ap (λ (x : FlatUnit). woken i (lowered i x)) (unit-at (s .work) (s .cells) n v l)
+      ∙ ap (λ (b : Bool). elim b as (λ z. ℕ) [ true ↦ rank-in (s .cells) v | false ↦ 0 ]) (zero-is t z) ∙ e
 
-  pub arrive-more : is-zero (frameAt w′ k) ≡ false → Changed v (arrive i) s (store w′ (s .cells))
+  pub arrive-last : is-zero (frameAt w′ k) ≡ true → {c′ : List ℕ} → Cells-left (rank-in (s .cells) v) (s .cells) c′ → Arrived v i s (store w′ c′)
   unfolding arrive
-  arrive-more z = changed-as fallen (rw (zero-is false z, arrive))
+  arrive-last z t =
+      let a = t .change w′ (fallen .fit) in
+      record {
+        fit = a .fit;
+        units = λ n l.
+            a .units n ∙ ap (leave (rank-in (s .cells) v)) (fallen .units n)
+            ∙ ap (λ (r : ℕ). leave r (at v (lowered i) (units-in s n))) (sym (woken-is true (rank-in (s .cells) v) z refl n l));
+      }
+
+  pub arrive-more : is-zero (frameAt w′ k) ≡ false → Arrived v i s (store w′ (s .cells))
+  unfolding arrive
+  arrive-more z = record {
+    fit = fallen .fit;
+    units = λ n l.
+        fallen .units n ∙ sym (leave-none (at v (lowered i) (units-in s n)))
+        ∙ ap (λ (r : ℕ). leave r (at v (lowered i) (units-in s n))) (sym (woken-is false 0 z refl n l));
+  }

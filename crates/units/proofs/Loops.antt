@@ -1,19 +1,21 @@
--- The laws that the loops cite: the search for an idle unit, the offsets of unit after unit, all units put to sleep; and the start. Assumes nothing.
-use mathlib.Core.Path.{_≡_, refl, sym, ap, _∙_}
+-- The laws that the loops cite: the search for an idle unit, how many are idle, the offsets of unit after unit, all units put to sleep; and the start.
+-- Assumes nothing.
+use mathlib.Core.Path.{_≡_, refl, sym, ap, ap₂, _∙_}
 use mathlib.Core.Bool.{Bool, true, false}
 use mathlib.Core.List.{List, [], _∷_, map}
 use mathlib.Core.Logic.{inl, inr}
 use mathlib.Core.Option.{none, some}
-use Prim.Native.Nat.{ℕ, zero, suc, _+_, _*_, _-_, _%_, _≤_, _<_}
+use Prim.Native.Nat.{ℕ, zero, suc, _+_, _*_, _-_, _/_, _%_, _≤_, _<_}
 use native.Mathlib.Omega.{arith}
 use native.Mathlib.Decide.{ℕ-discrete}
 use native.Mathlib.Numerals.{add-one}
 use lib.Dec.{ltb}
-use lib.ListN.{length, getD, set, replicate, length-set, length-map, length-replicate, getD-replicate, List·getD-map, List·getD-eq-default}
+use lib.ListN.{length, getD, set, length-set, length-map, List·getD-map, List·getD-eq-default}
 use lib.Seq.{getD-set-same, getD-set-other}
-use borrow.Author.Tests.{lt-ltb, le-ltb, ltb-true, ltb-false}
-use Rattle.flat.specs.Machine.{Frame, FlatUnit, flat-unit, asleep, idle, idle-from, shift-frame, shift-unit, start-units}
-use Rattle.units.specs.Stacks.{height, base, stackOf, busy-in, end-in, height-in, units-from, units-of, Store, store, units-in, unit-in}
+use borrow.Author.Tests.{eq-eqb, ne-eqb, ltb-true, ltb-false}
+use Rattle.paper.specs.Machine.{numbers-from}
+use Rattle.flat.specs.Machine.{Frame, FlatUnit, flat-unit, asleep, idle-count, first-from, first-idle, shift-frame, shift-unit, start-units}
+use Rattle.units.specs.Stacks.{height, base, stackOf, cell, rank-in, end-in, height-in, units-from, units-of, Store, store, unit-in}
 use Rattle.units.specs.Contracts.{
   Same-outside,
   Frame-put,
@@ -21,12 +23,10 @@ use Rattle.units.specs.Contracts.{
   Stack-shifted,
   Eight-regions,
   Stacks-fit,
-  woken,
   pushed,
   topped,
   at,
   Changed,
-  Cell-changed,
   Units-shifted,
   Asleep-below,
   Started,
@@ -34,26 +34,43 @@ use Rattle.units.specs.Contracts.{
 use Rattle.units.proofs.Areas.{outside-none, outside-then}
 use Rattle.units.proofs.Stacks.{outside-stack, push}
 use Rattle.units.proofs.Units.{length-units, unit-at, units-are, changed-then}
-use Rattle.units.proofs.Changes.{store-same, store-other}
+use Rattle.units.proofs.Changes.{cell-rank, store-same, store-other}
 
--- the search, from unit 1 up: what is left of it at unit u with m units to go
 module _ (w c : List ℕ) where
-  pub idle-start : (n : ℕ) → idle (units-of w c n) ≡ idle-from 0 (units-from w c 0 (n - 0))
-  unfolding idle
-  idle-start n = let e : n - 0 ≡ n = omega arith in rw e
+  pub units-all : (u n : ℕ) → u ≡ 0 → units-of w c n ≡ units-from w c u (n - u)
+  units-all u n e = let z : n - 0 ≡ n = omega arith in rw (e, z)
 
-  pub idle-next : (u v m k : ℕ) → getD c u 0 < 65536 → v ≡ u + 1 → m ≡ k + 1 → idle-from u (units-from w c u m) ≡ idle-from v (units-from w c v k)
-  unfolding idle-from units-from
-  idle-next u v m k e f g = rw (f, g, add-one u, add-one k, lt-ltb (getD c u 0) 65536 e)
+  -- the search for the first of the queue: what is left of it at unit u with m units to go
+  pub first-start : (n : ℕ) → first-idle (units-of w c n) ≡ first-from 0 (units-from w c 0 (n - 0))
+  unfolding first-idle
+  first-start n = ap (first-from 0) (units-all 0 n refl)
 
-  pub idle-here : (u m : ℕ) → 65536 ≤ getD c u 0 → 0 < m → idle-from u (units-from w c u m) ≡ some u
-  unfolding idle-from units-from
-  idle-here u zero n l = absurd (omega arith)
-  idle-here u (suc m) n l = rw (le-ltb (getD c u 0) 65536 n)
+  pub first-next : (u v m k : ℕ) → (rank-in c u ≡ 1 → ⊥) → v ≡ u + 1 → m ≡ k + 1 → first-from u (units-from w c u m) ≡ first-from v (units-from w c v k)
+  unfolding first-from units-from
+  first-next u v m k e f g = rw (f, g, add-one u, add-one k) (rw (ne-eqb (rank-in c u) 1 e, first-from))
 
-  pub idle-none : (u m : ℕ) → m ≡ 0 → idle-from u (units-from w c u m) ≡ none
-  unfolding idle-from units-from
-  idle-none u m e = rw e
+  pub first-here : (u m : ℕ) → rank-in c u ≡ 1 → 0 < m → first-from u (units-from w c u m) ≡ some u
+  unfolding first-from units-from
+  first-here u zero n l = absurd (omega arith)
+  first-here u (suc m) n l = rw (eq-eqb (rank-in c u) 1 n, first-from)
+
+  pub first-none : (u m : ℕ) → m ≡ 0 → first-from u (units-from w c u m) ≡ none
+  unfolding first-from units-from
+  first-none u m e = rw e
+
+  -- how many are idle of m units from u up: none of none; one more or as many with the unit before
+  pub count-none : (u m : ℕ) → m ≡ 0 → idle-count (units-from w c u m) ≡ 0
+  unfolding idle-count units-from
+  count-none u m e = rw e
+
+  pub count-idle : (u v m k : ℕ) → 65536 ≤ getD c u 0 → v ≡ u + 1 → k ≡ m + 1 → idle-count (units-from w c u k) ≡ idle-count (units-from w c v m) + 1
+  unfolding idle-count units-from
+  count-idle u v m k l f g =
+      rw (f, g, add-one u, add-one m, add-one (idle-count (units-from w c (suc u) m))) (rw (ne-eqb (rank-in c u) 0 (λ e. omega arith), idle-count))
+
+  pub count-busy : (u v m k : ℕ) → getD c u 0 < 65536 → v ≡ u + 1 → k ≡ m + 1 → idle-count (units-from w c u k) ≡ idle-count (units-from w c v m)
+  unfolding idle-count units-from
+  count-busy u v m k l f g = rw (f, g, add-one u, add-one m) (rw (eq-eqb (rank-in c u) 0 (omega arith), idle-count))
 
 -- the offsets of the jobs of units 0 to u - 1 have gone along
 pub record Shifted-below (u a e k : ℕ) (s : Store) (w′ : List ℕ) : Type 0 where
@@ -99,8 +116,8 @@ module _ {s : Store} {a e k : ℕ} where
         let c = s .cells in
         let us = units-of w c n in
         units-are w′ c n (map (shift-unit a e k) us) (length-map us (shift-unit a e k) ∙ length-units w c 0 n)
-        (λ v l. ap (flat-unit (busy-in c v)) (p .stacks v (omega arith)) ∙ ap (shift-unit a e k) (sym (unit-at w c n v l))
-        ∙ sym (List·getD-map (shift-unit a e k) us v asleep));
+        (λ v l. ap (flat-unit (rank-in c v)) (p .stacks v (omega arith)) ∙ ap (shift-unit a e k) (sym (unit-at w c n v l))
+        ∙ sym (List·getD-map (shift-unit a e k) us v (asleep 1)));
   }
 
 -- one more unit is put to sleep; the units of the start
@@ -108,7 +125,7 @@ pub asleep-none : {s : Store} → Eight-regions s → Asleep-below 0 s
 asleep-none q = record { regions = q; ends = λ v l. absurd (omega arith); units = λ v l. absurd (omega arith) }
 
 pub asleep-more : {s s′ : Store} {u from : ℕ} → Asleep-below u s → u < 8 → from ≡ base u → Frame-put from Frame.sleep (s .work) (s′ .work) →
-    s′ .cells ≡ set (s .cells) u (from + 3 + 65536) → Asleep-below (u + 1) s′
+    s′ .cells ≡ set (s .cells) u (cell u (from + 3)) → Asleep-below (u + 1) s′
 unfolding stackOf
 asleep-more {s} {s′} {u} {from} q l e p ec = record {
   regions = record { bytes = omega (arith, p .outside .size, q .regions .bytes); eight = rw (ec, length-set) (q .regions .eight) };
@@ -116,22 +133,22 @@ asleep-more {s} {s′} {u} {from} q l e p ec = record {
   units = λ v k.
       elim (ℕ-discrete v u) [
         | yes d ↦
-            rw d (store-same s s′ u x false 1 ec idle-cell ends-at lc ∙ ap (flat-unit false) (push p (base u) 0 1 (omega arith) refl))
+            rw d (store-same s s′ u x u 1 ec ranks-as ends-at lc ∙ ap (flat-unit u) (push p (base u) 0 1 (omega arith) refl))
         | no d ↦
-            store-other s s′ u x false 1 ec idle-cell ends-at from (from + 3) (p .outside) (omega arith) (omega arith) v d
+            store-other s s′ u x u 1 ec ranks-as ends-at from (from + 3) (p .outside) (omega arith) (omega arith) v d
             (omega (arith, q .ends v (omega arith)))
             ∙ q .units v (omega arith)
       ];
 }
   where
     x : ℕ
-    x = from + 3 + 65536
+    x = cell u (from + 3)
 
     lc : u < length (s .cells)
     lc = omega (arith, q .regions .eight)
 
-    idle-cell : ltb x 65536 ≡ false
-    idle-cell = le-ltb x 65536 (omega arith)
+    ranks-as : x / 65536 ≡ u
+    ranks-as = cell-rank u (from + 3) (omega arith)
 
     ends-at : x % 65536 ≡ base u + 3 * 1
     ends-at = omega arith
@@ -150,24 +167,19 @@ asleep-fit {s} q = record { regions = q .regions; most = λ u. go u (ltb u 8) re
     go u true e = omega (arith, q .ends u (ltb-true u 8 e))
     go u false e = omega (arith, List·getD-eq-default (s .cells) 0 {n = u} (omega (arith, ltb-false u 8 e, q .regions .eight)))
 
-asleep-units : (s : Store) → Asleep-below 8 s → (n : ℕ) → n ≤ 8 → units-in s n ≡ replicate n asleep
-asleep-units s q n l =
-    units-are (s .work) (s .cells) n (replicate n asleep) (length-replicate n asleep)
-    (λ v k. q .units v (omega arith) ∙ sym (getD-replicate n v asleep asleep k))
+asleep-units : (s : Store) → Asleep-below 8 s → (u m : ℕ) → u + m ≤ 8 → units-from (s .work) (s .cells) u m ≡ map asleep (numbers-from u m)
+unfolding units-from numbers-from
+asleep-units s q u zero l = refl
+asleep-units s q u (suc m) l =
+    ap₂ (λ (x : FlatUnit) (us : List FlatUnit). x ∷ us) (q .units u (omega arith)) (asleep-units s q (suc u) m (omega arith))
 
-abbrev first : FlatUnit → FlatUnit
-first x = woken (pushed (Frame.job 0 0 0) (topped Frame.bingo x))
-
-pub started : {s s₁ : Store} {w c c′ : List ℕ} → Asleep-below 8 s → Changed 0 (topped Frame.bingo) s s₁ →
-    Changed 0 (pushed (Frame.job 0 0 0)) s₁ (store w c) → Cell-changed 0 woken c c′ → Started (store w c′)
-unfolding start-units
-started {s} {w = w} q p d t =
-    let z = t .change w (d .fit) in
-    record {
-      fit = z .fit;
-      units = λ n l m. changed-then (changed-then p d) z .units n ∙ ap (at 0 first) (asleep-units s q n m) ∙ from n l;
-    }
+pub started : {s s₁ s₂ : Store} → Asleep-below 8 s → Changed 0 (topped Frame.bingo) s s₁ → Changed 0 (pushed (Frame.job 0 0 0)) s₁ s₂ → Started s₂
+unfolding start-units numbers-from
+started {s} q p d = record { fit = d .fit; units = λ n l m. changed-then p d .units n ∙ ap (at 0 first) (asleep-units s q 0 n (omega arith)) ∙ from n l }
   where
-    from : (n : ℕ) → 1 ≤ n → at 0 first (replicate n asleep) ≡ flat-unit true (Frame.job 0 0 0 ∷ Frame.bingo ∷ []) ∷ replicate (n - 1) asleep
+    first : FlatUnit → FlatUnit
+    first x = pushed (Frame.job 0 0 0) (topped Frame.bingo x)
+
+    from : (n : ℕ) → 1 ≤ n → at 0 first (map asleep (numbers-from 0 n)) ≡ flat-unit 0 (Frame.job 0 0 0 ∷ Frame.bingo ∷ []) ∷ map asleep (numbers-from 1 (n - 1))
     from zero l = absurd (omega arith)
     from (suc n) l = let e : suc n - 1 ≡ n = omega arith in rw e

@@ -7,12 +7,12 @@ use Prim.Native.Nat.{ℕ, zero, suc, _+_, _-_, _≤_, _<_}
 use native.Mathlib.Omega.{arith}
 use native.Mathlib.Decide.{ℕ-discrete}
 use lib.Dec.{ltb}
-use lib.ListN.{length, set, length-set}
+use lib.ListN.{length, getD, set, length-set}
 use lib.Seq.{ext-getD, getD-set-same, getD-set-other, set-set, set-comm, set-out}
 use borrow.Author.Tests.{ltb-true, ltb-false}
 use Rattle.paper.specs.Sound.{All}
 use Rattle.flat.specs.Machine.{FlatUnit, unit, asleep}
-use Rattle.units.specs.Stacks.{base, Offsets, height-in, unit-of, units-from, units-of, Store, units-in, unit-in}
+use Rattle.units.specs.Stacks.{base, Offsets, rank-in, busy-in, height-in, unit-of, units-from, units-of, Store, units-in, unit-in}
 use Rattle.units.specs.Contracts.{Stacks-fit, at, Changed, Shiftable}
 use Rattle.units.proofs.Stacks.{length-stack, shift-offsets}
 
@@ -38,7 +38,7 @@ height-at w c n u l = ap (λ (x : FlatUnit). length (x .stack)) (unit-at w c n u
 
 pub units-are : (w c : List ℕ) (n : ℕ) (us : List FlatUnit) → length us ≡ n → ((u : ℕ) → u < n → unit-of w c u ≡ unit us u) → units-of w c n ≡ us
 units-are w c n us e f =
-    ext-getD asleep (units-of w c n) us (length-units w c 0 n ∙ sym e)
+    ext-getD (asleep 1) (units-of w c n) us (length-units w c 0 n ∙ sym e)
     (λ u l. let l′ : u < n = omega (arith, length-units w c 0 n) in unit-at w c n u l′ ∙ f u l′)
 
 -- one unit changes, the others are as they were
@@ -55,9 +55,9 @@ units-changed {s} {s′} {u} {g} q f e = record { fit = q; units = is }
         (λ v l. elim (ℕ-discrete v u) [
           | yes d ↦
               ap (λ (i : ℕ). unit-in s′ i) d ∙ e ∙ ap g (sym (unit-at w c n u (omega arith)))
-              ∙ sym (getD-set-same us u (g (unit us u)) asleep (omega (arith, length-units w c 0 n)))
+              ∙ sym (getD-set-same us u (g (unit us u)) (asleep 1) (omega (arith, length-units w c 0 n)))
               ∙ ap (λ (i : ℕ). unit (at u g us) i) (sym d)
-          | no d ↦ f v d ∙ sym (unit-at w c n v l) ∙ sym (getD-set-other us u v (g (unit us u)) asleep d)
+          | no d ↦ f v d ∙ sym (unit-at w c n v l) ∙ sym (getD-set-other us u v (g (unit us u)) (asleep 1) d)
         ])
 
 -- nothing has changed
@@ -74,10 +74,10 @@ module _ (u : ℕ) (us : List FlatUnit) where
       go false e = inr (ltb-false u (length us) e)
 
   pub at-same : (g : FlatUnit → FlatUnit) → u < length us → unit (at u g us) u ≡ g (unit us u)
-  at-same g l = getD-set-same us u (g (unit us u)) asleep l
+  at-same g l = getD-set-same us u (g (unit us u)) (asleep 1) l
 
   pub at-else : (g : FlatUnit → FlatUnit) (v : ℕ) → (v ≡ u → ⊥) → unit (at u g us) v ≡ unit us v
-  at-else g v n = getD-set-other us u v (g (unit us u)) asleep n
+  at-else g v n = getD-set-other us u v (g (unit us u)) (asleep 1) n
 
   pub at-is : (g : FlatUnit → FlatUnit) (x : FlatUnit) → unit us u ≡ x → at u g us ≡ set us u (g x)
   at-is g x e = ap (λ (y : FlatUnit). set us u (g y)) e
@@ -136,6 +136,13 @@ module _ {s s′ : Store} {u : ℕ} {g : FlatUnit → FlatUnit} (c : Changed u g
 
   pub height-other : (v : ℕ) → (v ≡ u → ⊥) → height-in (s′ .cells) v ≡ height-in (s .cells) v
   height-other v n = sym (height-is s′ v) ∙ ap (λ (x : FlatUnit). length (x .stack)) (unit-other v n) ∙ height-is s v
+
+-- the code's test of a rank
+pub busy-rank : (c : List ℕ) (u : ℕ) → busy-in c u ≡ true → rank-in c u ≡ 0
+busy-rank c u e = omega (arith, ltb-true (getD c u 0) 65536 e)
+
+pub idle-rank : (c : List ℕ) (u : ℕ) → busy-in c u ≡ false → 1 ≤ rank-in c u
+idle-rank c u e = omega (arith, ltb-false (getD c u 0) 65536 e)
 
 -- what holds of all units holds of each
 all-unit : (P : FlatUnit → Type 0) (us : List FlatUnit) (u : ℕ) → All P us → u < length us → P (unit us u)

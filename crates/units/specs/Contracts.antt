@@ -1,15 +1,14 @@
 -- What the functions on frames, stacks and units ask and ensure. Assumes nothing.
 use mathlib.Core.Path.{_≡_}
-use mathlib.Core.Bool.{true, false}
 use mathlib.Core.List.{List, _∷_, map}
 use mathlib.Core.Logic.{_⊎_}
 use mathlib.Core.Option.{Option, none, some}
-use Prim.Native.Nat.{ℕ, _+_, _*_, _-_, _/_, _≤_, _<_}
+use Prim.Native.Nat.{ℕ, suc, _+_, _*_, _-_, _/_, _≤_, _<_}
 use lib.ListN.{length, getD, drop}
 use lib.ListN.{set as put}
-use Rattle.flat.specs.Machine.{Frame, FlatUnit, flat-unit, unit, asleep, idle, shift-frame, shift-unit, start-units}
+use Rattle.flat.specs.Machine.{Frame, FlatUnit, flat-unit, unit, asleep, idle-count, first-idle, leave, arrive, shift-frame, shift-unit, start-units}
 use Rattle.units.specs.Frames.{frameAt, In-three-bytes}
-use Rattle.units.specs.Stacks.{height, base, stackOf, Offsets, busy-in, end-in, height-in, units-of, Store, store, units-in, unit-in}
+use Rattle.units.specs.Stacks.{height, base, stackOf, Offsets, rank-in, end-in, height-in, units-of, Store, store, units-in, unit-in}
 use Rattle.units.specs.declared.Unit as S
 use Rattle.units.specs.declared.Idle as I
 
@@ -57,27 +56,28 @@ pub record Has-room (s : Store) (u k : ℕ) : Type 0 where
   pub unit : u < 8
   pub room : height-in (s .cells) u + k ≤ height
 
--- x is unit u's state
+-- a cell has room for the state x; x is unit u's
+pub record Small (x : S.Unit) : Type 0 where
+  pub rank : x .rank < 65536
+  pub end : x .end < 65536
+
 pub record State-of (c : List ℕ) (u : ℕ) (x : S.Unit) : Type 0 where
-  pub busy : x .busy ≡ busy-in c u
+  pub rank : x .rank ≡ rank-in c u
   pub end : x .end ≡ end-in c u
-  pub small : x .end < 65536
+  pub small : Small x
 
 -- what is done to a unit
-abbrev pub woken : FlatUnit → FlatUnit
-woken x = flat-unit true (x .stack)
-
-abbrev pub idled : FlatUnit → FlatUnit
-idled x = flat-unit false (x .stack)
+abbrev pub idled : ℕ → FlatUnit → FlatUnit
+idled r x = flat-unit r (x .stack)
 
 abbrev pub dropped : FlatUnit → FlatUnit
-dropped x = flat-unit (x .busy) (drop 1 (x .stack))
+dropped x = flat-unit (x .rank) (drop 1 (x .stack))
 
 abbrev pub pushed : Frame → FlatUnit → FlatUnit
-pushed f x = flat-unit (x .busy) (f ∷ x .stack)
+pushed f x = flat-unit (x .rank) (f ∷ x .stack)
 
 abbrev pub topped : Frame → FlatUnit → FlatUnit
-topped f x = flat-unit (x .busy) (f ∷ drop 1 (x .stack))
+topped f x = flat-unit (x .rank) (f ∷ drop 1 (x .stack))
 
 -- the units, of which unit u has become another
 abbrev pub at : ℕ → (FlatUnit → FlatUnit) → List FlatUnit → List FlatUnit
@@ -91,6 +91,23 @@ pub record Changed (u : ℕ) (g : FlatUnit → FlatUnit) (s s′ : Store) : Type
 -- the same, of the cells alone
 pub record Cell-changed (u : ℕ) (g : FlatUnit → FlatUnit) (c c′ : List ℕ) : Type 0 where
   pub change : (w : List ℕ) → Stacks-fit (store w c) → Changed u g (store w c) (store w c′)
+
+-- unit u, of n, has become idle: it has joined the idle queue at the end
+pub record Cell-idled (n u : ℕ) (c c′ : List ℕ) : Type 0 where
+  pub change : (w : List ℕ) → Stacks-fit (store w c) → Changed u (idled (suc (idle-count (units-of w c n)))) (store w c) (store w c′)
+
+-- the unit of rank r has left the idle queue, and no stack has changed; the same, of the cells alone
+pub record Left (r : ℕ) (s s′ : Store) : Type 0 where
+  pub fit : Stacks-fit s′
+  pub units : (n : ℕ) → units-in s′ n ≡ leave r (units-in s n)
+
+pub record Cells-left (r : ℕ) (c c′ : List ℕ) : Type 0 where
+  pub change : (w : List ℕ) → Stacks-fit (store w c) → Left r (store w c) (store w c′)
+
+-- an EXIT has arrived at the job with stack index i of unit v
+pub record Arrived (v i : ℕ) (s s′ : Store) : Type 0 where
+  pub fit : Stacks-fit s′
+  pub units : (n : ℕ) → v < n → units-in s′ n ≡ arrive v i (units-in s n)
 
 -- the top frame of unit u's stack is f
 pub record Top-is (u : ℕ) (f : Frame) (s : Store) : Type 0 where
@@ -106,9 +123,14 @@ abbrev pub One-of : ℕ → I.Idle → Type 0
 One-of n (I.the-variants.Unit u) = u < n
 One-of n I.the-variants.None = Unit {0}
 
-pub record Lowest-idle (c : List ℕ) (n : ℕ) (r : I.Idle) : Type 0 where
-  pub units : (w : List ℕ) → idle (units-of w c n) ≡ answer r
+pub record First-idle (c : List ℕ) (n : ℕ) (r : I.Idle) : Type 0 where
+  pub units : (w : List ℕ) → first-idle (units-of w c n) ≡ answer r
   pub one : One-of n r
+
+-- how many of n units are idle
+pub record Idle-count (c : List ℕ) (n r : ℕ) : Type 0 where
+  pub units : (w : List ℕ) → idle-count (units-of w c n) ≡ r
+  pub few : r ≤ n
 
 -- The symbols from offset a to offset e give way to k others: the offsets of the jobs of n units go along, and ten bits hold the new ones.
 pub record Shiftable (n a e k : ℕ) (s : Store) : Type 0 where
@@ -120,11 +142,11 @@ pub record Units-shifted (n a e k : ℕ) (s s′ : Store) : Type 0 where
   pub fit : Stacks-fit s′
   pub units : units-in s′ n ≡ map (shift-unit a e k) (units-in s n)
 
--- units 0 to u - 1 are idle with SLEEP
+-- units 0 to u - 1 have SLEEP alone, and their number as rank
 pub record Asleep-below (u : ℕ) (s : Store) : Type 0 where
   pub regions : Eight-regions s
   pub ends : (v : ℕ) → v < u → end-in (s .cells) v ≡ base v + 3
-  pub units : (v : ℕ) → v < u → unit-in s v ≡ asleep
+  pub units : (v : ℕ) → v < u → unit-in s v ≡ asleep v
 
 -- the units of the machine's start, however many they are
 pub record Started (s : Store) : Type 0 where

@@ -1,6 +1,7 @@
 -- The units of the machine on lists, as they are kept (document 01, 'Orders of a unit'): a work area with their stacks, each in a region of its own, and
--- a cell for each unit, which is the place where its frames end and 65,536 times its rank; rank 0 is busy, above 0 idle. Assumes nothing.
-use mathlib.Core.Bool.{Bool, true, false}
+-- a cell for each unit, which is the place where its frames end and 65,536 times its rank; rank 0 is busy, above 0 the place in the idle queue.
+-- Assumes nothing.
+use mathlib.Core.Bool.{Bool}
 use mathlib.Core.List.{List, [], _∷_}
 use Prim.Native.Nat.{ℕ, zero, suc, _+_, _*_, _-_, _/_, _%_, _<_}
 use lib.Dec.{ltb}
@@ -31,12 +32,14 @@ Below m Frame.bingo = Unit {0}
 abbrev pub Offsets : ℕ → List Frame → Type 0
 Offsets m fs = All (Below m) fs
 
--- the cell of a unit that is busy or not, whose frames end at a place; the rank of an idle unit is 1
-abbrev pub cell : Bool → ℕ → ℕ
-cell true end = end
-cell false end = end + 65536
+-- the cell of a unit with a rank, whose frames end at a place
+abbrev pub cell : ℕ → ℕ → ℕ
+cell rank end = rank * 65536 + end
 
--- whether unit u is busy, where its frames end, and how many they are
+-- unit u's rank, whether it is busy, where its frames end, and how many they are
+abbrev pub rank-in : List ℕ → ℕ → ℕ
+rank-in c u = getD c u 0 / 65536
+
 abbrev pub busy-in : List ℕ → ℕ → Bool
 busy-in c u = ltb (getD c u 0) 65536
 
@@ -48,7 +51,7 @@ height-in c u = end-in c u / 3 - u * height
 
 -- unit u of the work area w and the cells c
 abbrev pub unit-of : List ℕ → List ℕ → ℕ → FlatUnit
-unit-of w c u = flat-unit (busy-in c u) (stackOf w (base u) (height-in c u))
+unit-of w c u = flat-unit (rank-in c u) (stackOf w (base u) (height-in c u))
 
 -- the m units from u up; the first n units
 unfoldable pub units-from : List ℕ → List ℕ → ℕ → ℕ → List FlatUnit

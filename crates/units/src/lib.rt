@@ -1,60 +1,77 @@
 // The states and the stacks of all units (document 01, 'Orders of a unit'), as the engine keeps them: a lent work area with the stacks, and a cell for
-// each unit, which is the place where its frames end and 65,536 times its rank. Rank 0 is busy, above 0 idle; here an idle unit's rank is 1.
+// each unit, which is the place where its frames end and 65,536 times its rank. Rank 0 is busy; an idle unit's rank is its place in the idle queue, 1 for
+// the first.
 pub mod frames;
 
 pub use frames::Exit;
 pub use frames::Frame;
 pub use frames::Job;
 ghost use mathlib.Core.Path.{_≡_};
-ghost use mathlib.Core.Bool.{true, false};
 ghost use mathlib.Core.List.{List};
-ghost use Prim.Native.Nat.{ℕ, _+_, _-_, _*_, _%_, _<_, _≤_};
+ghost use Prim.Native.Nat.{ℕ, _+_, _-_, _*_, _/_, _%_, _<_, _≤_};
 ghost use lib.ListN.{set};
-ghost use Rattle.flat.specs.Machine.{arrive};
+ghost use Rattle.flat.specs.Machine.{left};
 ghost use Rattle.units.specs.Frames.{flat, In-three-bytes};
 ghost use Rattle.units.specs.Stacks as K;
 ghost use Rattle.units.specs.Contracts as U;
 
-// The state of one unit, by value: whether it is busy, and the place where its frames end.
+// The state of one unit, by value: its rank, and the place where its frames end.
 pub struct Unit {
-    pub busy: bool,
+    pub rank: usize,
     pub end: usize,
 }
 
 impl Unit {
     // A job was put on its stack, or the last EXIT for its JOIN came: it is busy.
     pub fn wake(mut self) -> Unit
-        ensures { λ r. ⌜ (r .busy ≡ true) × (r .end ≡ self .end) ⌝ }
+        ensures { λ r. ⌜ (r .rank ≡ 0) × (r .end ≡ self .end) ⌝ }
     {
-        self.busy = true;
+        self.rank = 0;
         self
     }
 
     // JOIN with a count above 0: it stays on the stack; the unit becomes idle.
-    pub fn wait(mut self) -> Unit
-        ensures { λ r. ⌜ (r .busy ≡ false) × (r .end ≡ self .end) ⌝ }
+    pub fn wait(mut self, rank: usize) -> Unit
+        ensures { λ r. ⌜ (r .rank ≡ rank) × (r .end ≡ self .end) ⌝ }
     {
-        self.busy = false;
+        self.rank = rank;
         self
     }
 
     // SLEEP: it stays on the stack; the unit becomes idle.
-    pub fn sleep(mut self) -> Unit
-        ensures { λ r. ⌜ (r .busy ≡ false) × (r .end ≡ self .end) ⌝ }
+    pub fn sleep(mut self, rank: usize) -> Unit
+        ensures { λ r. ⌜ (r .rank ≡ rank) × (r .end ≡ self .end) ⌝ }
     {
-        self.busy = false;
+        self.rank = rank;
+        self
+    }
+
+    // The unit of a rank leaves the idle queue: that one wakes, and one behind it moves up.
+    fn move_up(mut self, rank: usize) -> Unit
+        requires { ⌜ 0 < rank ⌝ }
+        ensures { λ r. ⌜ (r .rank ≡ left rank (self .rank)) × (r .rank ≤ self .rank) × (r .end ≡ self .end) ⌝ }
+    {
+        if self.rank == rank {
+            return self.wake();
+        }
+        if rank < self.rank {
+            self.rank = self.rank - 1;
+        }
         self
     }
 }
 
-fn cell_of(busy: bool, end: usize) -> u32
-    requires { ⌜ end < 65536 ⌝ }
-    ensures { λ r. ⌜ r ≡ K.cell busy end ⌝ }
+fn cell_of(rank: usize, end: usize) -> u32
+    requires { ⌜ (rank < 65536) × (end < 65536) ⌝ }
+    ensures { λ r. ⌜ r ≡ K.cell rank end ⌝ }
 {
-    if busy {
-        return end as u32;
-    }
-    (end + 65536) as u32
+    casts::word(rank * 65536 + end)
+}
+
+fn rank_of(cell: u32) -> usize
+    ensures { λ r. ⌜ (r ≡ cell / 65536) × (r < 65536) ⌝ }
+{
+    casts::position(cell / 65536)
 }
 
 fn load(units: &[u32; 8], u: usize) -> Unit
@@ -63,7 +80,7 @@ fn load(units: &[u32; 8], u: usize) -> Unit
 {
     let x = units[u];
     Unit {
-        busy: x < 65536,
+        rank: rank_of(x),
         end: casts::position(x % 65536),
     }
 }
@@ -77,49 +94,81 @@ pub fn is_busy(units: &[u32; 8], u: usize) -> bool
 }
 
 fn store(units: &mut [u32; 8], u: usize, x: Unit)
-    requires { ⌜ (u < 8) × (x .end < 65536) ⌝ }
-    ensures { λ _. ⌜ now (units .exit) ≡ set (now (units .entry)) u (K.cell (x .busy) (x .end)) ⌝ }
+    requires { ⌜ (u < 8) × U.Small x ⌝ }
+    ensures { λ _. ⌜ now (units .exit) ≡ set (now (units .entry)) u (K.cell (x .rank) (x .end)) ⌝ }
 {
-    units[u] = cell_of(x.busy, x.end);
+    units[u] = cell_of(x.rank, x.end);
 }
 
-pub fn wake_unit(units: &mut [u32; 8], u: usize)
-    requires { ⌜ u < 8 ⌝ }
-    ensures { λ _. ⌜ U.Cell-changed u U.woken (now (units .entry)) (now (units .exit)) ⌝ }
+// The unit of a rank leaves the idle queue.
+pub fn leave(units: &mut [u32; 8], rank: usize)
+    requires { ⌜ 0 < rank ⌝ }
+    ensures { λ _. ⌜ U.Cells-left rank (now (units .entry)) (now (units .exit)) ⌝ }
 {
-    let unit = load(units, u);
-    if !unit.busy {
-        store(units, u, unit.wake());
+    let mut u = 0;
+    while u < 8 {
+        store(units, u, load(units, u).move_up(rank));
+        u += 1;
     }
 }
 
-pub fn wait_unit(units: &mut [u32; 8], u: usize)
+// Unit u is busy, and in no queue.
+fn wake_unit(units: &mut [u32; 8], u: usize)
     requires { ⌜ u < 8 ⌝ }
-    ensures { λ _. ⌜ U.Cell-changed u U.idled (now (units .entry)) (now (units .exit)) ⌝ }
+    ensures { λ _. ⌜ U.Cells-left (K.rank-in (now (units .entry)) u) (now (units .entry)) (now (units .exit)) ⌝ }
 {
-    store(units, u, load(units, u).wait());
+    let rank = rank_of(units[u]);
+    if rank != 0 {
+        leave(units, rank);
+    }
 }
 
-pub fn sleep_unit(units: &mut [u32; 8], u: usize)
-    requires { ⌜ u < 8 ⌝ }
-    ensures { λ _. ⌜ U.Cell-changed u U.idled (now (units .entry)) (now (units .exit)) ⌝ }
+// How many of count units are idle.
+fn idle_count(units: &[u32; 8], count: usize) -> usize
+    requires { ⌜ count ≤ 8 ⌝ }
+    ensures { λ r. ⌜ U.Idle-count (now (units .entry)) count r ⌝ }
 {
-    store(units, u, load(units, u).sleep());
+    let mut n = 0;
+    let mut v = count;
+    while 0 < v {
+        v -= 1;
+        if 65536 <= units[v] {
+            n += 1;
+        }
+    }
+    n
 }
 
-// The lowest-numbered idle unit, of count units.
+// Unit u, of count units, joins the idle queue.
+pub fn wait_unit(units: &mut [u32; 8], count: usize, u: usize)
+    requires { ⌜ (count ≤ 8) × (u < 8) ⌝ }
+    ensures { λ _. ⌜ U.Cell-idled count u (now (units .entry)) (now (units .exit)) ⌝ }
+{
+    let n = idle_count(units, count);
+    store(units, u, load(units, u).wait(n + 1));
+}
+
+pub fn sleep_unit(units: &mut [u32; 8], count: usize, u: usize)
+    requires { ⌜ (count ≤ 8) × (u < 8) ⌝ }
+    ensures { λ _. ⌜ U.Cell-idled count u (now (units .entry)) (now (units .exit)) ⌝ }
+{
+    let n = idle_count(units, count);
+    store(units, u, load(units, u).sleep(n + 1));
+}
+
+// The first of the idle queue, of count units.
 pub enum Idle {
     Unit(usize),
     None,
 }
 
-pub fn lowest_idle(units: &[u32; 8], count: usize) -> Idle
+pub fn first_idle(units: &[u32; 8], count: usize) -> Idle
     requires { ⌜ count ≤ 8 ⌝ }
-    ensures { λ r. ⌜ U.Lowest-idle (now (units .entry)) count r ⌝ }
+    ensures { λ r. ⌜ U.First-idle (now (units .entry)) count r ⌝ }
 {
     let mut v = 0;
     while v < count {
-        if 65536 <= units[v] {
+        if rank_of(units[v]) == 1 {
             return Idle::Unit(v);
         }
         v += 1;
@@ -187,12 +236,12 @@ pub fn push(work: &mut [u8], units: &mut [u32; 8], u: usize, f: Frame)
     units[u] = higher(units[u]);
 }
 
-// EXIT at unit v, which holds its JOIN: the count of the job at stack index i falls by one; if it is now 0, the unit is busy.
+// EXIT at unit v, which holds its JOIN: the count of the job at stack index i falls by one; if it is now 0, the unit is busy, and in no queue.
 pub fn arrive(work: &mut [u8], units: &mut [u32; 8], v: usize, i: usize)
     ghost { K.Store }
     requires { λ s. ⌜ K.store (now work) (now units) ≡ s ⌝ }
     requires { λ s. ⌜ U.Has-frame s v i ⌝ }
-    ensures { λ s _. ⌜ U.Changed v (arrive i) s (K.store (now (work .exit)) (now (units .exit))) ⌝ }
+    ensures { λ s _. ⌜ U.Arrived v i s (K.store (now (work .exit)) (now (units .exit))) ⌝ }
 {
     let at = frames::base_of(v) + 3 * i;
     frames::lower_at(work, at);
@@ -215,7 +264,7 @@ pub fn shift_units(work: &mut [u8], units: &[u32; 8], count: usize, a: usize, e:
     }
 }
 
-// All units idle with SLEEP.
+// All units with SLEEP, each with its number as rank: unit 0 is busy, and the others are idle in the order 1, 2 and up.
 fn sleep_all(work: &mut [u8], units: &mut [u32; 8])
     requires { ⌜ U.Eight-regions (K.store (now work) (now units)) ⌝ }
     ensures { λ _. ⌜ U.Asleep-below 8 (K.store (now (work .exit)) (now (units .exit))) ⌝ }
@@ -228,7 +277,7 @@ fn sleep_all(work: &mut [u8], units: &mut [u32; 8])
             units,
             u,
             Unit {
-                busy: false,
+                rank: u,
                 end: base + 3,
             },
         );
@@ -253,5 +302,4 @@ pub fn start(work: &mut [u8], units: &mut [u32; 8])
             count: 0,
         }),
     );
-    wake_unit(units, 0);
 }

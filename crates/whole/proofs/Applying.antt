@@ -63,7 +63,7 @@ map-none f q (x ∷ xs) = ap₂ (λ (y : _) (ys : List _). y ∷ ys) (q x) (map-
 pub unmoved : {s : Store} {n a e k : ℕ} → a + k ≡ e → Stacks-fit s → Units-shifted n a e k s s
 unmoved {s} {n} {a} {e} {k} q f = record {
   fit = f;
-  units = sym (map-none (shift-unit a e k) (λ x. ap (flat-unit (x .busy)) (map-none (shift-frame a e k) (frame-none a e k q) (x .stack))) (units-in s n));
+  units = sym (map-none (shift-unit a e k) (λ x. ap (flat-unit (x .rank)) (map-none (shift-frame a e k) (frame-none a e k q) (x .stack))) (units-in s n));
 }
 
 -- what stands before the symbols that go stays, and with one unit all jobs do: those below the place's, and it itself
@@ -90,7 +90,7 @@ unit-before : (a e k i u : ℕ) (us : List FlatUnit) → length us ≡ 1 → u <
     map (shift-unit a e k) (at u (topped (Frame.job i 0 0)) us) ≡ at u (topped (Frame.job i 0 0)) us
 unit-before a e k i u [] n l h j o = absurd (omega arith)
 unit-before a e k i zero (y ∷ []) n l h j o =
-    ap (λ (fs : List Frame). flat-unit (y .busy) fs ∷ [])
+    ap (λ (fs : List Frame). flat-unit (y .rank) fs ∷ [])
     (ap₂ (λ (g : Frame) (gs : List Frame). g ∷ gs) (frame-before a e k e (omega arith) (Frame.job i 0 0) j) (frames-before a e k a (omega arith) (drop 1 (y .stack)) o))
 unit-before a e k i (suc u) (y ∷ []) n l h j o = absurd (omega arith)
 unit-before a e k i u (y ∷ z ∷ us) n l h j o = absurd (omega arith)

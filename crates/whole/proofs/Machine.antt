@@ -45,7 +45,7 @@ module _ (B : Book) (x : Pl.Place) (p : P.Progress) (l : L.Limits) (s : Arrays) 
   abbrev whole : FlatOutcome
   whole = do-whole B (limits l) (x .unit) t a k c ss fs found
 
-  on-miss : found ≡ Hit.miss → whole ≡ going (with-unit t (x .unit) true (proceed a (suc k) c ss fs))
+  on-miss : found ≡ Hit.miss → whole ≡ going (with-unit t (x .unit) 0 (proceed a (suc k) c ss fs))
   unfolding do-whole
   on-miss e = rw e
 
@@ -58,12 +58,12 @@ module _ (B : Book) (x : Pl.Place) (p : P.Progress) (l : L.Limits) (s : Arrays) 
   on-full h i j = rw (h, i, j)
 
   on-rewritten : {ys : List ℕ} {e : ℕ} (xs zs : List ℕ) (us : List FlatUnit) (f : Frame) → found ≡ Hit.hit ys e → spent p l ≡ false →
-      over a (t .symbols) ys e ≡ false → unit (t .units) (x .unit) ≡ flat-unit true (f ∷ fs) → xs ≡ splice a e ys (t .symbols) →
+      over a (t .symbols) ys e ≡ false → unit (t .units) (x .unit) ≡ flat-unit 0 (f ∷ fs) → xs ≡ splice a e ys (t .symbols) →
       zs ≡ resize a e (flat.sizes (arity B) ys) (t .sizes) → us ≡ map (shift-unit a e (length ys)) (at (x .unit) (topped (Frame.job a 0 0)) (t .units)) →
       whole ≡ going (record { symbols = xs; sizes = zs; units = us; rewrites = suc (t .rewrites); granted = t .granted; kept = t .kept })
   unfolding do-whole do-rewrite
   on-rewritten xs zs us f h i j top q w r =
-      let z : at (x .unit) (topped (Frame.job a 0 0)) (t .units) ≡ put (t .units) (x .unit) (flat-unit true (Frame.job a 0 0 ∷ fs)) =
+      let z : at (x .unit) (topped (Frame.job a 0 0)) (t .units) ≡ put (t .units) (x .unit) (flat-unit 0 (Frame.job a 0 0 ∷ fs)) =
       ap (λ (y : FlatUnit). put (t .units) (x .unit) (topped (Frame.job a 0 0) y)) top in
       rw (h, i, j, q, w, r, z)
 

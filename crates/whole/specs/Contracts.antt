@@ -87,7 +87,7 @@ pub record Rewritten (x : Pl.Place) (ys : List ℕ) (n e count : ℕ) (s s′ : 
 
 -- the outcome of an answer, from s to s′; k, c, ss and fs are the job's, as do-whole has them
 abbrev pub outcome : Pl.Place → ℕ → ℕ → List Step → List Frame → FlatState → FlatState → W.Whole → FlatOutcome
-outcome x k c ss fs s s′ W.Whole.Missed = going (with-unit s (x .unit) true (proceed (x .offset) (suc k) c ss fs))
+outcome x k c ss fs s s′ W.Whole.Missed = going (with-unit s (x .unit) 0 (proceed (x .offset) (suc k) c ss fs))
 outcome x k c ss fs s s′ W.Whole.Rewrote = going s′
 outcome x k c ss fs s s′ W.Whole.Spent = ended Ending.spent s
 outcome x k c ss fs s s′ W.Whole.Full = ended Ending.full s
@@ -101,7 +101,7 @@ Stays s s′ W.Whole.Full = s′ ≡ s
 
 -- do-whole, for a unit that is busy with a job's frame on its stack
 pub record Carried-out (B : Book) (x : Pl.Place) (p : P.Progress) (l : L.Limits) (s s′ : Arrays) (r : W.Whole) : Type 0 where
-  pub is : (k c : ℕ) (ss : List Step) (f : Frame) (fs : List Frame) → unit (state s p l .units) (x .unit) ≡ flat-unit true (f ∷ fs) →
+  pub is : (k c : ℕ) (ss : List Step) (f : Frame) (fs : List Frame) → unit (state s p l .units) (x .unit) ≡ flat-unit 0 (f ∷ fs) →
       do-whole B (limits l) (x .unit) (state s p l) (x .offset) k c ss fs (rewrite (arity B) (B .rules) (x .offset) (state s p l .symbols))
       ≡ outcome x k c ss fs (state s p l) (state s′ (progress p r) l) r
   pub stays : Stays s s′ r

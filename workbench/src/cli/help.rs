@@ -188,7 +188,9 @@ for this grows with the square of the entries; --check 100 compares after every
 The picture has a lane for each unit: a box while it is busy, hatched while it
 waits at a JOIN, a thin line while it is idle, with arrows for FORKs and EXITs. A
 unit that waits may take a part; its box then stands above a hatched strip, the
-JOIN. Each cell says its entry when the pointer rests on it.
+JOIN. Of three units or more, those that are not busy are numbered, the one idle
+longest 1: a FORK's part goes to it. Each cell says its entry when the pointer
+rests on it.
 ";
 
 const TURNS: &str = "\

@@ -66,6 +66,8 @@ pub struct Step {
     pub term: Rc<[u8]>,
     /// Each unit's state after the entry.
     pub states: Vec<State>,
+    /// The units that are not busy then, the one that has been so longest first.
+    pub queue: Vec<usize>,
 }
 
 #[derive(Clone, Debug)]
@@ -269,6 +271,18 @@ impl Trace {
     pub fn term(&self) -> &Rc<[u8]> {
         self.steps.last().map_or(&self.start, |step| &step.term)
     }
+
+    /// The place in the queue, counted from 1, at which an entry, counted from
+    /// 0, meets a unit; `None` if that is busy.
+    pub fn place(&self, unit: usize, entry: usize) -> Option<usize> {
+        match entry.checked_sub(1) {
+            Some(before) => {
+                let mut queue = self.steps[before].queue.iter();
+                queue.position(|&idle| idle == unit).map(|place| place + 1)
+            }
+            None => (unit > 0).then_some(unit),
+        }
+    }
 }
 
 fn step(machine: &mut Machine, unit: usize, before: &Rc<[u8]>) -> (Step, Option<Ending>) {
@@ -287,6 +301,7 @@ fn step(machine: &mut Machine, unit: usize, before: &Rc<[u8]>) -> (Step, Option<
         place,
         term,
         states,
+        queue: machine.queue.iter().copied().collect(),
     };
     (step, ended)
 }

@@ -3,6 +3,8 @@
 //! A busy unit's lane is a box, a waiting one's is hatched, an idle one's is a
 //! thin line, so that the three differ in shape and not in colour alone. A unit
 //! that helps has its box above a hatched strip, the JOIN at which it waited.
+//! Of three units or more, those that are not busy have their place in the queue
+//! written where it changes: a FORK's part goes to number 1.
 
 use std::fmt::{Display, Write};
 
@@ -24,6 +26,9 @@ const STRIP: f64 = 8.0;
 const AXIS: f64 = 46.0;
 const LEGEND: f64 = 112.0;
 const HELPING_LEGEND: f64 = 30.0;
+const PLACES_LEGEND: f64 = 30.0;
+/// The least width that a place in the queue is written in.
+const PLACE_WIDTH: f64 = 9.0;
 /// Narrower cells have no letter, and narrower still no cell of their own.
 const LETTER_CELL: f64 = 10.0;
 const OWN_CELL: f64 = 3.0;
@@ -70,6 +75,8 @@ struct Layout {
     height: f64,
     /// Does a unit help?
     helping: bool,
+    /// Can several units be idle at once?
+    places: bool,
 }
 
 impl Layout {
@@ -91,7 +98,9 @@ impl Layout {
             .steps
             .iter()
             .any(|step| step.states.contains(&State::Helping));
+        let places = trace.units > 2;
         let plots = TOP + rows as f64 * row_height;
+        let optional = |drawn: bool, height: f64| if drawn { height } else { 0.0 };
         Layout {
             rows,
             row_entries,
@@ -99,8 +108,12 @@ impl Layout {
             row_height,
             width: (LEFT + plot + RIGHT).max(LEAST_WIDTH),
             legend: plots + 12.0,
-            height: plots + LEGEND + if helping { HELPING_LEGEND } else { 0.0 },
+            height: plots
+                + LEGEND
+                + optional(helping, HELPING_LEGEND)
+                + optional(places, PLACES_LEGEND),
             helping,
+            places,
         }
     }
 
@@ -173,6 +186,9 @@ impl Picture<'_> {
         for unit in 0..self.trace.units {
             self.label(row, unit);
             self.states(row, unit, entries.clone());
+            if self.layout.places {
+                self.places(row, unit, entries.clone());
+            }
         }
         if self.layout.cell >= OWN_CELL {
             for entry in entries.clone() {
@@ -210,6 +226,23 @@ impl Picture<'_> {
             let last = entry + 1 == entries.end;
             if last || self.state(unit, entry + 1) != state {
                 self.state_box(row, unit, state, from..entry + 1);
+                from = entry + 1;
+            }
+        }
+    }
+
+    /// A place in the queue is written once for neighbouring entries.
+    fn places(&mut self, row: usize, unit: usize, entries: std::ops::Range<usize>) {
+        let mut from = entries.start;
+        for entry in entries.clone() {
+            let place = self.trace.place(unit, from);
+            let last = entry + 1 == entries.end;
+            if last || self.trace.place(unit, entry + 1) != place {
+                let width = (entry + 1 - from) as f64 * self.layout.cell;
+                if let (Some(place), true) = (place, width >= PLACE_WIDTH) {
+                    let (x, y) = (self.layout.x(row, from), self.layout.lane(row, unit));
+                    self.put(place_number(place, x + 2.0, y + 7.0));
+                }
                 from = entry + 1;
             }
         }
@@ -354,6 +387,10 @@ impl Picture<'_> {
             self.helping_legend(y);
             y += HELPING_LEGEND;
         }
+        if self.layout.places {
+            self.places_legend(y);
+            y += PLACES_LEGEND;
+        }
         if own_cells {
             self.cell_legend(y);
         }
@@ -366,6 +403,16 @@ impl Picture<'_> {
         self.hatched(20.0, y + 10.0, 28.0, 6.0);
         self.put(format_args!(
             "<text x=\"56\" y=\"{}\">helps: busy with another unit's part, above its own JOIN</text>",
+            y + 12.0
+        ));
+    }
+
+    fn places_legend(&mut self, y: f64) {
+        self.put(format_args!(
+            "<rect x=\"20\" y=\"{}\" width=\"28\" height=\"2\" fill=\"{IDLE}\"/>{}\
+             <text x=\"56\" y=\"{}\">place among the units that are not busy, the one idle longest first: a FORK takes number 1</text>",
+            y + 9.0,
+            place_number(1, 22.0, y + 6.0),
             y + 12.0
         ));
     }
@@ -393,6 +440,13 @@ impl Picture<'_> {
             y + 12.0
         ));
     }
+}
+
+/// White around it keeps it legible over a lane.
+fn place_number(place: usize, x: f64, y: f64) -> String {
+    format!(
+        "<text class=\"place\" x=\"{x:.2}\" y=\"{y:.1}\" font-size=\"10\" stroke=\"white\" stroke-width=\"3\" paint-order=\"stroke\">{place}</text>"
+    )
 }
 
 const DEFINITIONS: &str = "<defs>\

@@ -86,10 +86,7 @@ pub fn change(step: &Step, before: State, rule_lines: &[usize]) -> String {
             let placed: Vec<String> = orders.iter().map(placed).collect();
             format!("gives {}", placed.join(", "))
         }
-        Deed::Fork(Some(unit)) if step.states[*unit] == State::Helping => {
-            format!("unit {unit} takes this part, above its JOIN")
-        }
-        Deed::Fork(Some(unit)) => format!("unit {unit} takes this part"),
+        Deed::Fork(Some(unit)) => taken(*unit, step),
         Deed::Fork(None) => "no unit is idle: becomes VISIT".into(),
         Deed::Join(0) => "passes".into(),
         Deed::Join(count) => format!("waits for {}", parts(*count)),
@@ -99,6 +96,17 @@ pub fn change(step: &Step, before: State, rule_lines: &[usize]) -> String {
         Deed::Stopped(rule, ending) => stopped(&rule_name(*rule, rule_lines), *ending),
         Deed::Sleep => "becomes idle".into(),
         Deed::Bingo => "finished".into(),
+    }
+}
+
+/// Which unit takes a part, and, if others are idle too, why that one.
+fn taken(unit: usize, step: &Step) -> String {
+    let helps = step.states[unit] == State::Helping;
+    match (step.queue.is_empty(), helps) {
+        (true, true) => format!("unit {unit} takes this part, above its JOIN"),
+        (true, false) => format!("unit {unit} takes this part"),
+        (false, true) => format!("unit {unit}, idle longest, takes it above its JOIN"),
+        (false, false) => format!("unit {unit}, idle longest, takes this part"),
     }
 }
 

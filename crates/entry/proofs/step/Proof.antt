@@ -53,7 +53,7 @@ join-requires c κs =
     let k = c .before .before .before .before in
     let q = k .before .before .before .before .before .before .pre in
     let t = q .1 .0 in
-    rw (t .3) (rowed (q .0) (t .0) (t .1) (t .2), can-proceed (q .0) (t .0) (t .1) (t .2))
+    rw (t .3) (rowed (q .0) (t .0) (t .1) (t .2), can-proceed (q .0) (t .0) (t .1) (t .2), q .0 .few)
 
 rewrite-requires : tie.Need-rewrite-requires
 rewrite-requires c κs =

@@ -12,7 +12,7 @@ grant-requires c κs =
     let l = v .before .before in
     let b = l .before .before in
     let s = b .before .before in
-    let q = rw (v .v .given .1) at (l .lowest-idle .ensures) in
+    let q = rw (v .v .given .1) at (l .first-idle .ensures) in
     let f = s .pre .1 in
     let r = f .grant _ (q .units _) in (
       s .pre .0 .0,
@@ -25,7 +25,7 @@ keep-requires c κs =
     let l = e .before .before in
     let b = l .before .before in
     let s = b .before .before in
-    let q = rw (e .enum-told .given .1) at (l .lowest-idle .ensures) in
+    let q = rw (e .enum-told .given .1) at (l .first-idle .ensures) in
     (s .pre .0 .0, record { job = s .pre .1 .job; offset = b .argument .ensures .1; room = s .pre .1 .keep (q .units _) })
 
 returns : tie.Need-returns
@@ -33,7 +33,7 @@ returns c =
     let g = c .before .before in
     let v = g .before .before .before .before in
     let l = v .before .before in
-    let q = rw (v .v .given .1) at (l .lowest-idle .ensures) in
+    let q = rw (v .v .given .1) at (l .first-idle .ensures) in
     let b = l .before .before in
     fork-grants (argument-found (b .before .before .pre .0 .1) (b .argument .ensures .0)) (q .units _) (g .grant .ensures)
 
@@ -42,7 +42,7 @@ returns-2 c =
     let g = c .before .before in
     let e = g .before .before .before in
     let l = e .before .before in
-    let q = rw (e .enum-told .given .1) at (l .lowest-idle .ensures) in
+    let q = rw (e .enum-told .given .1) at (l .first-idle .ensures) in
     let b = l .before .before in
     fork-keeps (argument-found (b .before .before .pre .0 .1) (b .argument .ensures .0)) (q .units _) (g .keep .ensures)
 

@@ -1,4 +1,4 @@
--- `orders::give` meets its contract: two frames are put, and the unit is busy. Assumes nothing.
+-- `orders::give` meets its contract: two frames are put, and the first of the idle queue leaves it. Assumes nothing.
 use borrow.Author.Needs.{needs}
 use Rattle.orders.proofs.Forks.{second-room, gave}
 use Rattle.orders.proofs.give.Statement.{statement}
@@ -14,7 +14,7 @@ returns : tie.Need-returns
 returns c =
     let q = c .before .before .before .before in
     let p = q .before .before .before .before .before in
-    gave (p .push .ensures) (q .push2 .ensures) (c .wake-unit .ensures)
+    gave (p .push .ensures) (q .push2 .ensures) (c .leave .ensures)
 
 pub give-spec : {M : Type 1} → statement M
 give-spec = tie.close (tie.spec (λ c κs. search needs) push-requires-2 (λ c κs. search needs) (λ c. search needs) returns)

@@ -1,4 +1,4 @@
--- `units::start` meets its contract: from all units asleep, three changes at unit 0. Assumes nothing.
+-- `units::start` meets its contract: from all units asleep, two changes at unit 0. Assumes nothing.
 use native.Mathlib.Omega.{arith}
 use borrow.Author.Needs.{needs}
 use Rattle.units.proofs.Loops.{asleep-fit, started}
@@ -18,9 +18,9 @@ push-requires c κs =
 
 returns : tie.Need-returns
 returns c =
-    let p = c .before .before .before .before in
+    let p = c .before .before in
     let t = p .before .before .before .before .before in
-    started (t .before .before .before .before .before .sleep-all .ensures) (t .set-top .ensures) (p .push .ensures) (c .wake-unit .ensures)
+    started (t .before .before .before .before .before .sleep-all .ensures) (t .set-top .ensures) (p .push .ensures)
 
 pub start-spec : {M : Type 1} → statement M
-start-spec = tie.close (tie.spec (λ c κs. search needs) set-top-requires push-requires (λ c κs. search needs) (λ c. search needs) returns)
+start-spec = tie.close (tie.spec (λ c κs. search needs) set-top-requires push-requires (λ c. search needs) returns)
