@@ -69,8 +69,8 @@ static inline void push(engine *e, unsigned unit, unsigned kind, unsigned value)
 
 // Terms.
 
-// A symbol's record: its operator, and the size of the term that it begins.
-enum { ONE_SIZE = 512 };
+// A symbol's record: its operator, and of the term that it begins whether it is marked, having no orders left, and the size.
+enum { MARK = 256, ONE_SIZE = 512 };
 
 static inline uint32_t make(unsigned o, unsigned size) { return o + size * ONE_SIZE; }
 
@@ -79,6 +79,10 @@ static inline unsigned operator_of(uint32_t cell) { return cell & 255; }
 static inline unsigned size_of(uint32_t cell) { return cell >> 9; }
 
 static inline unsigned operator_at(const engine *e, unsigned at) { return operator_of(e->cells[at]); }
+
+static inline int is_marked(const engine *e, unsigned at) { return (e->cells[at] & MARK) != 0; }
+
+static inline void mark(engine *e, unsigned at) { e->cells[at] |= MARK; }
 
 // The offset behind so many terms.
 static inline unsigned skip(const uint32_t *cells, unsigned at, unsigned terms) {
@@ -331,19 +335,24 @@ static inline unsigned place_to_take(const engine *e) {
 
 // Orders.
 
-// The top job, of operator o, goes on with step k and a count.
+// The top job, of operator o, goes on with step k and a count. If there is no such step it is over, and its term is marked: the last step is a WHOLE, which
+// found no match.
 INLINE void proceed(engine *e, unsigned unit, uint8_t *top, unsigned o, unsigned offset, unsigned k, unsigned count) {
-    if (e->read.laid[16 * o + k] == NONE) e->tops[unit] -= 3;
-    else {
+    if (e->read.laid[16 * o + k] == NONE) {
+        e->tops[unit] -= 3;
+        mark(e, offset);
+    } else {
         top[0] = (uint8_t)(k + 1);
         set(top, offset | count << 10);
     }
 }
 
-// The orders of the term at an offset.
+// The orders of the term at an offset, which has none if it is marked.
 INLINE void enter(engine *e, unsigned unit, unsigned offset) {
+    if (is_marked(e, offset)) return;
     unsigned o = operator_at(e, offset);
-    if (e->read.laid[16 * o] != NONE) push(e, unit, 1, offset | (unsigned)e->joins[16 * o] << 10);
+    if (e->read.laid[16 * o] == NONE) mark(e, offset);
+    else push(e, unit, 1, offset | (unsigned)e->joins[16 * o] << 10);
 }
 
 static int whole(engine *e, unsigned unit, uint8_t *top, unsigned o, unsigned offset, unsigned k, unsigned count) {
@@ -389,7 +398,8 @@ static void leave(engine *e, unsigned unit, const uint8_t *top) {
 INLINE int job(engine *e, unsigned unit, uint8_t *top) {
     unsigned k = top[0], value = get(top), offset = value & 1023, count = value >> 10, o = operator_at(e, offset);
     if (k == 0) {
-        proceed(e, unit, top, o, offset, 0, e->joins[16 * o]);
+        if (is_marked(e, offset)) e->tops[unit] -= 3;
+        else proceed(e, unit, top, o, offset, 0, e->joins[16 * o]);
         return GOING;
     }
     unsigned step = e->read.laid[16 * o + k - 1];

@@ -6,7 +6,6 @@
 use std::collections::{HashMap, VecDeque};
 use std::{io, mem};
 
-use crate::broken_lines;
 use crate::model::{
     self, Answer, Book, Filling, Form, Item, Lengths, Machine, Operator, Order, Pattern, Rule,
     Term, Unit, GAP,
@@ -17,6 +16,7 @@ use crate::subject::{
     hand_over, hand_over_records, Done, Lent, ModelSubject, Question, Subject, Told, Written,
     MODEL_PUBLISHED,
 };
+use crate::{broken_lines, broken_marks};
 
 #[derive(Clone, Copy, Debug, PartialEq, Eq)]
 pub enum Slip {
@@ -117,6 +117,20 @@ pub enum Slip {
     Low,
     /// An input has a day whatever its book.
     Always,
+    /// The new symbols of a right side are marked.
+    Fresh,
+    /// Copies are without marks.
+    Lost,
+    /// Of a repeated variable the last part is copied.
+    Later,
+    /// A repeated variable's parts differ if their marks do.
+    Marks,
+    /// A marked part is walked again.
+    Again,
+    /// VISIT of a marked part takes no entry.
+    Free,
+    /// FORK of a marked part is dropped.
+    Forked,
     /// Many lines share one budget.
     Purse,
     /// A line's schedule goes on where the last line's run ended.
@@ -133,7 +147,7 @@ pub enum Slip {
     Rest,
 }
 
-pub const SLIPS: [(&str, Slip); 55] = [
+pub const SLIPS: [(&str, Slip); 62] = [
     ("join", Slip::Join),
     ("list", Slip::List),
     ("zeros", Slip::Zeros),
@@ -182,6 +196,13 @@ pub const SLIPS: [(&str, Slip); 55] = [
     ("days", Slip::Days),
     ("low", Slip::Low),
     ("always", Slip::Always),
+    ("fresh", Slip::Fresh),
+    ("lost", Slip::Lost),
+    ("later", Slip::Later),
+    ("marks", Slip::Marks),
+    ("again", Slip::Again),
+    ("free", Slip::Free),
+    ("forked", Slip::Forked),
     ("purse", Slip::Purse),
     ("onwards", Slip::Onwards),
     ("halt", Slip::Halt),
@@ -294,7 +315,7 @@ impl BrokenModel {
         };
         model::check_schedule(question.schedule, question.units)?;
         let singles = match self.slip {
-            Slip::Special | Slip::Back | Slip::Beside => singles(&book),
+            Slip::Special | Slip::Back | Slip::Beside | Slip::Marks => singles(&book),
             _ => Vec::new(),
         };
         let mut machine = Machine::new(&book, line, question.units, question.budget);
@@ -419,12 +440,18 @@ impl BrokenModel {
                 Slip::Newcomer => entry_queueing_in_front(machine, unit),
                 Slip::Woken => entry_keeping_places(machine, unit, &mut places),
                 Slip::Below => entry_working_below(machine, unit),
-                Slip::Lengths | Slip::Last | Slip::Anew => {
+                Slip::Lengths | Slip::Last | Slip::Anew | Slip::Later => {
                     entry_taking_as_alike(machine, unit, self.slip)
                 }
                 Slip::Special | Slip::Back | Slip::Beside => {
                     entry_by_net(machine, unit, self.slip, &walker, singles)
                 }
+                Slip::Fresh
+                | Slip::Lost
+                | Slip::Marks
+                | Slip::Again
+                | Slip::Free
+                | Slip::Forked => broken_marks::entry(self.slip, machine, unit, singles),
                 _ => machine.entry(unit),
             };
             if let Some(ending) = ending {
@@ -607,7 +634,7 @@ fn entry_counting_grants_twice(machine: &mut Machine, unit: usize) -> Option<u8>
 /// A FORK sees another queue. The unit that gets its part is then taken from
 /// the one that there is.
 fn entry_with_queue(machine: &mut Machine, unit: usize, slip: Slip) -> Option<u8> {
-    if !is_due(machine, unit, |order| matches!(order, Order::Fork { .. })) {
+    if !matches!(machine.due(unit), Some(Order::Fork { .. })) {
         return machine.entry(unit);
     }
     let seen = seen_queue(machine, unit, slip);
@@ -648,7 +675,7 @@ fn entry_queueing_in_front(machine: &mut Machine, unit: usize) -> Option<u8> {
 /// `places` are the queue with the woken units still in it; one that becomes
 /// idle again has its old place.
 fn entry_keeping_places(machine: &mut Machine, unit: usize, places: &mut Vec<usize>) -> Option<u8> {
-    let is_fork = is_due(machine, unit, |order| matches!(order, Order::Fork { .. }));
+    let is_fork = matches!(machine.due(unit), Some(Order::Fork { .. }));
     let first = machine.queue.front().copied();
     let ending = machine.entry(unit);
     if is_fork {
@@ -666,11 +693,6 @@ fn entry_keeping_places(machine: &mut Machine, unit: usize, places: &mut Vec<usi
 
 fn state_and_height(unit: &Unit) -> (bool, usize) {
     (unit.busy, unit.orders.len())
-}
-
-fn is_due(machine: &Machine, unit: usize, is: impl Fn(&Order) -> bool) -> bool {
-    let unit = &machine.units[unit];
-    unit.busy && unit.orders.last().is_some_and(is)
 }
 
 /// The JOIN then stands two orders higher, and its EXITs with it.
@@ -703,10 +725,7 @@ fn entry_working_below(machine: &mut Machine, unit: usize) -> Option<u8> {
 /// side takes it for.
 fn entry_taking_as_alike(machine: &mut Machine, unit: usize, slip: Slip) -> Option<u8> {
     let book = machine.book;
-    if let (true, Some(Order::Whole { term, .. })) = (
-        machine.units[unit].busy,
-        machine.units[unit].orders.last().cloned(),
-    ) {
+    if let Some(Order::Whole { term, .. }) = machine.due(unit).cloned() {
         let part = machine.term.part_mut(&term).expect("no order is stray");
         let before = part.clone();
         let taken = book.rules.iter().find_map(|rule| {
@@ -732,9 +751,9 @@ fn takes_as_alike<'t>(
             match (*filled, slip) {
                 (Some(first), Slip::Lengths) => first.size() == term.size(),
                 (Some(first), Slip::Last) => front(first) == front(term),
-                _ => {
+                (first, _) => {
                     *filled = Some(term);
-                    true
+                    slip != Slip::Later || first.is_none_or(|first| first == term)
                 }
             }
         }
@@ -774,9 +793,7 @@ fn entry_by_net<'b>(
     singles: &'b [Book],
 ) -> Option<u8> {
     let book = machine.book;
-    if let (true, Some(Order::Whole { term, .. })) =
-        (machine.units[unit].busy, machine.units[unit].orders.last())
-    {
+    if let Some(Order::Whole { term, .. }) = machine.due(unit) {
         let part = machine.term.part(term).expect("no order is stray");
         let found = found_by_net(walker, part, slip);
         machine.book = &singles[found.map_or(0, |rule| rule + 1)];

@@ -7,6 +7,7 @@ use crate::batches::{self, Batches};
 use crate::buffers::{hexadecimal, Lenders};
 use crate::days::{self, Days};
 use crate::draft::{Batch, Case};
+use crate::marks::{self, Marks};
 use crate::model::refusal::OF_BOOKS;
 use crate::model::{self, Answer, Form, Lengths};
 use crate::nets::{self, Nets};
@@ -35,6 +36,7 @@ pub struct Tally {
     pub repeats: Repeats,
     pub days: Days,
     pub nets: Nets,
+    pub marks: Marks,
     pub batches: Batches,
 }
 
@@ -66,6 +68,7 @@ impl Tally {
             ),
             unmet_kinds("rules or runs", &days::KINDS, &self.days.counts),
             unmet_kinds("searches", &nets::KINDS, &self.nets.counts),
+            unmet_kinds("orders", &marks::KINDS, &self.marks.counts),
             unmet_kinds("batches", &batches::KINDS, &self.batches.counts),
         ]
         .concat()
@@ -176,6 +179,7 @@ impl<'a> Comparison<'a> {
             self.tally.repeats.count(&question);
             self.tally.days.count(&question, answer);
             self.tally.nets.count(&question);
+            self.tally.marks.count(&question);
         }
         let mut lent = self.lent.lend(lengths, case.junk);
         let found = self.subject.answer(&question, &mut lent);
@@ -317,8 +321,8 @@ impl Display for Tally {
         }
         write!(
             text,
-            "{}{}{}{}",
-            self.repeats, self.days, self.nets, self.batches
+            "{}{}{}{}{}",
+            self.repeats, self.days, self.nets, self.marks, self.batches
         )
     }
 }

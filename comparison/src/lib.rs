@@ -12,9 +12,10 @@
 //! - `repeats`: what the cases try of variables that stand again on the left.
 //! - `days`: what they try of rules with days.
 //! - `nets`: what they try of a net over the left sides.
+//! - `marks`: what they try of marks.
 //! - `batches`: random lines for one book, and what they try.
-//! - `broken`, `broken_lines`: the model with one slip, to show that slips are
-//!   found.
+//! - `broken`, `broken_lines`, `broken_marks`: the model with one slip, to show
+//!   that slips are found.
 //! - `library`: the static library as a subject, under the feature `library`.
 //! - `program`: the pages of the programs `reduce` and `payee`.
 //! - `vectors`: pages and written books from outside.
@@ -24,6 +25,7 @@ pub mod books;
 pub mod branching;
 pub mod broken;
 pub mod broken_lines;
+pub mod broken_marks;
 pub mod buffers;
 pub mod compare;
 pub mod dates;
@@ -33,6 +35,7 @@ pub mod faults;
 pub mod grow;
 #[cfg(feature = "library")]
 pub mod library;
+pub mod marks;
 pub mod model;
 pub mod nets;
 pub mod program;

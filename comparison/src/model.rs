@@ -51,16 +51,36 @@ pub mod ending {
 // ---------------------------------------------------------------------------
 // Terms, patterns and books
 
-#[derive(Clone, Debug, PartialEq, Eq)]
+#[derive(Clone, Debug)]
 pub struct Term {
     pub operator: u8,
     pub arguments: Vec<Term>,
+    /// A part that has no orders left is finished, and its root is marked.
+    pub marked: bool,
 }
+
+/// Terms are equal symbol by symbol, whatever is marked.
+impl PartialEq for Term {
+    fn eq(&self, other: &Term) -> bool {
+        self.operator == other.operator && self.arguments == other.arguments
+    }
+}
+
+impl Eq for Term {}
 
 /// The arguments to follow from the root, each counted from 1.
 pub type Position = Vec<u8>;
 
 impl Term {
+    /// A new symbol is unmarked.
+    pub fn new(operator: u8, arguments: Vec<Term>) -> Term {
+        Term {
+            operator,
+            arguments,
+            marked: false,
+        }
+    }
+
     pub fn size(&self) -> usize {
         1 + self.arguments.iter().map(Term::size).sum::<usize>()
     }
@@ -127,13 +147,10 @@ impl Pattern {
     pub fn filled(&self, filling: &Filling) -> Term {
         match self {
             Pattern::Variable(variable) => filled_variable(filling, *variable).clone(),
-            Pattern::Operator(operator, arguments) => Term {
-                operator: *operator,
-                arguments: arguments
-                    .iter()
-                    .map(|pattern| pattern.filled(filling))
-                    .collect(),
-            },
+            Pattern::Operator(operator, arguments) => {
+                let parts = arguments.iter().map(|pattern| pattern.filled(filling));
+                Term::new(*operator, parts.collect())
+            }
         }
     }
 
@@ -279,7 +296,7 @@ impl Book {
         })
     }
 
-    fn strategy(&self, term: &Term) -> &[Item] {
+    pub fn strategy(&self, term: &Term) -> &[Item] {
         &self.operators[usize::from(term.operator)].strategy
     }
 }
@@ -660,10 +677,7 @@ fn read_term(book: &Book, rest: &mut std::slice::Iter<u8>) -> Result<Term, u8> {
     let arguments = (0..known.arity)
         .map(|_| read_term(book, rest))
         .collect::<Result<_, u8>>()?;
-    Ok(Term {
-        operator,
-        arguments,
-    })
+    Ok(Term::new(operator, arguments))
 }
 
 // ---------------------------------------------------------------------------
@@ -739,14 +753,10 @@ pub fn check_text_length(classes: &[u8]) -> Result<(), u8> {
 
 /// The first class is at the root.
 pub fn text_term(classes: &[u8]) -> Term {
-    let end = Term {
-        operator: END,
-        arguments: Vec::new(),
-    };
-    classes.iter().rfold(end, |rest, &operator| Term {
-        operator,
-        arguments: vec![rest],
-    })
+    let end = Term::new(END, Vec::new());
+    classes
+        .iter()
+        .rfold(end, |rest, &operator| Term::new(operator, vec![rest]))
 }
 
 /// What stands where a run takes its term from.
@@ -909,6 +919,12 @@ impl<'b> Machine<'b> {
         ending::CUT
     }
 
+    /// The order that an entry for the unit carries out; none if it is idle.
+    pub fn due(&self, unit: usize) -> Option<&Order> {
+        let unit = &self.units[unit];
+        unit.orders.last().filter(|_| unit.busy)
+    }
+
     /// Carries out one schedule entry; answers the ending if it ends the run.
     pub fn entry(&mut self, unit: usize) -> Option<u8> {
         self.entries += 1;
@@ -932,12 +948,19 @@ impl<'b> Machine<'b> {
         None
     }
 
-    /// The last item goes to the list first, so that the first ends on top.
+    /// A marked part is dropped. The last item goes to the list first, so that
+    /// the first ends on top; an empty strategy finishes the part.
     fn visit(&mut self, unit: usize, term: Position) {
         let book = self.book;
+        let part = present_part_mut(&mut self.term, &term);
+        if part.marked {
+            return;
+        }
+        let strategy = book.strategy(part);
+        part.marked = strategy.is_empty();
         let orders = &mut self.units[unit].orders;
         let below = orders.len();
-        for item in book.strategy(present_part(&self.term, &term)).iter().rev() {
+        for item in strategy.iter().rev() {
             match item {
                 Item::Whole => orders.push(Order::Whole {
                     term: term.clone(),
@@ -994,7 +1017,10 @@ impl<'b> Machine<'b> {
 
     fn whole(&mut self, unit: usize, term: Position, below: usize) -> Option<u8> {
         let part = present_part(&self.term, &term);
-        let (rule, filling) = self.book.first_match(part)?;
+        let Some((rule, filling)) = self.book.first_match(part) else {
+            self.miss(unit, &term, below);
+            return None;
+        };
         if self.rewrites == self.budget {
             return Some(ending::SPENT);
         }
@@ -1002,14 +1028,20 @@ impl<'b> Machine<'b> {
         if size > self.size_limit {
             return Some(ending::FULL);
         }
-        let filled = rule.right.filled(&filling);
-        *self.term.part_mut(&term).expect("the part was just there") = filled;
+        *present_part_mut(&mut self.term, &term) = rule.right.filled(&filling);
         self.size = size;
         debug_assert_eq!(self.size, self.term.size());
         self.rewrites += 1;
         self.units[unit].orders.truncate(below);
         self.units[unit].orders.push(Order::Visit(term));
         None
+    }
+
+    /// Only the last of a term's orders finishes it.
+    fn miss(&mut self, unit: usize, term: &[u8], below: usize) {
+        if self.units[unit].orders.len() == below {
+            present_part_mut(&mut self.term, term).marked = true;
+        }
     }
 
     pub fn answer(&self, ending: u8) -> Answer {
@@ -1026,6 +1058,11 @@ impl<'b> Machine<'b> {
 
 fn present_part<'t>(term: &'t Term, at: &[u8]) -> &'t Term {
     term.part(at)
+        .expect("an order names a part of the present term")
+}
+
+fn present_part_mut<'t>(term: &'t mut Term, at: &[u8]) -> &'t mut Term {
+    term.part_mut(at)
         .expect("an order names a part of the present term")
 }
 

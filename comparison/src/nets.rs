@@ -175,8 +175,7 @@ impl Nets {
 
     /// Looks at the search of the unit's next entry, if there is one.
     fn look(&mut self, walker: &Walker, absent: &[&Path], machine: &Machine, unit: usize) {
-        let unit = &machine.units[unit];
-        let Some(Order::Whole { term, .. }) = unit.orders.last().filter(|_| unit.busy) else {
+        let Some(Order::Whole { term, .. }) = machine.due(unit) else {
             return;
         };
         let Some(part) = machine.term.part(term) else {

@@ -52,8 +52,7 @@ impl Repeats {
 
     /// Looks at the rules that the unit's next entry tries.
     fn look(&mut self, machine: &Machine, unit: usize) {
-        let unit = &machine.units[unit];
-        let Some(Order::Whole { term, .. }) = unit.orders.last().filter(|_| unit.busy) else {
+        let Some(Order::Whole { term, .. }) = machine.due(unit) else {
             return;
         };
         let Some(part) = machine.term.part(term) else {

@@ -93,7 +93,10 @@ fn form_of(slip: Slip) -> Form {
 #[test]
 fn what_was_not_met_is_named() {
     let (tally, _) = compare(&mut ModelSubject, 31, 0..0);
-    assert_eq!(tally.missing().len(), 4 + 17 + 4 + 14 + 9 + 7 + 8 + 8 + 10);
+    assert_eq!(
+        tally.missing().len(),
+        4 + 17 + 4 + 14 + 9 + 7 + 8 + 8 + 6 + 10
+    );
     assert_eq!(
         tally.missing()[..5].join(", "),
         "ending 0, ending 1, ending 2, ending 3, refusal 1"
@@ -108,7 +111,8 @@ fn what_was_not_met_is_named() {
         tally.missing()[63],
         "searches that go back to a variable's way"
     );
-    assert_eq!(tally.missing()[71], "batches done to the end");
+    assert_eq!(tally.missing()[71], "orders that visit a marked part");
+    assert_eq!(tally.missing()[77], "batches done to the end");
     let (tally, _) = compare(&mut ModelSubject, 31, 0..2000);
     assert!(tally.missing().is_empty(), "{tally}");
 }

@@ -249,7 +249,7 @@ fn the_page_is_the_same() {
     let book = class_book(&[rule(&[op(1), X], &[X])]).encode();
     assert_eq!(
         page_text(&input(&book, b"K\xE4se", 1, 9, &[0; 40])),
-        "REDUCE 1\nend 0\nrewrites 1\nentries 17\ngranted 0\nkept 0\nterm 11 19 5 0\n"
+        "REDUCE 1\nend 0\nrewrites 1\nentries 12\ngranted 0\nkept 0\nterm 11 19 5 0\n"
     );
     assert_eq!(
         page_text(&input(&book, &[b'a'; 65_535], 1, 9, &[9])),

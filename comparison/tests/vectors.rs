@@ -81,6 +81,16 @@ fn texts_of_change_9() {
 }
 
 #[test]
+fn lines_of_change_10() {
+    check(LINE, "changes-10/line", 200);
+}
+
+#[test]
+fn texts_of_change_10() {
+    check(TEXT, "changes-10/payee", 120);
+}
+
+#[test]
 fn books_of_change_5() {
     check(Kind::Write, "changes-5/write", 80);
 }
@@ -88,7 +98,7 @@ fn books_of_change_5() {
 /// The other program's inputs don't pass: a run of them shows something.
 #[test]
 fn inputs_of_the_other_program() {
-    let folder = Path::new("../vectors/changes-9");
+    let folder = Path::new("../vectors/changes-10");
     let failed = |kind, name| run(kind, &folder.join(name)).unwrap().failed.len();
     assert!(failed(TEXT, "line") > 50);
     assert!(failed(LINE, "payee") > 50);

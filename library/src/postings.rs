@@ -9,13 +9,13 @@ use crate::{Answer, Posting, Refusal};
 /// ```
 /// # use kurvneist::{Ending, Postings, Refusal};
 /// let refused = [11];
-/// let ran = [0, 0, 0, 0, 0, 2, 0, 0, 0, 0, 0, 0, 0, 29, 0, 0, 0, 0, 0, 0, 0, 0, 0, 0, 0, 0, 0, 0, 0, 2, 0, 3, 1, 1, 0];
+/// let ran = [0, 0, 0, 0, 0, 2, 0, 0, 0, 0, 0, 0, 0, 22, 0, 0, 0, 0, 0, 0, 0, 0, 0, 0, 0, 0, 0, 0, 0, 2, 0, 3, 1, 1, 0];
 /// let records = [&refused[..], &ran].concat();
 /// let mut postings = Postings::of(&records);
 /// assert_eq!(postings.next(), Some(Err(Refusal::UnknownOperatorInLine)));
 /// let posting = postings.next().unwrap()?;
 /// assert_eq!(posting.answer.ending, Ending::Finished);
-/// assert_eq!((posting.answer.rewrites, posting.answer.entries), (2, 29));
+/// assert_eq!((posting.answer.rewrites, posting.answer.entries), (2, 22));
 /// assert_eq!((posting.answer.granted, posting.answer.kept), (0, 2));
 /// assert_eq!(posting.term, [1, 1, 0]);
 /// assert_eq!(postings.next(), None);

@@ -74,7 +74,7 @@ fn on_all_units_with_every_ending() {
     let book = book_p();
     let mut endings = Vec::new();
     for units in 1..=8 {
-        for entries in [0, 28, 29, 100, 5000] {
+        for entries in [0, 21, 22, 100, 5000] {
             let schedule = round_robin(units, entries);
             for budget in [0, 1, 9, u32::MAX] {
                 let batch = Batch::new(&book).units(units).budget(budget);

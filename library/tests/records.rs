@@ -50,9 +50,9 @@ fn numbers(done: Done) -> (usize, usize, usize, Stop) {
     (done.lines, done.read, done.written, done.stop)
 }
 
-/// The page's run: ending 0, 2 rewrites, 29 entries, no FORK granted, 2 kept, and a term of three symbols.
+/// The page's run: ending 0, 2 rewrites, 22 entries, no FORK granted, 2 kept, and a term of three symbols.
 const RECORD_P: [u8; 35] = [
-    0, 0, 0, 0, 0, 2, 0, 0, 0, 0, 0, 0, 0, 29, 0, 0, 0, 0, 0, 0, 0, 0, 0, 0, 0, 0, 0, 0, 0, 2, 0,
+    0, 0, 0, 0, 0, 2, 0, 0, 0, 0, 0, 0, 0, 22, 0, 0, 0, 0, 0, 0, 0, 0, 0, 0, 0, 0, 0, 0, 0, 2, 0,
     3, 1, 1, 0,
 ];
 
@@ -70,7 +70,7 @@ fn records_byte_by_byte() {
     assert_eq!(numbers(done), (4, 19, 72, Stop::End));
     assert_eq!(records, [&RECORD_P[..], &[11, 10], &RECORD_P].concat());
     let spent = run(&batch.budget(1), lines_of(&[LINE_P]).as_bytes(), 2000).1;
-    assert_eq!(spent[..14], [0, 1, 0, 0, 0, 1, 0, 0, 0, 0, 0, 0, 0, 23]);
+    assert_eq!(spent[..14], [0, 1, 0, 0, 0, 1, 0, 0, 0, 0, 0, 0, 0, 19]);
     assert_eq!(spent[30..], [0, 5, 1, 2, 0, 1, 0]);
 }
 

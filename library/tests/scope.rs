@@ -20,15 +20,15 @@ fn refused<T>(result: Result<T, Refusal>) -> Option<u8> {
 #[test]
 fn page_of_the_document() {
     let (answer, term) = posted(&page(&book_p(), &[0; 29]));
-    assert_eq!((answer.ending, answer.entries), (Ending::Finished, 29));
+    assert_eq!((answer.ending, answer.entries), (Ending::Finished, 22));
     assert_eq!((answer.rewrites, answer.granted, answer.kept), (2, 0, 2));
     assert_eq!((answer.length, term), (3, vec![1, 1, 0]));
 }
 
 #[test]
 fn one_entry_less_is_cut() {
-    let (answer, term) = posted(&page(&book_p(), &[0; 28]));
-    assert_eq!((answer.ending, answer.entries), (Ending::Cut, 28));
+    let (answer, term) = posted(&page(&book_p(), &[0; 21]));
+    assert_eq!((answer.ending, answer.entries), (Ending::Cut, 21));
     assert_eq!((answer.rewrites, answer.granted, answer.kept), (2, 0, 2));
     assert_eq!(term, [1, 1, 0]);
 }
@@ -38,7 +38,7 @@ fn budget_of_one_is_spent() {
     let book = book_p();
     let (answer, term) = posted(&page(&book, &[0; 29]).budget(1));
     assert_eq!(answer.ending, Ending::Spent);
-    assert_eq!((answer.rewrites, answer.entries, answer.kept), (1, 23, 2));
+    assert_eq!((answer.rewrites, answer.entries, answer.kept), (1, 19, 2));
     assert_eq!(term, [1, 2, 0, 1, 0]);
 }
 

@@ -125,9 +125,8 @@ pub fn run_against(
 /// The rule that an entry of the unit would use, counted from 1, and where: it
 /// is used unless the entry ends the run.
 pub(crate) fn due_rule<'m>(machine: &'m Machine, unit: usize) -> Option<(usize, &'m Position)> {
-    let acting = &machine.units[unit];
-    match acting.orders.last() {
-        Some(Order::Whole { term, .. }) if acting.busy => {
+    match machine.due(unit) {
+        Some(Order::Whole { term, .. }) => {
             Some((rule_number(machine.book, &machine.term, term)?, term))
         }
         _ => None,

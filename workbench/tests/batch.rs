@@ -269,11 +269,11 @@ fn a_batch_from_standard_input_to_a_file() {
     let told = std::fs::read_to_string(output).unwrap();
     assert_eq!(
         told,
-        "tick(tick(end))  # rewrites 2, entries 29, granted 0, kept 2\n"
+        "tick(tick(end))  # rewrites 2, entries 22, granted 0, kept 2\n"
     );
     assert!(ran
         .errors
-        .starts_with("1 line: 1 posted, 0 not, 0 blank or comment\nrewrites 2, entries 29, FORKs granted 0, kept 2, "));
+        .starts_with("1 line: 1 posted, 0 not, 0 blank or comment\nrewrites 2, entries 22, FORKs granted 0, kept 2, "));
     assert_eq!(
         kurvneist_with(&["batch", "examples/ticks.book", "-"], b"").output,
         ""

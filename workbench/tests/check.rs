@@ -180,10 +180,8 @@ fn terms(book: &Book, depth: usize) -> Vec<Term> {
             };
             rows = rows.iter().flat_map(longer).collect();
         }
-        all.extend(rows.into_iter().map(|arguments| Term {
-            operator: number,
-            arguments,
-        }));
+        let terms = rows.into_iter();
+        all.extend(terms.map(|arguments| Term::new(number, arguments)));
     }
     all
 }

@@ -59,16 +59,16 @@ fn a_posting_by_names() {
     };
     let ran = post(&["--budget", "9", "--schedule", "0*29"]);
     let finished =
-        "end finished\nrewrites 2\nentries 29\ngranted 0\nkept 2\nterm tick(tick(end))\n";
+        "end finished\nrewrites 2\nentries 22\ngranted 0\nkept 2\nterm tick(tick(end))\n";
     assert_eq!((ran.status, ran.output.as_str()), (0, finished));
-    let ran = post(&["--budget", "9", "--schedule", "0*28"]);
+    let ran = post(&["--budget", "9", "--schedule", "0*21"]);
     assert_eq!(
         (ran.status, ran.output.lines().next()),
         (1, Some("end cut"))
     );
     let ran = post(&["--budget", "1"]);
     let spent =
-        "end spent\nrewrites 1\nentries 23\ngranted 0\nkept 2\nterm tick(both(end, tick(end)))\n";
+        "end spent\nrewrites 1\nentries 19\ngranted 0\nkept 2\nterm tick(both(end, tick(end)))\n";
     assert_eq!((ran.status, ran.output.as_str()), (1, spent));
     let ran = post(&["--units", "2", "--schedule", "0*100"]);
     let cut =

@@ -6,7 +6,7 @@ mod common;
 use std::collections::HashSet;
 
 use common::json::{read_line, Value};
-use common::{file, kurvneist};
+use common::{doubled, file, kurvneist, DOUBLING};
 use comparison::model::{self, Form, Pattern, Term};
 use comparison::random::{case, Random};
 use kurvneist::{Ending, Request};
@@ -221,7 +221,7 @@ line both(tick(end), both(end, tick(end)))
 ";
     assert!(ran.output.starts_with(expected), "{}", ran.output);
     assert!(ran.output.contains(
-        "\n2. rule 2 (line 8): both(tick(X), Y) = tick(both(X, Y))\n  at    the root (entry 22, unit 0)\n  \
+        "\n2. rule 2 (line 8): both(tick(X), Y) = tick(both(X, Y))\n  at    the root (entry 19, unit 0)\n  \
          with  X = end\n  with  Y = tick(end)\n  from  [both(tick(end), tick(end))]\n"
     ));
     assert!(ran
@@ -316,7 +316,7 @@ fn explanations_in_json() {
     let numbers = ["step", "rule", "rule_line", "entry", "unit"];
     assert_eq!(
         numbers.map(|name| second.get(name).number()),
-        [2, 2, 8, 22, 0]
+        [2, 2, 8, 19, 0]
     );
     assert_eq!(
         second.get("sides").text(),
@@ -356,7 +356,7 @@ fn matched_entries_are_explained() {
     assert_eq!(ran.status, 0);
     let last = "rule match(bank(Payee, Number), ledger(Payee, Number)) = settled(Payee, Number)";
     let (_, shown) = ran.output.split_once(&last["rule ".len()..]).unwrap();
-    let due = "\n  at    the root (entry 68, unit 0)\n  with  Payee = payee(König)\n  with  Number = \"47\"\n  from  ";
+    let due = "\n  at    the root (entry 61, unit 0)\n  with  Payee = payee(König)\n  with  Number = \"47\"\n  from  ";
     assert!(shown.starts_with(due), "{shown}");
     assert!(shown.ends_with("term settled(payee(König), \"47\")\n"));
     let ran = kurvneist(&[&words[..], &["--json"]].concat());
@@ -478,10 +478,10 @@ fn profiles_are_the_same_for_any_jobs() {
 /// longer one, or one unit's in the place of two that had no room.
 #[test]
 fn the_run_that_posts_is_explained() {
-    let long = format!("both({}end{}, end)", "tick(".repeat(200), ")".repeat(200));
-    let ran = kurvneist(&["explain", "examples/ticks.book", &long, "--rules-only"]);
+    let (book, long) = (file("long.book", DOUBLING), doubled(12));
+    let ran = kurvneist(&["explain", &book, &long, "--rules-only"]);
     assert_eq!((ran.status, ran.errors.as_str()), (0, ""));
-    assert!(ran.output.contains("\nfinished: rewrites 201, entries "));
+    assert!(ran.output.contains("\nfinished: rewrites 12286, entries "));
 
     let sixty = "t(".repeat(60) + "Y" + &")".repeat(60);
     let book = format!(

@@ -5,7 +5,7 @@ mod common;
 use std::process::Command;
 use std::time::Duration;
 
-use common::{file, kurvneist};
+use common::{doubled, file, kurvneist, DOUBLING};
 use workbench::jobs::in_order;
 use workbench::progress::State;
 
@@ -155,10 +155,8 @@ fn on_terminal(arguments: &[&str], term: &str, columns: &str) -> String {
 /// The batch takes over half a second, and progress is drawn each tenth.
 #[test]
 fn a_terminal_is_shown_progress_in_its_width() {
-    let book = file("slow.book", include_str!("../examples/ticks.book"));
-    let (open, close) = ("tick(".repeat(300), ")".repeat(300));
-    let line = format!("both({open}end{close}, end)\n");
-    let lines = file("slow.lines", line.repeat(1500));
+    let book = file("slow.book", DOUBLING);
+    let lines = file("slow.lines", (doubled(11) + "\n").repeat(1500));
     let output = file("slow.postings", "");
     let batch = ["batch", &book, &lines, "-o", &output];
     for columns in [80, 30] {

@@ -2,18 +2,12 @@
 
 mod common;
 
-use common::{file, kurvneist, kurvneist_with};
+use common::{doubled, doubled_rewrites, file, kurvneist, kurvneist_with, DOUBLING};
 use comparison::model::Form;
 use kurvneist::{Batch, Engine, Refusal};
 use workbench::line;
 use workbench::posting::Schedules;
 use workbench::text::check;
-
-/// Its run takes about the square of the ticks in entries.
-fn ticks(count: usize) -> String {
-    let (open, close) = ("tick(".repeat(count), ")".repeat(count));
-    format!("both({open}end{close}, end)")
-}
 
 fn value(page: &str, name: &str) -> u64 {
     let line = page.lines().find_map(|line| line.strip_prefix(name));
@@ -22,40 +16,41 @@ fn value(page: &str, name: &str) -> u64 {
 
 #[test]
 fn a_longer_schedule_is_found() {
-    for (count, least) in [(200, 32_768), (520, 262_144)] {
-        let line = ticks(count);
+    let book = file("longer.book", DOUBLING);
+    for (ticks, least) in [(12, 32_768), (15, 262_144)] {
+        let line = doubled(ticks);
         let mut postings = Vec::new();
         for units in ["1", "2", "8"] {
-            let ran = kurvneist(&["post", "examples/ticks.book", &line, "--units", units]);
+            let ran = kurvneist(&["post", &book, &line, "--units", units]);
             assert_eq!((ran.status, ran.errors.as_str()), (0, ""));
             assert!(value(&ran.output, "entries ") > least, "{}", ran.output);
-            assert_eq!(value(&ran.output, "rewrites "), count as u64 + 1);
+            let rewrites = doubled_rewrites(ticks as u32);
+            assert_eq!(value(&ran.output, "rewrites "), rewrites);
             postings.push(ran.output.lines().last().unwrap().to_owned());
 
-            let input = format!("{line}\nend\n");
-            let batch = ["batch", "examples/ticks.book", "-", "--units", units];
+            let input = format!("{line}\ntick(end)\n");
+            let batch = ["batch", &book, "-", "--units", units];
             let ran = kurvneist_with(&batch, input.as_bytes());
             assert_eq!(ran.status, 0);
             let posting = postings[0].strip_prefix("term ").unwrap();
-            assert_eq!(ran.output, format!("{posting}\nend\n"));
+            assert_eq!(ran.output, format!("{posting}\ntick(end)\n"));
         }
         assert_eq!(postings, vec![postings[0].clone(); 3]);
     }
 }
 
-/// 8 units by turns use up to eight times the entries of one.
 #[test]
 fn a_trace_is_as_long_as_its_run() {
-    let line = ticks(130);
+    let (book, line) = (file("traced.book", DOUBLING), doubled(12));
     let trace = |more: &[&str]| {
-        let words = ["trace", "examples/ticks.book", &line, "--check", "100000"];
+        let words = ["trace", &book, &line, "--check", "100000"];
         kurvneist(&[&words[..], more].concat())
     };
     let ran = trace(&["--units", "2"]);
     assert_eq!((ran.status, ran.errors.as_str()), (0, ""));
     let last = ran.output.lines().last().unwrap();
     assert!(
-        last.starts_with("finished: rewrites 131, entries "),
+        last.starts_with("finished: rewrites 12286, entries "),
         "{last}"
     );
     let entries: u64 = last.split([' ', ',']).nth(5).unwrap().parse().unwrap();
@@ -72,13 +67,13 @@ fn a_trace_is_as_long_as_its_run() {
 #[test]
 fn a_given_schedule_is_kept_and_the_message_says_what_to_try() {
     let advice = "try a longer --schedule in which every unit acts, or none";
-    let line = ticks(200);
+    let (book, line) = (file("given.book", DOUBLING), doubled(12));
     let schedule = ["--schedule", "round-robin:32768"];
-    let post = ["post", "examples/ticks.book", &line];
+    let post = ["post", &book, &line];
     let ran = kurvneist(&[&post[..], &schedule].concat());
     assert_eq!((ran.status, value(&ran.output, "entries ")), (1, 32_768));
     assert_eq!(ran.errors, format!("cut after 32768 entries: {advice}\n"));
-    let batch = ["batch", "examples/ticks.book", "-"];
+    let batch = ["batch", &book, "-"];
     let ran = kurvneist_with(&[&batch[..], &schedule].concat(), line.as_bytes());
     let told = format!("! cut after 32768 entries ({advice}) at ");
     assert_eq!((ran.status, ran.output.starts_with(&told)), (1, true));
@@ -151,10 +146,9 @@ fn more_units_never_make_a_line_fail() {
 #[test]
 fn lines_together_are_posted_as_each_by_itself() {
     let (wide_book, wide_line) = wide();
-    let both = include_str!("../examples/ticks.book");
-    let ticks_lines = [0, 200, 3, 520, 1025, 200, 1].map(ticks).to_vec();
+    let doubled_lines = [0, 12, 3, 15, 1025, 12, 1].map(doubled).to_vec();
     let wide_lines = vec!["z".into(), wide_line.clone(), "s(z)".into(), wide_line];
-    for (book, lines) in [(both, ticks_lines), (&wide_book, wide_lines)] {
+    for (book, lines) in [(DOUBLING, doubled_lines), (&wide_book, wide_lines)] {
         let named = check::read(book).unwrap();
         let read = |text: &String| line::read(text, &named.names).unwrap();
         let lines: Vec<Vec<u8>> = lines.iter().map(read).collect();
@@ -166,7 +160,7 @@ fn lines_together_are_posted_as_each_by_itself() {
             (2, Some([0, 1].repeat(50))),
         ] {
             let schedules = Schedules::new(units, given);
-            let batch = Batch::new(&named.book).budget(1000);
+            let batch = Batch::new(&named.book).budget(100_000);
             let mut engine = Engine::new();
             let together = schedules.post_all(&mut engine, Form::Line, &batch, &lines);
             assert_eq!(together.len(), lines.len());

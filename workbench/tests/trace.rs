@@ -50,12 +50,14 @@ fn count(trace: &Trace, deed: impl Fn(&Deed) -> bool) -> u64 {
 #[test]
 fn traces_equal_the_engine_and_count_what_it_counts() {
     let (mut traced, mut endings, mut granted, mut kept, mut helped) = (0, [0; 4], 0, 0, 0);
+    let mut dropped = 0;
     runs(|named, request, trace| {
         traced += 1;
         endings[trace.ending as usize] += 1;
         granted += trace.granted;
         kept += trace.kept;
         helped += count(&trace, |deed| *deed == Deed::Fork(Some(0)));
+        dropped += count(&trace, |deed| *deed == Deed::Dropped);
         let rewrites = count(&trace, |deed| matches!(deed, Deed::Rewrite(_)));
         assert_eq!(rewrites, trace.rewrites);
         let grants = count(&trace, |deed| matches!(deed, Deed::Fork(Some(_))));
@@ -70,6 +72,7 @@ fn traces_equal_the_engine_and_count_what_it_counts() {
     assert!(traced > 200, "{traced}");
     assert!(granted > 200 && kept > 200, "{granted} {kept}");
     assert!(helped > 20, "unit 0 took {helped} parts");
+    assert!(dropped > 200, "{dropped} VISITs of finished parts");
     assert!(endings.iter().all(|number| *number > 0), "{endings:?}");
 }
 
@@ -274,6 +277,31 @@ fn long_terms_are_cut_around_the_orders_part() {
         "both(end, both([both(end, tick(end))], end))"
     );
     assert_eq!(last_term("24"), "…d, both([both(end, tick(…");
+}
+
+/// The payee of a line that becomes two is not walked again in either.
+#[test]
+fn finished_parts_are_dropped() {
+    let line = "line(payee(Weiß), rent-and-charges)";
+    let ran = kurvneist(&["trace", "examples/payees.book", line]);
+    assert_eq!(ran.status, 0);
+    let rows = ran.output.lines().filter(|row| row.contains("dropped"));
+    let rows: Vec<&str> = rows.collect();
+    assert_eq!(
+        rows,
+        [
+            "   15     0  VISIT  dropped: this part is finished already         \
+             both(line([payee(Weiß)], rent), line(payee(Weiß), charges))",
+            "   24     0  VISIT  dropped: this part is finished already         \
+             both(8400-Weiß-2.OG, line([payee(Weiß)], charges))",
+        ]
+    );
+    // An empty strategy gives nothing to begin with.
+    let book = file("empty.book", "op end/0\nop quote/1 ()\n");
+    let ran = kurvneist(&["trace", &book, "quote(end)"]);
+    assert!(ran
+        .output
+        .contains("VISIT  dropped: nothing is to be done here"));
 }
 
 /// Unit 0 waits for a line that turns out to be two, and takes one of them. Its

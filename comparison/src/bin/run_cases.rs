@@ -167,6 +167,13 @@ fn check(cases: &[Case]) {
         Slip::Ahead,
         Slip::ByDay,
         Slip::Undated,
+        Slip::Fresh,
+        Slip::Lost,
+        Slip::Later,
+        Slip::Marks,
+        Slip::Again,
+        Slip::Free,
+        Slip::Forked,
     ] {
         let shows = |case: &Case| shows(case, slip);
         assert!(picked_cases().iter().any(shows), "no case shows {slip:?}");
@@ -226,6 +233,7 @@ fn picked_cases() -> Vec<Case> {
         matching_cases(),
         net_cases(),
         dated_cases(),
+        mark_cases(),
         slip_cases(),
     ]
     .concat()
@@ -363,7 +371,8 @@ fn document_cases() -> Vec<Case> {
     let p = |name| case(name, book_p());
     vec![
         p("page"),
-        p("page, 28 entries").zeros(28),
+        p("page, 22 entries").zeros(22),
+        p("page, 21 entries").zeros(21),
         p("page, 500 entries").zeros(500),
         p("page, budget 1").budget(1),
         p("page, U = 2, 100 entries of 0").units(2).zeros(100),
@@ -970,6 +979,55 @@ fn many_rules(name: &str, day: fn(u16) -> u16) -> Case {
     let rules = (0..255).map(|place| rule(&[op(0)], &[right(place)]).on(day(place)));
     let book = Draft::new(operators, rules.collect()).dated().encode();
     case(name, book).line([0]).day(u16::MAX)
+}
+
+/// Operators 0 end, 1 tick, 2 copy, 3 two with its arguments in a group, 4 and 5 same, of whose arguments the first or the second is reduced, 6 box with
+/// an empty strategy, 7 open, 8 late, tried before and after its argument is reduced.
+fn marks_book() -> Vec<u8> {
+    book(
+        &[
+            plain(0),
+            plain(1),
+            plain(1),
+            given(2, &[8, 1, 2, 9, 0]),
+            given(2, &[1, 0]),
+            given(2, &[2, 0]),
+            given(1, &[]),
+            plain(1),
+            given(1, &[0, 1, 0]),
+        ],
+        &[
+            rule(&[op(2), X], &[op(3), X, X]),
+            rule(&[op(4), X, X], &[op(1), X]),
+            rule(&[op(5), X, X], &[op(1), X]),
+            rule(&[op(7), op(6), X], &[X]),
+            rule(&[op(8), op(0)], &[op(1), op(0)]),
+        ],
+    )
+}
+
+fn mark_cases() -> Vec<Case> {
+    let marks = |name, line: &[u8]| case(name, marks_book()).line(line).zeros(99);
+    let shared = |name, line: &[u8], units| marks(name, line).units(units).turns(300);
+    let copies = [2, 2, 2, 1, 0];
+    let long = [vec![2], chain(1, 511)].concat();
+    vec![
+        marks("marks: copies are not walked again", &[2, 1, 1, 0]),
+        marks("marks: cut at the first copy", &[2, 1, 1, 0]).zeros(11),
+        shared("marks: copies of copies, U = 1", &copies, 1),
+        shared("marks: copies of copies, U = 3", &copies, 3),
+        shared("marks: copies of copies, U = 8", &copies, 8),
+        shared("marks: copies of copies, cut", &copies, 3).turns(40),
+        marks("marks: a copy of 511 symbols", &long).zeros(1100),
+        shared("marks: a copy of 511 symbols, U = 2", &long, 2).turns(2200),
+        marks("marks: the first of two equal parts", &[4, 1, 0, 1, 0]),
+        marks("marks: the second of two equal parts", &[5, 1, 0, 1, 0]),
+        marks("marks: an empty strategy", &[6, 2, 0]),
+        marks("marks: an empty strategy, copied", &[2, 6, 2, 0]),
+        marks("marks: what it hid is walked", &[7, 6, 2, 0]),
+        marks("marks: a WHOLE before the last", &[8, 7, 6, 0]),
+        marks("marks: a WHOLE before the last, copied", &[2, 8, 1, 0]),
+    ]
 }
 
 fn slip_cases() -> Vec<Case> {

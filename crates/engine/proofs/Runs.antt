@@ -1,6 +1,6 @@
 -- A run of a term by an open book: what run_schedule asks for, that what it leaves is the definition's answer, and how that answers a line. Assumes nothing.
-use mathlib.Core.Bool.{true}
-use mathlib.Core.List.{List, _++_}
+use mathlib.Core.Bool.{true, false}
+use mathlib.Core.List.{List, _++_, map}
 use mathlib.Core.Path.{_≡_, refl, sym, ap, ap₂, _∙_, subst}
 use Prim.Native.Nat.{ℕ, _≤_, _<_}
 use native.Mathlib.Omega.{arith}
@@ -19,6 +19,7 @@ use Rattle.paper.proofs.Dated.{day-sound}
 use Rattle.paper.proofs.Line.{line-correct}
 use Rattle.paper.proofs.Trees.{size-preorder}
 use Rattle.paper.proofs.Above.{helps}
+use Rattle.paper.proofs.Change10.{change-10}
 use Rattle.paper.proofs.Demand3.{demand-3, forks-within}
 use Rattle.paper.proofs.Longest.{picks-longest}
 use Rattle.paper.proofs.OneUnit.{grants, accounted}
@@ -33,10 +34,10 @@ use Rattle.symbol.specs.Record.{operator, operators}
 use Rattle.symbol.proofs.Record.{front-length}
 use Rattle.tables.specs.Layout.{arity-in, day-in}
 use Rattle.tables.specs.Tables.{any-book, book-of, Operators, TablesOf}
-use Rattle.term.specs.Present.{operators-in, sizes-in}
+use Rattle.term.specs.Present.{operators-in, marks-in, sizes-in}
 use Rattle.term.specs.Contracts as T
 use Rattle.term.proofs.Skipping.{sizes-book, spells-book}
-use Rattle.term.proofs.Sized.{loaded-length, loaded-operators, loaded-sized}
+use Rattle.term.proofs.Sized.{loaded-length, loaded-operators, loaded-marks, loaded-sized}
 use Rattle.net.specs.Layout.{day-of}
 use Rattle.net.specs.Net.{book-by}
 use Rattle.net.proofs.Laws.{tables-by}
@@ -95,13 +96,16 @@ module _ {l : Limits} {schedule book table net bytes : List ℕ} {n work : ℕ} 
   unfolding flat-start
   known-first = of-line .3
 
-  -- behind load and start: the line's symbols with their sizes, and the units of the start, as many as there are
-  module _ {symbols w cells : List ℕ} (loaded : T.Loaded (arity-in table) line n symbols) (started : Started (store w cells)) where
+  -- behind load and start: the line's symbols, unmarked, with their sizes, and the units of the start, as many as there are
+  module _ {symbols w cells : List ℕ} (loaded : T.Loaded (arity-in table) line (map (λ o. false) line) n symbols) (started : Started (store w cells)) where
     abbrev first : FlatState
     first = state symbols w cells beginning l
 
     operators-are : operators-in symbols ≡ line
     operators-are = loaded-operators (arity-in table) line n symbols (g .most) one-term loaded
+
+    marks-are : marks-in symbols ≡ map (λ o. false) line
+    marks-are = loaded-marks (arity-in table) line n symbols (g .most) one-term loaded
 
     sizes-are : sizes-in symbols ≡ flat.sizes (arity B) line
     sizes-are =
@@ -110,7 +114,7 @@ module _ {l : Limits} {schedule book table net bytes : List ℕ} {n work : ℕ} 
 
     first-is : first ≡ flat-start (arity B) units line
     unfolding flat-start
-    first-is = rw (operators-are, sizes-are, started .units units (q .some-units) (q .few))
+    first-is = rw (operators-are, sizes-are, marks-are, started .units units (q .some-units) (q .few))
 
     arrays : (scratch : List ℕ) → length scratch ≡ 1024 → Arrays symbols scratch w cells l
     arrays scratch k = record {
@@ -189,6 +193,7 @@ module _ {l : Limits} {schedule book table net bytes : List ℕ} {n work : ℕ} 
               posting = d .posting;
               grants = grants B sound (g .term) (of-line .0) (limited budget) units schedule;
               accounted = accounted B sound (g .term) (of-line .0) (limited budget) units schedule;
+              change-10 = change-10 book line (any-book book) (day-of net) (g .term) read (g .term-read) units budget schedule;
               allowed = omega (arith, rewrites-are, bounded .allowed);
               used = omega (arith, entries-are, bounded .used);
               forks-within = forks-within B sound (g .term) (of-line .0) (limited budget) units schedule;

@@ -1,5 +1,5 @@
 -- The entry points of a run: which definition their answers equal, and what becomes of the lent buffers (document 01, 'What is checked where', 'How a
--- run ends', 'What a reviewer will try, in order'; document 02, Changes 1 to 3, 5, 8 and 9). Assumes nothing.
+-- run ends', 'What a reviewer will try, in order'; document 02, Changes 1 to 3, 5 and 8 to 10). Assumes nothing.
 use mathlib.Core.Bool.{true}
 use mathlib.Core.List.{List, [], _++_}
 use mathlib.Core.Path.{_≡_}
@@ -16,6 +16,7 @@ use Rattle.paper.specs.Machine.{Ending, in-force, start}
 use Rattle.paper.specs.Run.{Answer, run, moments}
 use Rattle.paper.specs.OneUnit.{Grants, Accounted}
 use Rattle.paper.specs.Demand3.{Demand3, Throughout}
+use Rattle.paper.specs.Change10.{Change10}
 use Rattle.paper.specs.Idle.{Queued, PicksLongest, WithPast, Helps}
 use Rattle.paper.specs.Page.{Request, Lengths, LineReader, all-below, answerBy}
 use Rattle.entry.specs.State.{limited}
@@ -106,6 +107,8 @@ pub record RunHolds (rules : Book) (term : Term) (units budget : ℕ) (schedule 
   pub grants : A .ending ≡ Ending.finished → Grants rules budget term A
   -- every FORK accounted for: in a finished run grants and kept together are exactly the FORKs of a one-unit run without symbol limit
   pub accounted : A .ending ≡ Ending.finished → Accounted rules budget term A
+  -- finished parts aren't walked again: what is marked has nothing left to do, no order works in it, and VISIT of it is dropped
+  pub change-10 : Change10 in-force rules (limited budget) units schedule term
   -- The papers leave free which ending comes where one order of units ends full and another finishes: it is that of this schedule. Whichever
   -- comes, these hold.
   pub allowed : A .rewrites ≤ budget

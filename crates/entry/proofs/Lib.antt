@@ -1,4 +1,5 @@
 pub mod Facts
+pub mod Marks
 pub mod Orders
 pub mod Forking
 pub mod Rewriting

@@ -1,34 +1,34 @@
--- Entries that leave the term and the counts as they are: an idle unit's, BINGO's, VISIT's, JOIN's, EXIT's, SLEEP's, and WHOLE's with no match. What the
--- code asks holds of each state that runs reach, and what it leaves is the machine's outcome. Assumes nothing.
-use mathlib.Core.Path.{_≡_, refl, sym, ap, subst, subst₂, _∙_}
-use mathlib.Core.Bool.{true, false}
+-- Entries that leave the term, but for marks, and the counts as they are: an idle unit's, BINGO's, VISIT's, JOIN's, EXIT's and SLEEP's. What the code asks
+-- holds of each state that runs reach, and what it leaves is the machine's outcome. Assumes nothing.
+use mathlib.Core.Path.{_≡_, refl, sym, ap, ap₂, subst, subst₂, _∙_}
+use mathlib.Core.Bool.{Bool, true, false}
 use mathlib.Core.List.{List, _∷_}
 use mathlib.Core.Option.{some}
-use Prim.Native.Nat.{ℕ, zero, suc, _-_, _≤_, _<_}
+use Prim.Native.Nat.{ℕ, _-_, _≤_, _<_}
 use native.Mathlib.Omega.{arith}
 use lib.ListN.{length, getD, drop}
 use lib.Seq.{getD-set-same}
 use Rattle.paper.specs.Strategy.{Step}
 use Rattle.paper.specs.Book.{arity, steps}
 use Rattle.paper.specs.Machine.{Ending}
-use Rattle.flat.specs.Symbols.{Hit, argument, rewrite}
-use Rattle.flat.specs.Machine.{Frame, FlatUnit, flat-unit, asleep, unit, FlatState, going, ended, with-unit, with-units, carry-out, flat-entry, do-step, visit}
+use Rattle.flat.specs.Machine.{Frame, FlatUnit, flat-unit, asleep, unit, FlatState, going, ended, with-unit, with-units, with-marks, carry-out, flat-entry, mark, do-step, do-visit, visit}
 use Rattle.flat.specs.Rules.{stack}
 use Rattle.flat.proofs.Inside.{visit-within, exit-unit}
 use Rattle.flat.proofs.Sizes.{arguments-inside}
 use Rattle.tables.specs.Layout.{step-of, code-in, steps-in, Rowed}
 use Rattle.net.proofs.Laws.{tables-by}
-use Rattle.units.specs.Stacks.{store, busy-in, units-in, unit-in}
+use Rattle.term.specs.Present.{length-in, marks-in}
+use Rattle.units.specs.Stacks.{store, busy-in, units-in}
 use Rattle.units.specs.Contracts.{Top-is, Stacks-fit, Has-frame, Cell-idled}
 use Rattle.units.specs.declared.frames.Job.{Job}
 use Rattle.units.specs.declared.frames.Exit.{Exit}
 use Rattle.orders.specs.Contracts as O
-use Rattle.orders.proofs.Tables.{argument-by, argument-place, argument-said}
+use Rattle.orders.proofs.Tables.{argument-by, visit-by, argument-place, visit-said}
 use Rattle.orders.proofs.Entries as entries
 use Rattle.whole.specs.declared.Progress.{Progress}
 use Rattle.whole.specs.declared.Limits.{Limits}
 use Rattle.entry.specs.State.{state, Arrays}
-use Rattle.entry.specs.Contracts.{Running, Turn, Working}
+use Rattle.entry.specs.Contracts.{Running, Turn, Working, Marked-left, Visited, visit-of, Argument-visited}
 use Rattle.entry.proofs.Facts as F
 
 module _ {bytes operators net symbols scratch work units : List ℕ} {u : ℕ} {p : Progress} {l : Limits} (z : Arrays symbols scratch work units l)
@@ -36,17 +36,43 @@ module _ {bytes operators net symbols scratch work units : List ℕ} {u : ℕ} {
   abbrev s : FlatState
   s = state symbols work units p l
 
-  -- the run goes on from other units
-  abbrev pub GoesOn : List ℕ → List ℕ → Type 0
-  GoesOn work′ units′ = (going (state symbols work′ units′ p l) ≡ flat-entry (F.B z r t) (F.L z r t) u s) × Arrays symbols scratch work′ units′ l
+  -- the run goes on from other units, and from the symbols symbols′
+  abbrev pub GoesOn : List ℕ → List ℕ → List ℕ → Type 0
+  GoesOn symbols′ work′ units′ = (going (state symbols′ work′ units′ p l) ≡ flat-entry (F.B z r t) (F.L z r t) u s) × Arrays symbols′ scratch work′ units′ l
 
   pub went-on : {work′ units′ : List ℕ} → Stacks-fit (store work′ units′) →
-      flat-entry (F.B z r t) (F.L z r t) u s ≡ going (with-units s (units-in (store work′ units′) (l .units))) → GoesOn work′ units′
+      flat-entry (F.B z r t) (F.L z r t) u s ≡ going (with-units s (units-in (store work′ units′) (l .units))) → GoesOn symbols work′ units′
   went-on fit e =
       (sym e, record { symbols-long = z .symbols-long; scratch-long = z .scratch-long; most = z .most; fit = fit; few = z .few })
 
+  -- the same with a term marked that has no orders left
+  module _ {n a : ℕ} {symbols′ : List ℕ} (m : Marked-left n a symbols symbols′) where
+    pub marked-state : (work′ units′ : List ℕ) → state symbols′ work′ units′ p l ≡ with-marks (with-units s (units-in (store work′ units′) (l .units))) (mark n a (s .marks))
+    marked-state work′ units′ =
+        let go : List ℕ → List ℕ → List Bool → FlatState = λ xs zs ms. record {
+          symbols = xs;
+          sizes = zs;
+          marks = ms;
+          units = units-in (store work′ units′) (l .units);
+          rewrites = p .rewrites;
+          granted = p .granted;
+          kept = p .kept;
+        } in
+        ap₂ (λ (xs zs : List ℕ). go xs zs (marks-in symbols′)) (m .operators-are) (m .sizes-are) ∙ ap (go (s .symbols) (s .sizes)) (m .marks-are)
+
+    pub marked-most : length-in symbols′ ≤ 1024
+    marked-most = omega (arith, m .length-is, z .most)
+
+    went-marked : {work′ units′ : List ℕ} → Stacks-fit (store work′ units′) →
+        flat-entry (F.B z r t) (F.L z r t) u s ≡ going (with-marks (with-units s (units-in (store work′ units′) (l .units))) (mark n a (s .marks))) →
+        GoesOn symbols′ work′ units′
+    went-marked fit e = (
+      ap (λ (y : FlatState). going y) (marked-state _ _) ∙ sym e,
+      record { symbols-long = m .long ∙ z .symbols-long; scratch-long = z .scratch-long; most = marked-most; fit = fit; few = z .few },
+    )
+
   -- an idle unit
-  pub stayed : busy-in units u ≡ false → GoesOn work units
+  pub stayed : busy-in units u ≡ false → GoesOn symbols work units
   stayed e = (sym (F.idle-entry z r t e), z)
 
   -- BINGO
@@ -56,7 +82,7 @@ module _ {bytes operators net symbols scratch work units : List ℕ} {u : ℕ} {
   finished b top = (sym (F.entry-is z r t b top), z)
 
   -- SLEEP
-  pub slept : busy-in units u ≡ true → Top-is u Frame.sleep (store work units) → {units′ : List ℕ} → Cell-idled (l .units) u units units′ → GoesOn work units′
+  pub slept : busy-in units u ≡ true → Top-is u Frame.sleep (store work units) → {units′ : List ℕ} → Cell-idled (l .units) u units units′ → GoesOn symbols work units′
   slept b top d =
       went-on (d .change work (z .fit) .fit)
       (F.entry-is z r t b top
@@ -77,7 +103,7 @@ module _ {bytes operators net symbols scratch work units : List ℕ} {u : ℕ} {
           other = e .0;
         }
 
-    pub exited : {work′ units′ : List ℕ} → O.Exited x u (store work units) (store work′ units′) → GoesOn work′ units′
+    pub exited : {work′ units′ : List ℕ} → O.Exited x u (store work units) (store work′ units′) → GoesOn symbols work′ units′
     exited d =
         went-on (d .fit)
         (F.entry-is z r t b top
@@ -101,17 +127,17 @@ module _ {bytes operators net symbols scratch work units : List ℕ} {u : ℕ} {
     by-operator P h = subst P (sym (F.operator-is z r t w)) h
 
     -- VISIT of its own term
-    pub visit-asks : Rowed operators o × Has-frame (store work units) u 0 × (x .offset < 1024)
-    visit-asks = (F.rowed z r t w, F.has-frame z r t, omega (arith, F.offset-inside z r t w, z .most))
+    pub visit-asks : Rowed operators o × Has-frame (store work units) u 0 × (x .offset < length-in symbols) × (length-in symbols ≤ 1024)
+    visit-asks = (F.rowed z r t w, F.has-frame z r t, F.offset-inside z r t w, z .most)
 
-    pub visited : x .next ≡ 0 → {work′ units′ : List ℕ} → O.Visited (steps-in operators o) (x .offset) u (store work units) (store work′ units′) → GoesOn work′ units′
-    visited none {work′} {units′} d =
-        went-on (d .change .fit)
+    pub visited : x .next ≡ 0 → {symbols′ work′ units′ : List ℕ} →
+        Visited operators (x .offset) u symbols symbols′ (store work units) (store work′ units′) → GoesOn symbols′ work′ units′
+    visited none d =
+        went-marked (d .marks) (d .stack .change .fit)
         (F.entry-is z r t (w .busy) (w .top)
         ∙ ap (λ (k : ℕ). carry-out (F.B z r t) (F.L z r t) u s fs (Frame.job (x .offset) k (x .count))) none
         ∙ entries.visit-entry (F.B z r t) (F.L z r t) u (l .units) s (store work units) refl (t .one) _ fs (F.unit-is z r t (w .busy) (w .top)) (tables-by (r .netted))
-        (r .known) (x .offset) (x .count) inside
-        (by-operator (λ (q : ℕ). O.Visited (steps-in operators q) (x .offset) u (store work units) (store work′ units′)) d))
+        (r .known) (x .offset) (x .count) inside (d .stack))
 
     -- its next step, as the table has it
     module _ (one : 1 ≤ x .next) where
@@ -126,11 +152,11 @@ module _ {bytes operators net symbols scratch work units : List ℕ} {u : ℕ} {
           (F.operator-is z r t w)
 
       -- a stack that the machine gives unit u fits
-      pub next-fits : (k : ℕ) (gs : List Frame) → flat-entry (F.B z r t) (F.L z r t) u s ≡ going (with-unit s u k gs) → length gs ≤ 1026
-      next-fits k gs e =
+      pub next-fits : (k : ℕ) (gs : List Frame) (ms : List Bool) → flat-entry (F.B z r t) (F.L z r t) u s ≡ going (with-marks (with-unit s u k gs) ms) → length gs ≤ 1026
+      next-fits k gs ms e =
           omega (
             arith,
-            F.room-after z r t (with-unit s u k gs) e u,
+            F.room-after z r t (with-marks (with-unit s u k gs) ms) e u,
             ap (λ (y : FlatUnit). length (y .stack))
                 (getD-set-same (s .units) u (flat-unit k gs) (asleep 1) (omega (arith, F.units-count z r t, t .one))),
           )
@@ -157,33 +183,35 @@ module _ {bytes operators net symbols scratch work units : List ℕ} {u : ℕ} {
         visit-place = argument-asks visit-there
 
         abbrev a : O.Argument
-        a = O.argument-of operators (s .symbols) x i
+        a = visit-of operators symbols x i
 
         -- the stack after the entry fits
         visit-fits : O.Room-for (O.visits (steps-in operators o) x a) u (store work units)
-        unfolding do-step visit
+        unfolding do-step do-visit visit
         visit-fits =
-            let said = argument-said (tables-by (r .netted)) (s .symbols) (r .known) x i (argument-there visit-there) in
+            let said = visit-said (tables-by (r .netted)) (s .symbols) (r .known) (s .marks) x i (argument-there visit-there) in
+            let b = visit-by (F.B z r t) (s .symbols) (s .marks) x i in
             subst₂ (λ (b : O.Argument) (gs : List Frame). length (O.visits (steps-in operators o) x b gs) ≤ 1026) (sym said)
             (sym (F.stack-kept z r t u (t .one)))
-            (next-fits 0 (O.visits (steps-in operators o) x (argument-by (F.B z r t) (s .symbols) x i) (stack s u)) (step-entry e))
+            (next-fits 0 (O.visits (steps-in operators o) x b (stack s u)) (mark (length (b .steps)) (b .offset) (s .marks)) (step-entry e))
 
         pub visit-argument-asks : O.Can-visit (steps-in operators o) x a u (store work units)
         visit-argument-asks = record { job = F.can-proceed z r t w; room = visit-fits }
 
-        pub visited-argument : {work′ units′ : List ℕ} → O.Argument-visited (steps-in operators o) x a u (store work units) (store work′ units′) → GoesOn work′ units′
-        visited-argument {work′} {units′} d =
-            went-on (d .change .fit)
+        pub visited-argument : {symbols′ work′ units′ : List ℕ} →
+            Argument-visited operators (steps-in operators o) x i u symbols symbols′ (store work units) (store work′ units′) → GoesOn symbols′ work′ units′
+        visited-argument {work′ = work′} {units′ = units′} d =
+            went-marked (d .marks) (d .stack .change .fit)
             (F.entry-is z r t (w .busy) (w .top)
             ∙ entries.visit-argument-entry (F.B z r t) (F.L z r t) u (l .units) s (store work units) refl (t .one) _ fs (F.unit-is z r t (w .busy) (w .top))
             (tables-by (r .netted)) (r .known) x inside one (omega (arith, F.next-most z r t w)) i
             (by-operator (λ (q : ℕ). some (Step.visit i) ≡ step-of (code-in operators q (x .next - 1))) e)
             (argument-there visit-there)
-            (by-operator (λ (q : ℕ). O.Argument-visited (steps-in operators q) x a u (store work units) (store work′ units′)) d))
+            (by-operator (λ (q : ℕ). O.Argument-visited (steps-in operators q) x a u (store work units) (store work′ units′)) (d .stack)))
 
       -- JOIN
       pub joined : {c : ℕ} → some (Step.join c) ≡ step-of (code-in operators o (x .next - 1)) → {work′ units′ : List ℕ} →
-          O.Joined (steps-in operators o) x (l .units) u (store work units) (store work′ units′) → GoesOn work′ units′
+          O.Joined (steps-in operators o) x (l .units) u (store work units) (store work′ units′) → GoesOn symbols work′ units′
       joined {c} e {work′} {units′} d =
           went-on (d .change .fit)
           (F.entry-is z r t (w .busy) (w .top)
@@ -191,15 +219,3 @@ module _ {bytes operators net symbols scratch work units : List ℕ} {u : ℕ} {
           (r .known) x inside one (omega (arith, F.next-most z r t w)) c
           (by-operator (λ (q : ℕ). some (Step.join c) ≡ step-of (code-in operators q (x .next - 1))) e) refl
           (by-operator (λ (q : ℕ). O.Joined (steps-in operators q) x (l .units) u (store work units) (store work′ units′)) d))
-
-      -- WHOLE with no match
-      pub missed : some Step.whole ≡ step-of (code-in operators o (x .next - 1)) →
-          rewrite (arity (F.B z r t)) (F.B z r t .rules) (x .offset) (s .symbols) ≡ Hit.miss → {work′ units′ : List ℕ} →
-          O.Proceeded (steps-in operators o) x u (store work units) (store work′ units′) → GoesOn work′ units′
-      missed e h {work′} {units′} d =
-          went-on (d .change .fit)
-          (F.entry-is z r t (w .busy) (w .top)
-          ∙ entries.whole-entry (F.B z r t) (F.L z r t) u (l .units) s (store work units) refl (t .one) _ fs (F.unit-is z r t (w .busy) (w .top)) (tables-by (r .netted))
-          (r .known) x inside one (omega (arith, F.next-most z r t w))
-          (by-operator (λ (q : ℕ). some Step.whole ≡ step-of (code-in operators q (x .next - 1))) e) h
-          (by-operator (λ (q : ℕ). O.Proceeded (steps-in operators q) x u (store work units) (store work′ units′)) d))

@@ -1,10 +1,7 @@
 -- WHOLE of the job on top of a busy unit's stack: what the code asks holds of each state that runs reach, and its answers are the machine's outcomes.
 -- Assumes nothing.
-use mathlib.Core.Path.{_≡_, refl, sym, ap, ap₂, subst, subst₂, _∙_}
+use mathlib.Core.Path.{_≡_, sym, ap, ap₂, subst, subst₂, _∙_}
 use mathlib.Core.List.{List, [], _∷_}
-use mathlib.Core.Logic.{inl, inr}
-use mathlib.Core.Option.{some}
-use mathlib.Core.Bool.{true, false}
 use Prim.Native.Nat.{ℕ, suc, _+_, _-_, _^_, _≤_, _<_}
 use native.Mathlib.Nat.{le-trans}
 use native.Mathlib.Omega.{arith}
@@ -15,12 +12,12 @@ use Rattle.paper.specs.Machine as paper
 use Rattle.paper.specs.Machine.{Ending}
 use Rattle.paper.specs.Sound.{In, All}
 use Rattle.paper.proofs.Lists.{all-of}
-use Rattle.flat.specs.Symbols.{Hit, rewrite}
-use Rattle.flat.specs.Machine.{Frame, FlatUnit, unit, FlatState, FlatOutcome, going, ended, with-unit, with-units, proceed, do-step, do-whole, flat-entry}
+use Rattle.flat.specs.Symbols.{rewrite}
+use Rattle.flat.specs.Machine.{Frame, FlatUnit, unit, FlatState, going, ended, with-unit, with-units, with-marks, proceed, mark, do-step, do-whole, flat-entry}
 use Rattle.flat.specs.Rules.{stack, Rules}
-use Rattle.flat.proofs.Tallies.{Tallied, tallied-next}
+use Rattle.flat.proofs.Tallies.{tallied-next}
 use Rattle.symbol.specs.Record.{operator}
-use Rattle.tables.specs.Layout.{step-of, code-in, steps-in, Rowed}
+use Rattle.tables.specs.Layout.{steps-in, Rowed}
 use Rattle.term.specs.Present.{length-in}
 use Rattle.lookup.specs.Contracts.{Present}
 use Rattle.units.specs.Stacks.{store, Below, Offsets, units-in}
@@ -34,7 +31,7 @@ use Rattle.whole.specs.declared.Place.{Place}
 use Rattle.whole.specs.declared.Progress.{Progress}
 use Rattle.whole.specs.declared.Limits.{Limits}
 use Rattle.entry.specs.State.{state, Arrays}
-use Rattle.entry.specs.Contracts.{Running, Turn, Working, Next}
+use Rattle.entry.specs.Contracts.{Running, Turn, Working, Next, Marked-left}
 use Rattle.entry.proofs.Facts as F
 use Rattle.entry.proofs.Orders as orders
 
@@ -157,18 +154,37 @@ module _ {bytes operators net symbols scratch work units : List ℕ} {u : ℕ} {
       pub proceed-asks : Rowed operators (F.o z r t w) × O.Can-proceed x u (store work′ units)
       proceed-asks = (F.rowed z r t w, subst (λ (k : List ℕ). O.Can-proceed x u (store k units)) (sym same-work) (F.can-proceed z r t w))
 
-      pub whole-missed : (scratch′ : List ℕ) → length scratch′ ≡ 1024 → {work″ units″ : List ℕ} →
+      pub mark-asks : (x .next < 16) × Rowed operators (F.o z r t w) × (y .offset < length-in symbols′) × (length-in symbols′ ≤ 1024)
+      mark-asks =
+          let h : y .offset < length-in symbols = omega (arith, off, F.offset-inside z r t w) in (
+            omega (arith, F.next-most z r t w),
+            F.rowed z r t w,
+            subst (λ (xs : List ℕ). y .offset < length-in xs) (sym same-symbols) h,
+            d .most,
+          )
+
+      pub whole-missed : (scratch′ : List ℕ) → length scratch′ ≡ 1024 → {symbols″ work″ units″ : List ℕ} →
           O.Proceeded (steps-in operators (F.o z r t w)) x u (store work′ units) (store work″ units″) →
-          (going (state symbols′ work″ units″ p l) ≡ flat-entry (F.B z r t) (F.L z r t) u s) × Arrays symbols′ scratch′ work″ units″ l
-      whole-missed scratch′ long {work″} {units″} q =
+          Marked-left (length (drop (x .next) (steps-in operators (F.o z r t w)))) (y .offset) symbols′ symbols″ →
+          (going (state symbols″ work″ units″ p l) ≡ flat-entry (F.B z r t) (F.L z r t) u s) × Arrays symbols″ scratch′ work″ units″ l
+      whole-missed scratch′ long {symbols″} {work″} {units″} q k =
           let ss = steps-in operators (F.o z r t w) in
           let fs = F.below z r t (w .busy) (w .top) in
+          let n = length (drop (x .next) ss) in
           let c : O.Proceeded ss x u (store work units) (store work″ units″) = subst (λ (k : List ℕ). O.Proceeded ss x u (store k units) (store work″ units″)) same-work q in
-          let e : flat-entry (F.B z r t) (F.L z r t) u s ≡ going (with-units s (units-in (store work″ units″) (l .units))) =
+          let m : Marked-left n (y .offset) symbols symbols″ = subst (λ (xs : List ℕ). Marked-left n (y .offset) xs symbols″) same-symbols k in
+          let e : flat-entry (F.B z r t) (F.L z r t) u s ≡ going (with-marks (with-units s (units-in (store work″ units″) (l .units))) (mark n (y .offset) (s .marks))) =
           outcome-is D.Whole.Missed d
-          ∙ ap₂ (λ (v k : ℕ). going (with-unit s v 0 (proceed k (suc (x .next)) (x .count) (drop (x .next) ss) fs))) at off
-          ∙ ap (λ (us : List FlatUnit). going (with-units s us))
+          ∙ ap₂ (λ (v k : ℕ).
+          going (with-marks (with-unit s v 0 (proceed k (suc (x .next)) (x .count) (drop (x .next) ss) fs)) (mark n (y .offset) (s .marks)))) at off
+          ∙ ap (λ (us : List FlatUnit). going (with-marks (with-units s us) (mark n (y .offset) (s .marks))))
           (sym (at-is u (s .units) (O.restack (O.goes-on ss x (x .count))) _ (F.unit-is z r t (w .busy) (w .top))) ∙ sym (c .change .units (l .units))) in (
-            ap (λ (xs : List ℕ). going (state xs work″ units″ p l)) same-symbols ∙ sym e,
-            record { symbols-long = d .long; scratch-long = long; most = d .most; fit = c .change .fit; few = z .few },
+            ap (λ (y : FlatState). going y) (orders.marked-state z r t m work″ units″) ∙ sym e,
+            record {
+              symbols-long = m .long ∙ z .symbols-long;
+              scratch-long = long;
+              most = orders.marked-most z r t m;
+              fit = c .change .fit;
+              few = z .few;
+            },
           )

@@ -8,14 +8,16 @@ use lib.ListN.{length, getD}
 use Rattle.paper.specs.Machine.{Ending}
 use Rattle.paper.specs.Sound.{All}
 use Rattle.paper.specs.Strategy.{Step}
-use Rattle.flat.specs.Machine.{Frame, FlatState, FlatOutcome, going, ended, flat-entry}
+use Rattle.flat.specs.Machine.{Frame, FlatState, FlatOutcome, going, ended, mark, flat-entry}
 use Rattle.flat.specs.Run.{Reached}
 use Rattle.symbol.specs.Record.{operator}
 use Rattle.tables.specs.Layout.{step-of, code-in}
+use Rattle.term.specs.Present.{length-in, operators-in, marks-in, sizes-in}
 use Rattle.net.specs.Net.{book-by, NetOf}
-use Rattle.units.specs.Stacks.{busy-in, store}
+use Rattle.units.specs.Stacks.{busy-in, Store, store}
 use Rattle.units.specs.Contracts.{Top-is}
 use Rattle.units.specs.declared.frames.Job.{Job}
+use Rattle.orders.specs.Contracts as O
 use Rattle.whole.specs.declared.Progress.{Progress}
 use Rattle.whole.specs.declared.Limits.{Limits}
 use Rattle.entry.specs.State.{limited}
@@ -63,6 +65,34 @@ pub record Working (work units : List ℕ) (u : ℕ) (x : Job) : Type 0 where
 pub record Next (operators symbols : List ℕ) (x : Job) (y : Step) : Type 0 where
   pub one : 1 ≤ x .next
   pub is : some y ≡ step-of (code-in operators (operator (getD symbols (x .offset) 0)) (x .next - 1))
+
+-- THE MARK
+
+-- the term at offset a, of which n orders are left, is marked if none is; all else of the term is as it was
+pub record Marked-left (n a : ℕ) (symbols symbols′ : List ℕ) : Type 0 where
+  pub operators-are : operators-in symbols′ ≡ operators-in symbols
+  pub sizes-are : sizes-in symbols′ ≡ sizes-in symbols
+  pub marks-are : marks-in symbols′ ≡ mark n a (marks-in symbols)
+  pub length-is : length-in symbols′ ≡ length-in symbols
+  pub long : length symbols′ ≡ length symbols
+
+-- the steps that VISIT of the term at offset a gives
+abbrev pub to-do : List ℕ → List ℕ → ℕ → List Step
+to-do operators symbols a = O.to-do-in operators (operators-in symbols) (marks-in symbols) a
+
+-- VISIT of the job's own term, at offset a
+pub record Visited (operators : List ℕ) (a u : ℕ) (symbols symbols′ : List ℕ) (s s′ : Store) : Type 0 where
+  pub stack : O.Visited (to-do operators symbols a) a u s s′
+  pub marks : Marked-left (length (to-do operators symbols a)) a symbols symbols′
+
+-- argument i of the job's term, with the steps that its VISIT gives
+abbrev pub visit-of : List ℕ → List ℕ → Job → ℕ → O.Argument
+visit-of operators symbols x i = O.visit-of operators (operators-in symbols) (marks-in symbols) x i
+
+-- its VISIT, ss being the steps of the job's operator
+pub record Argument-visited (operators : List ℕ) (ss : List Step) (x : Job) (i u : ℕ) (symbols symbols′ : List ℕ) (s s′ : Store) : Type 0 where
+  pub stack : O.Argument-visited ss x (visit-of operators symbols x i) u s s′
+  pub marks : Marked-left (length (visit-of operators symbols x i .steps)) (visit-of operators symbols x i .offset) symbols symbols′
 
 -- what the machine on lists does for unit u in the state s
 abbrev pub entered : List ℕ → List ℕ → Limits → ℕ → FlatState → FlatOutcome

@@ -9,11 +9,15 @@ use whole::Whole;
 ghost use mathlib.Core.Option.{some};
 ghost use mathlib.Core.Path.{_≡_};
 ghost use Prim.Native.Nat.{_+_, _-_, _^_, _≤_, _<_};
-ghost use lib.ListN.{getD};
+ghost use lib.ListN.{length, getD, drop};
 ghost use Rattle.paper.specs.Strategy as P;
 ghost use Rattle.flat.specs.Machine.{FlatState, flat-entry};
 ghost use Rattle.symbol.specs.Record.{operator};
-ghost use Rattle.tables.specs.Layout.{step-of, code-in};
+ghost use Rattle.tables.specs.Layout.{step-of, code-in, steps-in, Rowed};
+ghost use Rattle.term.specs.Present.{length-in};
+ghost use Rattle.units.specs.Stacks.{Store, store};
+ghost use Rattle.units.specs.Contracts.{Has-frame};
+ghost use Rattle.orders.specs.Contracts as O;
 ghost use Rattle.whole.specs.State.{progress};
 ghost use Rattle.whole.specs.declared.Whole as W;
 ghost use Rattle.entry.specs.State as S;
@@ -60,6 +64,74 @@ fn rewritten(p: Progress) -> Progress
     }
 }
 
+// The term at offset a, of operator o, is marked if there is no step k: it has no orders left.
+fn mark_last(operators: &[u8; 4352], symbols: &mut [u32; 1024], o: u8, k: u8, a: usize)
+    requires { ⌜ (k < 16) × Rowed (now operators) o × (a < length-in (now symbols)) × (length-in (now symbols) ≤ 1024) ⌝ }
+    ensures { λ _. ⌜ E.Marked-left (length (drop k (steps-in (now (operators .entry)) o))) a (now (symbols .entry)) (now (symbols .exit)) ⌝ }
+{
+    if !orders::has_step(operators, o, k) {
+        term::mark(symbols, a);
+    }
+}
+
+// VISIT of the job's own term: dropped if the term is marked.
+fn visit(
+    operators: &[u8; 4352],
+    symbols: &mut [u32; 1024],
+    work: &mut [u8],
+    units: &mut [u32; 8],
+    task: Task,
+)
+    ghost { Store }
+    requires { λ s. ⌜ store (now work) (now units) ≡ s ⌝ }
+    requires { λ s. ⌜ Rowed (now operators) (task .operator) × Has-frame s (task .unit) 0 × (task .job .offset < length-in (now symbols)) × (length-in (now symbols) ≤ 1024) × (task .operator ≡ operator (getD (now symbols) (task .job .offset) 0)) ⌝ }
+    ensures { λ s _. ⌜ E.Visited (now (operators .entry)) (task .job .offset) (task .unit) (now (symbols .entry)) (now (symbols .exit)) s (store (now (work .exit)) (now (units .exit))) ⌝ }
+{
+    let job = task.job;
+    let a = casts::offset(job.offset);
+    if term::is_marked_at(symbols, a) {
+        units::drop_top(units, task.unit);
+        return;
+    }
+    orders::visit(operators, work, units, task.unit, task.operator, job.offset);
+    mark_last(operators, symbols, task.operator, 0, a);
+}
+
+// VISIT of argument i of the job's term: dropped if the argument is marked, so that the job goes on alone.
+fn visit_argument(
+    operators: &[u8; 4352],
+    symbols: &mut [u32; 1024],
+    work: &mut [u8],
+    units: &mut [u32; 8],
+    task: Task,
+    i: u8,
+)
+    ghost { Store }
+    requires { λ s. ⌜ store (now work) (now units) ≡ s ⌝ }
+    requires { λ s. ⌜ Rowed (now operators) (task .operator) × O.Argument-rowed (now operators) (now symbols) (task .job) i ⌝ }
+    requires { λ s. ⌜ O.Can-visit (steps-in (now operators) (task .operator)) (task .job) (E.visit-of (now operators) (now symbols) (task .job) i) (task .unit) s ⌝ }
+    ensures { λ s _. ⌜ E.Argument-visited (now (operators .entry)) (steps-in (now (operators .entry)) (task .operator)) (task .job) i (task .unit) (now (symbols .entry)) (now (symbols .exit)) s (store (now (work .exit)) (now (units .exit))) ⌝ }
+{
+    let b = orders::argument(symbols, task.job, i);
+    let at = casts::offset(b);
+    if term::is_marked_at(symbols, at) {
+        orders::proceed(operators, work, units, task.unit, task.operator, task.job);
+        return;
+    }
+    let p = term::operator_at(symbols, at);
+    orders::visit_argument(
+        operators,
+        work,
+        units,
+        task.unit,
+        task.operator,
+        task.job,
+        b,
+        p,
+    );
+    mark_last(operators, symbols, p, 0, at);
+}
+
 // WHOLE of the job.
 fn rewrite(
     book: &[u8],
@@ -104,6 +176,7 @@ fn rewrite(
     ) {
         Whole::Missed => {
             orders::proceed(operators, work, units, u, o, job);
+            mark_last(operators, symbols, o, job.next, a);
             Entry::Going(p)
         }
         Whole::Rewrote => Entry::Going(rewritten(p)),
@@ -138,7 +211,7 @@ fn step(
     let o = task.operator;
     match tables::step_at(operators, o, job.next - 1) {
         Step::Visit(i) => {
-            orders::visit_argument(operators, symbols, work, units, u, o, job, i);
+            visit_argument(operators, symbols, work, units, task, i);
             Entry::Going(p)
         }
         Step::Fork(i) => {
@@ -185,10 +258,8 @@ fn carry_out(
     ensures { λ s r. ⌜ E.outcome r (S.state (now (symbols .exit)) (now (work .exit)) (now (units .exit)) (E.after p r) l) ≡ E.entered (now (book .entry)) (now (net .entry)) l (task .unit) s ⌝ }
     ensures { λ s r. ⌜ S.Arrays (now (symbols .exit)) (now (scratch .exit)) (now (work .exit)) (now (units .exit)) l ⌝ }
 {
-    let u = task.unit;
-    let job = task.job;
-    if job.next == 0 {
-        orders::visit(operators, work, units, u, task.operator, job.offset);
+    if task.job.next == 0 {
+        visit(operators, symbols, work, units, task);
         return Entry::Going(p);
     }
     step(

@@ -1,6 +1,6 @@
 -- One symbol filled in front of the last symbols of scratch: an operator, whose arguments stand there, or the term that a variable is bound to.
 -- Assumes nothing.
-use mathlib.Core.Bool.{true}
+use mathlib.Core.Bool.{Bool, true}
 use mathlib.Core.List.{List, [], _∷_, _++_, map, map-append, append-assoc, append-nil}
 use mathlib.Core.Path.{_≡_, refl, sym, ap, _∙_}
 use Prim.Native.Nat.{ℕ, zero, suc, _+_, _-_, _≤_, _<_}
@@ -11,17 +11,17 @@ use lib.ListN.{length, getD, take, drop, set, length-drop, length-map}
 use lib.Seq.{length-take-le, take-take, drop-drop, drop-at, set-split, getD-drop, paste}
 use Rattle.paper.specs.Book.{Symbol}
 use Rattle.flat.specs.Rules.{spells}
-use Rattle.flat.specs.Symbols.{Binding, skip, fill}
+use Rattle.flat.specs.Symbols.{Binding, skip, fill-over, fill}
 use Rattle.flat.specs.Sizes.{sizes, hop}
 use Rattle.flat.proofs.Offsets.{skip-none}
 use Rattle.flat.proofs.Sizes.{sizes-length, size-at, sizes-drop, skip-plus, skip-most, spells-some, spells-split, sizes-append, spells-part, part-inside, part-sizes}
 use Rattle.symbol.specs.Record as R
 use Rattle.symbol.proofs.Record.{map-take, map-drop}
 use Rattle.tables.specs.Layout.{arity-in}
-use Rattle.term.specs.Present.{length-in, operators-in, Sized, Hops}
+use Rattle.term.specs.Present.{length-in, present, operators-in, marks-in, Sized, Hops}
 use Rattle.term.specs.Contracts.{Pasted, Put-sized}
 use Rattle.term.proofs.Sized.{operators-length}
-use Rattle.fill.specs.Contracts.{last-symbols, Ready, Symbol-filled}
+use Rattle.fill.specs.Contracts.{last-symbols, Ready, Filled, Symbol-filled}
 use Rattle.fill.specs.declared.Size as Z
 
 -- LISTS
@@ -29,19 +29,19 @@ use Rattle.fill.specs.declared.Size as Z
 drop-set : (l : List ℕ) (i x : ℕ) → i < length l → drop i (set l i x) ≡ x ∷ drop (suc i) l
 drop-set l i x h = ap (drop i) (set-split l i x h) ∙ drop-at (take i l) (x ∷ drop (suc i) l) i (length-take-le i l (omega arith))
 
-part-take : (a n len : ℕ) (l : List ℕ) → a + n ≤ len → take n (drop a (take len l)) ≡ take n (drop a l)
+part-take : {A : Type 0} (a n len : ℕ) (l : List A) → a + n ≤ len → take n (drop a (take len l)) ≡ take n (drop a l)
 part-take zero n len l h = take-take n len l (omega arith)
 part-take (suc a) n zero l h = absurd (omega arith)
 part-take (suc a) n (suc len) [] h = refl
 part-take (suc a) n (suc len) (x ∷ l) h = part-take a n len l (omega arith)
 
--- a part of the first len symbols: their operators, or sizes
-part-of : (f : ℕ → ℕ) (a n len : ℕ) (l : List ℕ) → a + n ≤ len → map f (take n (drop a l)) ≡ take n (drop a (map f (take len l)))
-part-of f a n len l h =
+-- a part of the first len symbols: their operators, marks or sizes
+part-of : {A : Type 0} (f : ℕ → A) (a n len : ℕ) (l : List ℕ) → a + n ≤ len → map f (take n (drop a l)) ≡ take n (drop a (map f (take len l)))
+part-of {A} f a n len l h =
     map-take f n (drop a l)
     ∙ ap (take n) (map-drop f a l)
     ∙ sym (part-take a n len (map f l) h)
-    ∙ ap (λ (r : List ℕ). take n (drop a r)) (sym (map-take f len l))
+    ∙ ap (λ (r : List A). take n (drop a r)) (sym (map-take f len l))
 
 -- SIZES BEHIND AN OPERATOR
 
@@ -69,22 +69,22 @@ module _ {operators xs : List ℕ} {b : Binding} {s : Symbol} {k : ℕ} {scratch
   abbrev ys : List ℕ
   ys = R.operators (last-symbols k scratch)
 
-  -- the records zs, with what s gives as operators, and with sizes
-  joined : {limit n : ℕ} {scratch′ : List ℕ} (zs : List ℕ) → last-symbols n scratch′ ≡ zs ++ last-symbols k scratch → R.operators zs ≡ fill (s ∷ []) b xs →
+  -- the records zs, which s gives, and with sizes
+  joined : {ms : List Bool} {limit n : ℕ} {scratch′ : List ℕ} (zs : List ℕ) → last-symbols n scratch′ ≡ zs ++ last-symbols k scratch → Filled (s ∷ []) b xs ms zs →
       R.sizes zs ++ sizes ar ys ≡ sizes ar (fill (s ∷ []) b xs ++ ys) → n ≤ limit → limit ≤ 1024 → length scratch′ ≡ 1024 →
-      Symbol-filled operators xs b s limit k scratch scratch′ (Z.Size.Fits n)
-  joined {limit} {n} {scratch′} zs d o z l m long =
+      Symbol-filled operators xs ms b s limit k scratch scratch′ (Z.Size.Fits n)
+  joined {n = n} {scratch′} zs d h z l m long =
       let q : R.operators (last-symbols n scratch′) ≡ fill (s ∷ []) b xs ++ ys =
-      ap R.operators d ∙ map-append R.operator zs (last-symbols k scratch) ∙ ap (λ (w : List ℕ). w ++ ys) o in
+      ap R.operators d ∙ map-append R.operator zs (last-symbols k scratch) ∙ ap (λ (w : List ℕ). w ++ ys) (h .operators-are) in
       let t : R.sizes (last-symbols n scratch′) ≡ sizes ar (R.operators (last-symbols n scratch′)) =
       ap R.sizes d ∙ map-append R.size zs (last-symbols k scratch) ∙ ap (λ (w : List ℕ). R.sizes zs ++ w) (r .sized .true-sizes) ∙ z ∙ ap (sizes ar) (sym q) in
-      record { is = (q, record { true-sizes = t; most = omega arith; long = long }, l); long = long }
+      record { is = (zs, d, h, record { true-sizes = t; most = omega arith; long = long }, l); long = long }
 
   -- AN OPERATOR
 
   module _ {o : ℕ} (e : s ≡ Symbol.operator o) where
-    pub over-operator : {limit : ℕ} → limit ≤ k → Symbol-filled operators xs b s limit k scratch scratch Z.Size.Over
-    unfolding fill
+    pub over-operator : {ms : List Bool} {limit : ℕ} → limit ≤ k → Symbol-filled operators xs ms b s limit k scratch scratch Z.Size.Over
+    unfolding fill-over
     over-operator l = record { is = rw e (omega arith); long = r .sized .long }
 
     hops-operator : Hops (R.sizes scratch) (ar o) (1024 - k) × (hop (R.sizes scratch) (ar o) (1024 - k) ≡ 1024 - k + skip ar (ar o) ys)
@@ -110,12 +110,13 @@ module _ {operators xs : List ℕ} {b : Binding} {s : Symbol} {k : ℕ} {scratch
         let n = r .sized .long in
         rw (a, q) (drop-set scratch (1023 - k) x (omega arith) ∙ ap (λ (i : ℕ). x ∷ drop i scratch) c)
 
-    pub filled-operator : {limit : ℕ} {scratch′ : List ℕ} → k < limit → limit ≤ 1024 → Put-sized (ar o) (1023 - k) o scratch scratch′ →
-        Symbol-filled operators xs b s limit k scratch scratch′ (Z.Size.Fits (k + 1))
-    unfolding fill sizes skip
+    pub filled-operator : {ms : List Bool} {limit : ℕ} {scratch′ : List ℕ} → k < limit → limit ≤ 1024 → Put-sized (ar o) (1023 - k) o scratch scratch′ →
+        Symbol-filled operators xs ms b s limit k scratch scratch′ (Z.Size.Fits (k + 1))
+    unfolding fill-over sizes skip
     filled-operator l m p =
-        let (x, q, n, z) = p .is in
-        joined (x ∷ []) (operator-placed (omega arith) q) (rw e (ap (λ (y : ℕ). y ∷ []) n))
+        let (x, q, n, z, u) = p .is in
+        joined (x ∷ []) (operator-placed (omega arith) q)
+        (rw e (record { operators-are = ap (λ (y : ℕ). y ∷ []) n; marks-are = ap (λ (y : Bool). y ∷ []) u }))
         (rw e (ap (λ (y : ℕ). y ∷ sizes ar ys) (operator-size (R.size x) (omega arith) z))) (omega arith) m (p .long)
 
 -- A VARIABLE
@@ -140,11 +141,15 @@ module _ {operators symbols : List ℕ} {b : Binding} {s : Symbol} {k : ℕ} {sc
       let (l, q) = term-there in
       omega (arith, part-inside (arity-in operators) ops start (omega arith), operators-length (arity-in operators) symbols w)
 
-  gives : fill (s ∷ []) b ops ≡ part
-  unfolding fill
-  gives = rw (e, f, g) (append-nil (take (b v .size) (drop (b v .start) ops)))
+  -- it gives its part, whatever the list is of
+  gives-part : {A : Type 0} (new : ℕ → A) (zs : List A) → fill-over new (s ∷ []) b zs ≡ take size (drop start zs)
+  unfolding fill-over
+  gives-part new zs = rw (e, f, g) (append-nil (take (b v .size) (drop (b v .start) zs)))
 
-  pub over-variable : {limit : ℕ} → limit < k + size → Symbol-filled operators ops b s limit k scratch scratch Z.Size.Over
+  gives : fill (s ∷ []) b ops ≡ part
+  gives = gives-part (λ o. o) ops
+
+  pub over-variable : {ms : List Bool} {limit : ℕ} → limit < k + size → Symbol-filled operators ops ms b s limit k scratch scratch Z.Size.Over
   over-variable l =
       let m = part-there in
       let n = operators-length (arity-in operators) symbols w in
@@ -162,6 +167,10 @@ module _ {operators symbols : List ℕ} {b : Binding} {s : Symbol} {k : ℕ} {sc
       rw (a, q, append-assoc (take p scratch) zs (drop (p + size) scratch))
       (drop-at (take p scratch) (zs ++ drop (p + size) scratch) p (length-take-le p scratch (omega arith)) ∙ ap (λ (i : ℕ). zs ++ drop i scratch) c)
 
+  -- of each symbol one thing, its operator or its mark
+  part-filled : {A : Type 0} (f new : ℕ → A) → map f (take size (drop start symbols)) ≡ fill-over new (s ∷ []) b (map f (present symbols))
+  part-filled f new = part-of f start size (length-in symbols) symbols part-there ∙ sym (gives-part new (map f (present symbols)))
+
   part-sized : R.sizes (take size (drop start symbols)) ≡ sizes (arity-in operators) part
   part-sized =
       let (l, q) = term-there in
@@ -170,9 +179,10 @@ module _ {operators symbols : List ℕ} {b : Binding} {s : Symbol} {k : ℕ} {sc
       ∙ rw q (sym (part-sizes (arity-in operators) ops start (w .term) l))
 
   pub filled-variable : {limit : ℕ} {scratch′ : List ℕ} → k + size ≤ limit → limit ≤ 1024 → Pasted scratch (1024 - k - size) symbols start size scratch′ →
-      Symbol-filled operators ops b s limit k scratch scratch′ (Z.Size.Fits (k + size))
+      Symbol-filled operators ops (marks-in symbols) b s limit k scratch scratch′ (Z.Size.Fits (k + size))
   filled-variable l m p =
       let (i, q) = term-there in
       let t : spells (arity-in operators) 1 part ≡ true = rw q (spells-part (arity-in operators) ops start (w .term) i) in
-      joined r (take size (drop start symbols)) (part-placed l m (p .is)) (part-of R.operator start size (length-in symbols) symbols part-there ∙ sym gives)
+      joined r (take size (drop start symbols)) (part-placed l m (p .is))
+      (record { operators-are = part-filled R.operator _; marks-are = part-filled R.marked _ })
       (rw (gives, part-sized) (sym (sizes-append (arity-in operators) part 1 t (R.operators (last-symbols k scratch))))) l m (p .long)

@@ -1,5 +1,5 @@
 -- What filling a right side asks and ensures, by the definitions on lists of symbols. Assumes nothing.
-use mathlib.Core.Bool.{true}
+use mathlib.Core.Bool.{Bool, true}
 use mathlib.Core.List.{List, [], _∷_, _++_}
 use mathlib.Core.Path.{_≡_}
 use Prim.Native.Nat.{ℕ, _+_, _-_, _^_, _≤_, _<_}
@@ -59,23 +59,28 @@ pub record Ready (operators xs : List ℕ) (b : Binding) (s : Symbol) (k : ℕ) 
   pub others : ℕ
   pub behind : spells (arity-in operators) (symbol-arity operators s + others) (R.operators (last-symbols k scratch)) ≡ true
 
-abbrev pub Symbol-is : List ℕ → List ℕ → Binding → Symbol → ℕ → ℕ → List ℕ → List ℕ → Z.Size → Type 0
-Symbol-is operators xs b s limit k scratch scratch′ (Z.Size.Fits n) =
-    (R.operators (last-symbols n scratch′) ≡ flat.fill (s ∷ []) b xs ++ R.operators (last-symbols k scratch)) × Sized-end (arity-in operators) n scratch′ × (n ≤ limit)
-Symbol-is operators xs b s limit k scratch scratch′ Z.Size.Over = limit < length (flat.fill (s ∷ []) b xs) + k
+-- the records zs are the symbols ss filled: their operators from xs, their marks from ms
+pub record Filled (ss : List Symbol) (b : Binding) (xs : List ℕ) (ms : List Bool) (zs : List ℕ) : Type 0 where
+  pub operators-are : R.operators zs ≡ flat.fill ss b xs
+  pub marks-are : R.marks zs ≡ flat.fill-marks ss b ms
+
+abbrev pub Symbol-is : List ℕ → List ℕ → List Bool → Binding → Symbol → ℕ → ℕ → List ℕ → List ℕ → Z.Size → Type 0
+Symbol-is operators xs ms b s limit k scratch scratch′ (Z.Size.Fits n) =
+    (zs : List ℕ) × (last-symbols n scratch′ ≡ zs ++ last-symbols k scratch) × Filled (s ∷ []) b xs ms zs × Sized-end (arity-in operators) n scratch′ × (n ≤ limit)
+Symbol-is operators xs ms b s limit k scratch scratch′ Z.Size.Over = limit < length (flat.fill (s ∷ []) b xs) + k
 
 -- the symbol s is filled in front of the last k symbols; or they would be more than the limit
-pub record Symbol-filled (operators xs : List ℕ) (b : Binding) (s : Symbol) (limit k : ℕ) (scratch scratch′ : List ℕ) (r : Z.Size) : Type 0 where
-  pub is : Symbol-is operators xs b s limit k scratch scratch′ r
+pub record Symbol-filled (operators xs : List ℕ) (ms : List Bool) (b : Binding) (s : Symbol) (limit k : ℕ) (scratch scratch′ : List ℕ) (r : Z.Size) : Type 0 where
+  pub is : Symbol-is operators xs ms b s limit k scratch scratch′ r
   pub long : length scratch′ ≡ 1024
 
 -- the filled side is the last k symbols of scratch, with their sizes; or has more symbols than the limit
-abbrev pub Side-is : List ℕ → ℕ → List ℕ → List ℕ → Binding → ℕ → List ℕ → Z.Size → Type 0
-Side-is bytes at operators xs b limit scratch (Z.Size.Fits k) =
-    ((side : Side) → SideAt bytes at operators side → R.operators (drop (1024 - k) scratch) ≡ flat.fill (preorder side) b xs)
+abbrev pub Side-is : List ℕ → ℕ → List ℕ → List ℕ → List Bool → Binding → ℕ → List ℕ → Z.Size → Type 0
+Side-is bytes at operators xs ms b limit scratch (Z.Size.Fits k) =
+    ((side : Side) → SideAt bytes at operators side → Filled (preorder side) b xs ms (drop (1024 - k) scratch))
     × (R.sizes (drop (1024 - k) scratch) ≡ sizes.sizes (arity-in operators) (R.operators (drop (1024 - k) scratch))) × (k ≤ limit)
-Side-is bytes at operators xs b limit scratch Z.Size.Over = (side : Side) → SideAt bytes at operators side → limit < length (flat.fill (preorder side) b xs)
+Side-is bytes at operators xs ms b limit scratch Z.Size.Over = (side : Side) → SideAt bytes at operators side → limit < length (flat.fill (preorder side) b xs)
 
-pub record Side-filled (bytes : List ℕ) (at : ℕ) (operators xs : List ℕ) (b : Binding) (limit : ℕ) (scratch : List ℕ) (r : Z.Size) : Type 0 where
-  pub is : Side-is bytes at operators xs b limit scratch r
+pub record Side-filled (bytes : List ℕ) (at : ℕ) (operators xs : List ℕ) (ms : List Bool) (b : Binding) (limit : ℕ) (scratch : List ℕ) (r : Z.Size) : Type 0 where
+  pub is : Side-is bytes at operators xs ms b limit scratch r
   pub long : length scratch ≡ 1024

@@ -1,10 +1,11 @@
-// The right side of a packed rule filled (document 01, 'Reduction one after the other'), each symbol with its size (document 02, Change 7).
+// The right side of a packed rule filled (document 01, 'Reduction one after the other'), each symbol with its size (document 02, Change 7);
+// copies take their marks along (Change 10).
 use side::Standing;
 ghost use mathlib.Core.Path.{_≡_};
 ghost use Prim.Native.Nat.{_≤_, _^_};
 ghost use lib.ListN.{length};
 ghost use Rattle.tables.specs.Layout.{arity-in};
-ghost use Rattle.term.specs.Present.{operators-in, Sized};
+ghost use Rattle.term.specs.Present.{operators-in, marks-in, Sized};
 ghost use Rattle.rule.specs.Packed.{binding};
 ghost use Rattle.fill.specs.Sides.{symbol};
 ghost use Rattle.fill.specs.Contracts as F;
@@ -70,7 +71,7 @@ fn fill_one(
     k: usize,
 ) -> Size
     requires { ⌜ F.Ready (now operators) (operators-in (now symbols)) (binding (now bound)) (symbol code) k (now scratch) × Sized (arity-in (now operators)) (now symbols) × (k ≤ limit) × (limit ≤ 1024) ⌝ }
-    ensures { λ r. ⌜ F.Symbol-filled (now (operators .entry)) (operators-in (now (symbols .entry))) (binding (now (bound .entry))) (symbol code) limit k (now (scratch .entry)) (now (scratch .exit)) r ⌝ }
+    ensures { λ r. ⌜ F.Symbol-filled (now (operators .entry)) (operators-in (now (symbols .entry))) (marks-in (now (symbols .entry))) (binding (now (bound .entry))) (symbol code) limit k (now (scratch .entry)) (now (scratch .exit)) r ⌝ }
 {
     if code < 256 {
         if k == limit {
@@ -102,7 +103,7 @@ pub fn fill(
     scratch: &mut [u32; 1024],
 ) -> Size
     requires { ⌜ F.Fillable (now book) at (now operators) (operators-in (now symbols)) (binding (now bound)) × Sized (arity-in (now operators)) (now symbols) × (length (now scratch) ≡ 1024) × (limit ≤ 1024) ⌝ }
-    ensures { λ r. ⌜ F.Side-filled (now (book .entry)) at (now (operators .entry)) (operators-in (now (symbols .entry))) (binding (now (bound .entry))) limit (now (scratch .exit)) r ⌝ }
+    ensures { λ r. ⌜ F.Side-filled (now (book .entry)) at (now (operators .entry)) (operators-in (now (symbols .entry))) (marks-in (now (symbols .entry))) (binding (now (bound .entry))) limit (now (scratch .exit)) r ⌝ }
 {
     let mut codes: [u16; 64] = [0; 64];
     let mut i = decode(book, at, operators, &mut codes);

@@ -1,9 +1,11 @@
 pub mod Starred
 pub mod Offsets
+pub mod Relabel
 pub mod Sizes
 pub mod Matching
 pub mod Steps
 pub mod Stacks
+pub mod Marks
 pub mod Lists
 pub mod Places
 pub mod Apart

@@ -9,10 +9,10 @@ use native.Mathlib.Omega.{arith}
 use lib.Dec.{eqb}
 use lib.ListN.{length, getD, drop}
 use Rattle.paper.specs.Strategy.{Step}
-use Rattle.paper.specs.Book.{Book, arity, steps}
+use Rattle.paper.specs.Book.{Symbol, Book, arity, steps}
 use Rattle.paper.specs.Machine.{Limits, exceeds}
 use Rattle.paper.proofs.Tests.{eqb-cases}
-use Rattle.flat.specs.Symbols.{Hit, argument, rewrite}
+use Rattle.flat.specs.Symbols.{Binding, Hit, argument, fill, rewrite}
 use Rattle.flat.specs.Machine.{Frame, unit, first-idle, FlatState, FlatOutcome, going, ended, do-fork, do-join, do-rewrite, do-whole, do-step, carry-out, turn, flat-entry}
 
 -- rewrites are within the budget, and no more FORKs are counted than n
@@ -38,12 +38,12 @@ module _ (B : Book) (L : Limits) (u : ℕ) (s : FlatState) {n : ℕ} (t : Tallie
   by-join a k zero ss fs = same _ refl refl refl
   by-join a k (suc c) ss fs = same _ refl refl refl
 
-  by-rewrite : (a e : ℕ) (ys : List ℕ) (fs : List Frame) (spent over : Bool) → spent ≡ eqb (s .rewrites) (L .budget) →
-      TalliedBy (L .budget) (suc n) (do-rewrite B L u s a e ys fs spent over)
+  by-rewrite : (a e : ℕ) (right : List Symbol) (b : Binding) (fs : List Frame) (spent over : Bool) → spent ≡ eqb (s .rewrites) (L .budget) →
+      TalliedBy (L .budget) (suc n) (do-rewrite B L u s a e right b fs spent over)
   unfolding do-rewrite
-  by-rewrite a e ys fs true over q = tt
-  by-rewrite a e ys fs false true q = tt
-  by-rewrite a e ys fs false false q = record { allowed = below; forks = omega (arith, t .forks) }
+  by-rewrite a e right b fs true over q = tt
+  by-rewrite a e right b fs false true q = tt
+  by-rewrite a e right b fs false false q = record { allowed = below; forks = omega (arith, t .forks) }
     where
       below : suc (s .rewrites) ≤ L .budget
       below = elim (eqb-cases (s .rewrites) (L .budget)) [
@@ -54,7 +54,9 @@ module _ (B : Book) (L : Limits) (u : ℕ) (s : FlatState) {n : ℕ} (t : Tallie
   by-whole : (a k c : ℕ) (ss : List Step) (fs : List Frame) (h : Hit) → TalliedBy (L .budget) (suc n) (do-whole B L u s a k c ss fs h)
   unfolding do-whole
   by-whole a k c ss fs Hit.miss = same _ refl refl refl
-  by-whole a k c ss fs (Hit.hit ys e) = by-rewrite a e ys fs (eqb (s .rewrites) (L .budget)) (exceeds (L .symbols) (length ys + (length (s .symbols) - (e - a)))) refl
+  by-whole a k c ss fs (Hit.hit right b e) =
+      by-rewrite a e right b fs (eqb (s .rewrites) (L .budget))
+      (exceeds (L .symbols) (length (fill right b (s .symbols)) + (length (s .symbols) - (e - a)))) refl
 
   by-step : (a k c : ℕ) (ss : List Step) (fs : List Frame) → TalliedBy (L .budget) (suc n) (do-step B L u s a k c ss fs)
   unfolding do-step

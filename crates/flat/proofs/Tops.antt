@@ -6,6 +6,7 @@ use Prim.Native.Nat.{ℕ, zero, suc, _≤_, _<_}
 use native.Mathlib.Omega.{arith}
 use lib.ListN.{length, length-append}
 use Rattle.paper.specs.Book.{Book}
+use Rattle.paper.specs.Marks.{plain}
 use Rattle.paper.specs.Machine.{Order, Limits}
 use Rattle.paper.proofs.Ghost.{Ghost}
 use Rattle.paper.proofs.View.{Block, block, list}
@@ -44,12 +45,12 @@ frames-some B [] h = absurd (omega arith)
 frames-some B (g ∷ gs) h = omega arith
 
 pub stack-some : {B : Book} {L : Limits} {s : FlatState} → FlatInv B L s → (u : ℕ) → 0 < length (stack s u)
-stack-some {B} (flat-inv t U n j D bs e good inv ranked queued sz) u =
+stack-some {B} (flat-inv w U n j D bs e good inv ranked queued sz) u =
     let l = frames-some B (at U u .frames) (omega (arith, orders-some u D bs (inv .same), ap length (sym (inv .fits u .0) ∙ list-at B U u))) in
     omega (
       arith,
       l,
       ap (λ (z : FlatState). length (stack z u)) e,
-      ap (λ (x : FlatUnit). length (x .stack)) (unit-at t U u),
-      stack-length t (at U u .frames),
+      ap (λ (x : FlatUnit). length (x .stack)) (unit-at (plain w) U u),
+      stack-length (plain w) (at U u .frames),
     )

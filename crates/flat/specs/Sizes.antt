@@ -5,20 +5,20 @@ use mathlib.Core.List.{List, [], _∷_, _++_}
 use Prim.Native.Nat.{ℕ, zero, suc, _+_, _-_, _<_}
 use lib.Dec.{ltb}
 use lib.ListN.{getD, length, take, drop}
-use Rattle.paper.specs.Tree.{node, Forest, nil, cons, size}
-use Rattle.paper.specs.Book.{Term}
+use Rattle.paper.specs.Tree.{Tree, node, Forest, nil, cons, size}
 use Rattle.flat.specs.Symbols.{skip}
 
 -- the sizes of a tree's symbols in preorder: at each symbol the size of the tree that stands there
-unfoldable mutual
-  unfolding size
+module _ {A : Type 0} where
+  unfoldable mutual
+    unfolding size
 
-  pub tree-sizes : Term → List ℕ
-  tree-sizes (node o ts) = size (node o ts) ∷ forest-sizes ts
+    pub tree-sizes : Tree A → List ℕ
+    tree-sizes (node o ts) = size (node o ts) ∷ forest-sizes ts
 
-  pub forest-sizes : Forest ℕ → List ℕ
-  forest-sizes nil = []
-  forest-sizes (cons t ts) = tree-sizes t ++ forest-sizes ts
+    pub forest-sizes : Forest A → List ℕ
+    forest-sizes nil = []
+    forest-sizes (cons t ts) = tree-sizes t ++ forest-sizes ts
 
 -- the sizes of a list's symbols, by their arities: at each symbol how many the term has that begins there
 unfoldable pub sizes : (ℕ → ℕ) → List ℕ → List ℕ

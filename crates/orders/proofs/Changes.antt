@@ -22,6 +22,7 @@ use Rattle.units.proofs.Units.{changed-none, changed-then, changed-as, height-i
 use Rattle.orders.specs.Contracts.{
   is-some,
   Counted,
+  Argument,
   argument-of,
   Argument-inside,
   Restacked,
@@ -105,7 +106,20 @@ join-waits {ss} {x} {n} {u} {w} {c} {c′} f ne t = record { change = go (x .cou
     go zero z = absurd (z refl)
     go (suc k) z = t .change w f
 
--- VISIT of the argument at offset b, of operator o: the job goes on first
+-- VISIT of the argument p: the job goes on first
+module _ {ss : List Step} {x : Job} {p : Argument} {u : ℕ} {s s₁ : Store} (d : Proceeded ss x u s s₁) where
+  pub can-enter : Can-visit ss x p u s → p .offset < 1024 → Can-enter (p .steps) (p .offset) u s₁
+  can-enter v l = record {
+    fit = d .change .fit;
+    unit = v .job .top .unit;
+    offset = l;
+    room = omega (arith, v .room, ap (λ (y : FlatUnit). length (enters (p .steps) (p .offset) (y .stack))) (unit-same (d .change)));
+  }
+
+  pub argument-visited : {s₂ : Store} → Entered (p .steps) (p .offset) u s₁ s₂ → Argument-visited ss x p u s s₂
+  argument-visited e = record { change = changed-then (d .change) (e .change) }
+
+-- argument i of the job's term
 module _ {operators symbols : List ℕ} {x : Job} {i : ℕ} (q : Argument-inside operators symbols x i) where
   abbrev xs : List ℕ
   xs = operators-in symbols
@@ -129,38 +143,14 @@ module _ {operators symbols : List ℕ} {x : Job} {i : ℕ} (q : Argument-inside
   pub argument-found : {b : ℕ} → b ≡ hop (sizes symbols) i (x .offset + 1) → b ≡ argument-of operators xs x i .offset
   argument-found e = e ∙ hop-is
 
-  module _ {b k o : ℕ} (eb : b ≡ hop (sizes symbols) i (x .offset + 1)) (ek : k ≡ b) (eo : o ≡ operator (getD symbols k 0)) where
-    operator-found : o ≡ getD xs (argument-of operators xs x i .offset) 0
+  -- its operator p, read at k, which is its offset b
+  module _ {b k p : ℕ} (eb : b ≡ hop (sizes symbols) i (x .offset + 1)) (ek : k ≡ b) (ep : p ≡ operator (getD symbols k 0)) where
+    operator-found : p ≡ getD xs (argument-of operators xs x i .offset) 0
     operator-found =
-        eo ∙ ap (λ (j : ℕ). operator (getD symbols j 0)) (ek ∙ argument-found eb) ∙ operator-is (arity-in operators) symbols (q .sized) _ inside
+        ep ∙ ap (λ (j : ℕ). operator (getD symbols j 0)) (ek ∙ argument-found eb) ∙ operator-is (arity-in operators) symbols (q .sized) _ inside
 
-    pub argument-row : Rowed operators (getD xs (argument-of operators xs x i .offset) 0) → Rowed operators o
+    pub argument-row : Rowed operators (getD xs (argument-of operators xs x i .offset) 0) → Rowed operators p
     argument-row r = rw operator-found r
-
-    argument-enters : (fs : List Frame) → enters (steps-in operators o) b fs
-        ≡ enters (argument-of operators xs x i .steps) (argument-of operators xs x i .offset) fs
-    argument-enters fs = ap₂ (λ (j a : ℕ). enters (steps-in operators j) a fs) operator-found (argument-found eb)
-
-    pub can-enter : {ss : List Step} {u : ℕ} {s s₁ : Store} → Can-visit ss x (argument-of operators xs x i) u s → Proceeded ss x u s s₁ → b < 1024 →
-        Can-enter (steps-in operators o) b u s₁
-    can-enter {ss} {u} {s} v p l = record {
-      fit = p .change .fit;
-      unit = v .job .top .unit;
-      offset = l;
-      room = omega (
-        arith,
-        v .room,
-        ap length (argument-enters (goes-on ss x (x .count) (unit-in s u .stack))),
-        ap (λ (y : FlatUnit). length (enters (steps-in operators o) b (y .stack))) (unit-same (p .change)),
-      );
-    }
-
-    pub argument-visited : {ss : List Step} {u : ℕ} {s s₁ s₂ : Store} → Proceeded ss x u s s₁ → Entered (steps-in operators o) b u s₁ s₂ →
-        Argument-visited ss x (argument-of operators xs x i) u s s₂
-    argument-visited {ss} {u} {s} p e = record {
-      change = changed-as (changed-then (p .change) (e .change))
-          (ap (flat-unit (unit-in s u .rank)) (argument-enters (goes-on ss x (x .count) (unit-in s u .stack))));
-    }
 
 -- EXIT
 pub exit-join : {x : Exit} {u : ℕ} {s s₁ : Store} → Can-exit x u s → Changed u dropped s s₁ → (v i : ℕ) → v ≡ x .unit → i ≡ x .index → Has-frame s₁ v i

@@ -10,11 +10,10 @@ use native.Mathlib.Omega.{arith}
 use lib.ListN.{length, getD, drop}
 use lib.ListN.{set as put}
 use Rattle.paper.specs.Strategy.{Step}
-use Rattle.paper.specs.Book.{Book, arity}
+use Rattle.paper.specs.Book.{Book}
 use Rattle.paper.specs.Machine.{Limits}
 use Rattle.paper.specs.Sound.{All}
-use Rattle.flat.specs.Symbols.{Hit, rewrite}
-use Rattle.flat.specs.Machine.{Frame, FlatUnit, flat-unit, unit, FlatState, FlatOutcome, going, with-units, next-count, visit, idle-count, first-idle, leave, arrive, do-fork, do-join, do-whole, do-step, carry-out}
+use Rattle.flat.specs.Machine.{Frame, FlatUnit, flat-unit, unit, FlatState, FlatOutcome, going, with-units, with-marks, next-count, mark, visit, idle-count, first-idle, leave, arrive, do-visit, do-fork, do-join, do-step, carry-out}
 use Rattle.tables.specs.Layout.{step-of, code-in, steps-in}
 use Rattle.tables.specs.Tables.{Tables}
 use Rattle.tables.proofs.Rows.{here-is}
@@ -25,11 +24,12 @@ use Rattle.units.specs.declared.frames.Job.{Job}
 use Rattle.units.specs.declared.frames.Exit.{Exit}
 use Rattle.units.proofs.Units.{height-at, at-is, at-else}
 use Rattle.orders.specs.Contracts.{
+  to-do-in,
   Argument,
   argument-of,
+  visit-of,
   restack,
   goes-on,
-  Proceeded,
   enters,
   Visited,
   visits,
@@ -43,14 +43,14 @@ use Rattle.orders.specs.Contracts.{
   grants,
   Forked,
 }
-use Rattle.orders.proofs.Tables.{rowed-said, steps-said, argument-by, argument-said}
+use Rattle.orders.proofs.Tables.{rowed-said, steps-said, argument-by, argument-said, to-do-said, visit-said}
 
 -- the state with other units, after a FORK that was granted or kept
 abbrev pub counted-fork : FlatState → List FlatUnit → Bool → FlatState
 counted-fork s us true =
-    record { symbols = s .symbols; sizes = s .sizes; units = us; rewrites = s .rewrites; granted = suc (s .granted); kept = s .kept }
+    record { symbols = s .symbols; sizes = s .sizes; marks = s .marks; units = us; rewrites = s .rewrites; granted = suc (s .granted); kept = s .kept }
 counted-fork s us false =
-    record { symbols = s .symbols; sizes = s .sizes; units = us; rewrites = s .rewrites; granted = s .granted; kept = suc (s .kept) }
+    record { symbols = s .symbols; sizes = s .sizes; marks = s .marks; units = us; rewrites = s .rewrites; granted = s .granted; kept = suc (s .kept) }
 
 -- unit u, one of n, is busy with the frame f on top of fs; t is how the units are kept
 module _ (B : Book) (L : Limits) (u n : ℕ) (s : FlatState) (t : Store) (us : s .units ≡ units-in t n) (l : u < n) (f : Frame) (fs : List Frame)
@@ -61,9 +61,14 @@ module _ (B : Book) (L : Limits) (u n : ℕ) (s : FlatState) (t : Store) (us : s
   at-here : (g : FlatUnit → FlatUnit) → put (s .units) u (g busy) ≡ at u g (units-in t n)
   at-here g = sym (at-is u (s .units) g busy e) ∙ ap (at u g) us
 
+  -- the unit has changed, and ms are the marks
+  changed-with : (ms : List Bool) {g : FlatUnit → FlatUnit} {t′ : Store} (y : FlatUnit) → Changed u g t t′ → y ≡ g busy →
+      _≡_ {A = FlatOutcome} (going (with-marks (with-units s (put (s .units) u y)) ms)) (going (with-marks (with-units s (units-in t′ n)) ms))
+  changed-with ms {g} y c q = ap (λ (v : List FlatUnit). going (with-marks (with-units s v) ms)) (ap (put (s .units) u) q ∙ at-here g ∙ sym (c .units n))
+
   changed : {g : FlatUnit → FlatUnit} {t′ : Store} (y : FlatUnit) → Changed u g t t′ → y ≡ g busy →
       _≡_ {A = FlatOutcome} (going (with-units s (put (s .units) u y))) (going (with-units s (units-in t′ n)))
-  changed {g} y c q = ap (λ (v : List FlatUnit). going (with-units s v)) (ap (put (s .units) u) q ∙ at-here g ∙ sym (c .units n))
+  changed = changed-with (s .marks)
 
   -- the rank of a unit that becomes idle
   abbrev last : ℕ
@@ -88,12 +93,15 @@ module _ (B : Book) (L : Limits) (u n : ℕ) (s : FlatState) (t : Store) (us : s
     operator a = getD (s .symbols) a 0
 
     -- VISIT of the job's own term
-    pub visit-entry : (a c : ℕ) {t′ : Store} → a < length (s .symbols) → Visited (steps-in operators (operator a)) a u t t′ →
-        carry-out B L u s fs (Frame.job a zero c) ≡ going (with-units s (units-in t′ n))
-    unfolding carry-out visit
+    pub visit-entry : (a c : ℕ) {t′ : Store} → a < length (s .symbols) →
+        let ss = to-do-in operators (s .symbols) (s .marks) a in
+        Visited ss a u t t′ → carry-out B L u s fs (Frame.job a zero c) ≡ going (with-marks (with-units s (units-in t′ n)) (mark (length ss) a (s .marks)))
+    unfolding carry-out do-visit visit
     visit-entry a c la d =
-        changed (flat-unit 0 (visit B (s .symbols) a fs)) (d .change)
-        (ap (λ (ss : List Step). flat-unit 0 (enters ss a fs)) (sym (steps-said T (s .symbols) known a la)))
+        let ss = to-do-in operators (s .symbols) (s .marks) a in
+        ap (λ (ss : List Step). going (with-marks (with-units s (put (s .units) u (flat-unit 0 (enters ss a fs)))) (mark (length ss) a (s .marks))))
+        (sym (to-do-said T (s .symbols) known (s .marks) a la))
+        ∙ changed-with (mark (length ss) a (s .marks)) (flat-unit 0 (enters ss a fs)) (d .change) refl
 
     -- its next step, which is one more than its place in the operator's steps
     module _ (x : Job) (lx : x .offset < length (s .symbols)) (p : 1 ≤ x .next) (m : x .next ≤ 16) where
@@ -116,21 +124,19 @@ module _ (B : Book) (L : Limits) (u n : ℕ) (s : FlatState) (t : Store) (us : s
               ∙ here-is (rowed-said T (s .symbols) known (x .offset) lx) k (omega arith) (some st) (rw j at q) .0)
 
       pub visit-argument-entry : (i : ℕ) {t′ : Store} → some (Step.visit i) ≡ step-of (code-in operators (operator (x .offset)) (x .next - 1)) →
-          argument-by B (s .symbols) x i .offset < length (s .symbols) → Argument-visited ss x (argument-of operators (s .symbols) x i) u t t′ →
-          carry-out B L u s fs (Frame.job (x .offset) (x .next) (x .count)) ≡ going (with-units s (units-in t′ n))
-      unfolding do-step visit
+          argument-by B (s .symbols) x i .offset < length (s .symbols) →
+          let a = visit-of operators (s .symbols) (s .marks) x i in
+          Argument-visited ss x a u t t′ →
+          carry-out B L u s fs (Frame.job (x .offset) (x .next) (x .count)) ≡
+          going (with-marks (with-units s (units-in t′ n)) (mark (length (a .steps)) (a .offset) (s .marks)))
+      unfolding do-step do-visit visit
       visit-argument-entry i q la d =
+          let a = visit-of operators (s .symbols) (s .marks) x i in
           step-entry (Step.visit i) q
-          ∙ changed (flat-unit 0 (visits ss x (argument-by B (s .symbols) x i) (f ∷ fs))) (d .change)
-          (ap (λ (a : Argument). flat-unit 0 (visits ss x a (f ∷ fs))) (sym (argument-said T (s .symbols) known x i la)))
-
-      pub whole-entry : {t′ : Store} → some Step.whole ≡ step-of (code-in operators (operator (x .offset)) (x .next - 1)) →
-          rewrite (arity B) (B .rules) (x .offset) (s .symbols) ≡ Hit.miss → Proceeded ss x u t t′ →
-          carry-out B L u s fs (Frame.job (x .offset) (x .next) (x .count)) ≡ going (with-units s (units-in t′ n))
-      unfolding do-step do-whole
-      whole-entry q h d =
-          step-entry Step.whole q ∙ ap (do-whole B L u s (x .offset) (x .next) (x .count) (drop (x .next) ss) fs) h
-          ∙ changed (flat-unit 0 (goes-on ss x (x .count) (f ∷ fs))) (d .change) refl
+          ∙ ap (λ (a : Argument).
+          going (with-marks (with-units s (put (s .units) u (flat-unit 0 (visits ss x a (f ∷ fs))))) (mark (length (a .steps)) (a .offset) (s .marks))))
+          (sym (visit-said T (s .symbols) known (s .marks) x i la))
+          ∙ changed-with (mark (length (a .steps)) (a .offset) (s .marks)) (flat-unit 0 (visits ss x a (f ∷ fs))) (d .change) refl
 
       pub join-entry : (c : ℕ) {t′ : Store} → some (Step.join c) ≡ step-of (code-in operators (operator (x .offset)) (x .next - 1)) →
           f ≡ Frame.job (x .offset) (x .next) (x .count) → Joined ss x n u t t′ →

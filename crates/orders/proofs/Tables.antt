@@ -1,13 +1,16 @@
 -- What the tables of a book say of symbols that are its operators: their steps, and where arguments stand. Assumes nothing.
 use mathlib.Core.Path.{_≡_, ap, _∙_}
+use mathlib.Core.Bool.{Bool, false}
 use mathlib.Core.List.{List}
 use Prim.Native.Nat.{ℕ, _<_}
 use native.Mathlib.Omega.{arith}
 use lib.ListN.{length, getD}
 use Rattle.paper.specs.Book.{Book, arity, steps}
+use Rattle.paper.specs.Marks.{unless-marked}
 use Rattle.paper.specs.Sound.{All}
 use Rattle.paper.specs.Strategy.{Step}
 use Rattle.flat.specs.Symbols.{argument as offset-of}
+use Rattle.flat.specs.Machine.{to-do}
 use Rattle.tables.specs.Layout.{arity-in, steps-in, Rowed}
 use Rattle.tables.specs.Tables.{Tables}
 use Rattle.tables.proofs.Laws.{all-at, arity-at, steps-at, rowed-at}
@@ -15,7 +18,7 @@ use Rattle.term.specs.Present.{length-in, operators-in, Sized}
 use Rattle.term.proofs.Sized.{operators-length, argument-inside}
 use Rattle.term.proofs.Skipping.{argument-book}
 use Rattle.units.specs.declared.frames.Job.{Job}
-use Rattle.orders.specs.Contracts.{Argument, argument-at, argument-of, Argument-rowed}
+use Rattle.orders.specs.Contracts.{to-do-in, Argument, argument-at, argument-of, visit-of, Argument-rowed}
 
 -- argument i of the job's term, by the book
 abbrev argument : ℕ → List Step → Argument
@@ -23,6 +26,10 @@ argument b ss = record { offset = b; steps = ss }
 
 abbrev pub argument-by : Book → List ℕ → Job → ℕ → Argument
 argument-by B xs x i = let b = offset-of (arity B) xs (x .offset) i in argument b (steps B (getD xs b 0))
+
+-- with the steps that its VISIT gives
+abbrev pub visit-by : Book → List ℕ → List Bool → Job → ℕ → Argument
+visit-by B xs ms x i = let b = offset-of (arity B) xs (x .offset) i in argument b (to-do B xs ms b)
 
 module _ {bytes operators rules : List ℕ} {B : Book} (T : Tables bytes operators rules B) where
   module _ (xs : List ℕ) (known : All (λ o. o < length (B .operators)) xs) where
@@ -40,8 +47,17 @@ module _ {bytes operators rules : List ℕ} {B : Book} (T : Tables bytes operato
 
     pub argument-said : (x : Job) (i : ℕ) → argument-by B xs x i .offset < length xs → argument-of operators xs x i ≡ argument-by B xs x i
     argument-said x i l =
-        ap (argument-at operators xs) (offset-said x i)
+        ap (λ (b : ℕ). argument-at operators b (getD xs b 0)) (offset-said x i)
         ∙ ap (λ (ss : List Step). argument (argument-by B xs x i .offset) ss) (steps-said (argument-by B xs x i .offset) l)
+
+    pub to-do-said : (ms : List Bool) (a : ℕ) → a < length xs → to-do-in operators xs ms a ≡ to-do B xs ms a
+    unfolding to-do
+    to-do-said ms a l = ap (unless-marked (getD ms a false)) (steps-said a l)
+
+    pub visit-said : (ms : List Bool) (x : Job) (i : ℕ) → argument-by B xs x i .offset < length xs → visit-of operators xs ms x i ≡ visit-by B xs ms x i
+    visit-said ms x i l =
+        ap (λ (b : ℕ). argument b (to-do-in operators xs ms b)) (offset-said x i)
+        ∙ ap (λ (ss : List Step). argument (argument-by B xs x i .offset) ss) (to-do-said ms (argument-by B xs x i .offset) l)
 
   -- an argument that the operator has by the book
   pub argument-place : (symbols : List ℕ) (x : Job) (i : ℕ) → All (λ o. o < length (B .operators)) (operators-in symbols) → Sized (arity-in operators) symbols →

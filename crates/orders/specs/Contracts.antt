@@ -8,6 +8,7 @@ use mathlib.Core.Option.{Option, none, some}
 use Prim.Native.Nat.{ℕ, zero, suc, _+_, _-_, _≤_, _<_, pred}
 use lib.ListN.{length, getD, drop}
 use Rattle.paper.specs.Strategy.{Step}
+use Rattle.paper.specs.Marks.{unless-marked}
 use Rattle.flat.specs.Symbols.{argument}
 use Rattle.flat.specs.Machine.{Frame, FlatUnit, flat-unit, next-count, proceed, idle-count, first-idle, leave, arrive}
 use Rattle.tables.specs.Layout.{arity-in, steps-in, Rowed}
@@ -24,6 +25,10 @@ abbrev pub is-some : List Step → Bool
 is-some [] = false
 is-some (s ∷ ss) = true
 
+-- the steps that VISIT of the term at offset a gives, of the symbols xs with the marks ms: none if it is marked
+abbrev pub to-do-in : List ℕ → List ℕ → List Bool → ℕ → List Step
+to-do-in operators xs ms a = unless-marked (getD ms a false) (steps-in operators (getD xs a 0))
+
 -- r is the count of the next JOIN of the steps left
 pub record Counted (ss : List Step) (r : ℕ) : Type 0 where
   pub is : r ≡ next-count ss
@@ -36,12 +41,17 @@ pub record Argument : Type 0 where
   pub offset : ℕ
   pub steps : List Step
 
-abbrev pub argument-at : List ℕ → List ℕ → ℕ → Argument
-argument-at operators xs b = record { offset = b; steps = steps-in operators (getD xs b 0) }
+-- the argument at offset b, of operator p
+abbrev pub argument-at : List ℕ → ℕ → ℕ → Argument
+argument-at operators b p = record { offset = b; steps = steps-in operators p }
 
 -- argument i of the job's term, of the symbols xs
 abbrev pub argument-of : List ℕ → List ℕ → Job → ℕ → Argument
-argument-of operators xs x i = argument-at operators xs (argument (arity-in operators) xs (x .offset) i)
+argument-of operators xs x i = let b = argument (arity-in operators) xs (x .offset) i in argument-at operators b (getD xs b 0)
+
+-- the same with the steps that its VISIT gives, ms being the marks
+abbrev pub visit-of : List ℕ → List ℕ → List Bool → Job → ℕ → Argument
+visit-of operators xs ms x i = let b = argument (arity-in operators) xs (x .offset) i in record { offset = b; steps = to-do-in operators xs ms b }
 
 -- the job's term has such an argument, in a term with true sizes
 pub record Argument-inside (operators symbols : List ℕ) (x : Job) (i : ℕ) : Type 0 where

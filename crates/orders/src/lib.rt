@@ -17,7 +17,7 @@ ghost use Rattle.units.specs.Contracts as U;
 ghost use Rattle.orders.specs.Contracts as O;
 
 // Has operator o a step k?
-fn has_step(operators: &[u8; 4352], o: u8, k: u8) -> bool
+pub fn has_step(operators: &[u8; 4352], o: u8, k: u8) -> bool
     requires { ⌜ (k < 16) × L.Rowed (now operators) o ⌝ }
     ensures { λ r. ⌜ O.is-some (drop k (L.steps-in (now (operators .entry)) o)) ≡ r ⌝ }
 {
@@ -124,32 +124,30 @@ pub fn visit(operators: &[u8; 4352], work: &mut [u8], units: &mut [u32; 8], u: u
 }
 
 // The offset of argument i of the job's term.
-fn argument(symbols: &[u32; 1024], job: Job, i: u8) -> u16
+pub fn argument(symbols: &[u32; 1024], job: Job, i: u8) -> u16
     requires { ⌜ (length (now symbols) ≡ 1024) × (job .offset < 1024) × Hops (sizes (now symbols)) i (job .offset + 1) × (hop (sizes (now symbols)) i (job .offset + 1) < 1024) ⌝ }
     ensures { λ r. ⌜ (r ≡ hop (sizes (now (symbols .entry))) i (job .offset + 1)) × (r < 1024) ⌝ }
 {
     casts::short(term::argument(symbols, casts::offset(job.offset), casts::index(i)))
 }
 
-// VISIT of argument i: the job goes on, and the argument's orders are put on top of it.
+// VISIT of the argument at offset b, of operator p: the job goes on, and the argument's orders are put on top of it.
 pub fn visit_argument(
     operators: &[u8; 4352],
-    symbols: &[u32; 1024],
     work: &mut [u8],
     units: &mut [u32; 8],
     u: usize,
     o: u8,
     job: Job,
-    i: u8,
+    b: u16,
+    p: u8,
 )
     ghost { K.Store }
     requires { λ s. ⌜ K.store (now work) (now units) ≡ s ⌝ }
-    requires { λ s. ⌜ L.Rowed (now operators) o × O.Argument-rowed (now operators) (now symbols) job i ⌝ }
-    requires { λ s. ⌜ O.Can-visit (L.steps-in (now operators) o) job (O.argument-of (now operators) (operators-in (now symbols)) job i) u s ⌝ }
-    ensures { λ s _. ⌜ O.Argument-visited (L.steps-in (now (operators .entry)) o) job (O.argument-of (now (operators .entry)) (operators-in (now (symbols .entry))) job i) u s (K.store (now (work .exit)) (now (units .exit))) ⌝ }
+    requires { λ s. ⌜ L.Rowed (now operators) o × L.Rowed (now operators) p × (b < 1024) ⌝ }
+    requires { λ s. ⌜ O.Can-visit (L.steps-in (now operators) o) job (O.argument-at (now operators) b p) u s ⌝ }
+    ensures { λ s _. ⌜ O.Argument-visited (L.steps-in (now (operators .entry)) o) job (O.argument-at (now (operators .entry)) b p) u s (K.store (now (work .exit)) (now (units .exit))) ⌝ }
 {
-    let b = argument(symbols, job, i);
-    let p = term::operator_at(symbols, casts::offset(b));
     proceed(operators, work, units, u, o, job);
     enter(operators, work, units, u, p, b);
 }

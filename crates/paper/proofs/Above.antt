@@ -13,16 +13,17 @@ use lib.ListN.{length, length-set, drop}
 use lib.ListN.{set as put}
 use lib.Seq.{getD-set-same, getD-set-other}
 use Rattle.paper.specs.Result.{accepted}
-use Rattle.paper.specs.Tree.{label, size, Position, subterm, replace, Correct}
+use Rattle.paper.specs.Tree.{Position, subterm, Correct}
 use Rattle.paper.specs.Strategy.{Step}
 use Rattle.paper.specs.Book.{Term, Book, arity, steps}
 use Rattle.paper.specs.Dated.{AnyBook, readAny, on-day}
 use Rattle.paper.specs.Line.{symbol-limit, readLine}
-use Rattle.paper.specs.Match.{rewrite}
-use Rattle.paper.specs.Machine.{Order, orders, lower, fall, arrive, zero-in, UnitState, unit-state, asleep, State, Event, Ending, Outcome, going, ended, Limits, exceeds, Grant, unit, do-visit, do-fork, do-join, do-exit, do-rewrite, do-whole, carry-out-by, turn-by, entry-by, in-force, start}
+use Rattle.paper.specs.Match.{rewrite-over}
+use Rattle.paper.specs.Marks.{Marked, cells, bare, to-do}
+use Rattle.paper.specs.Machine.{Order, orders, lower, fall, arrive, zero-in, UnitState, unit-state, asleep, State, Event, Ending, Outcome, going, ended, Limits, Grant, unit, do-visit, do-fork, do-join, do-exit, do-rewrite, do-whole, carry-out-by, turn-by, entry-by, in-force, start}
 use Rattle.paper.specs.Run.{Answer, Moment, on, moments-from-by, moments-by}
 use Rattle.paper.specs.Sound.{Sound}
-use Rattle.paper.specs.Idle.{IsIdle, Queued, OnlyIdle, Waits, SameOrder, SameOrders, StandsOn, UntilExited, Taken, EachTaken, left-in, Done, Helps}
+use Rattle.paper.specs.Idle.{IsIdle, Queued, OnlyIdle, SameOrder, SameOrders, StandsOn, UntilExited, Taken, EachTaken, left-in, Done, Helps}
 use Rattle.paper.proofs.Dated.{day-sound}
 use Rattle.paper.proofs.Course.{Course, c-cut, c-end, c-more, e-finished, e-spent, e-full}
 use Rattle.paper.proofs.Demand3.{first, start-inv, whole-course}
@@ -33,7 +34,7 @@ use Rattle.paper.proofs.Idle.{longest-idle}
 use Rattle.paper.proofs.Invariant.{Inv, Next, n-going}
 use Rattle.paper.proofs.Line.{line-correct}
 use Rattle.paper.proofs.Numbers.{exits-of, fall-append}
-use Rattle.paper.proofs.Queue.{QueuedAfter, entry-queued, start-queued}
+use Rattle.paper.proofs.Queue.{by-limits, QueuedAfter, entry-queued, start-queued}
 use Rattle.paper.proofs.Stack.{asleep-at, busy-in}
 use Rattle.paper.proofs.View.{Block}
 use Rattle.paper.proofs.Waits.{idle-waits, still-done}
@@ -177,25 +178,21 @@ module _ (G : Grant) (only : OnlyIdle G) (B : Book) (L : Limits) (u : ℕ) (s : 
         by-unit v q (no ne) =
             inr (after v (subst (λ (y : UnitState). P (y .list)) (sym (getD-set-other (s .units) u v (unit-state true os) asleep ne)) q))
 
-    whole-keeps : (p : Position) (i : ℕ) (os : List Order) → unit (s .units) u .list ≡ Order.whole p i ∷ os → (r : Option Term) → Keeps P Stop s (do-whole B L u s os p i r)
+    whole-keeps : (p : Position) (i : ℕ) (os : List Order) → unit (s .units) u .list ≡ Order.whole p i ∷ os → (r : Option Marked) → Keeps P Stop s (do-whole B L u s os p i r)
     unfolding do-whole do-rewrite
     whole-keeps p i os e none = λ v q. inr (one-list _ e (unit-state true os) (k .missed p i os) v q)
-    whole-keeps p i os e (some r) = by-limits (eqb (s .rewrites) (L .budget)) (exceeds (L .symbols) (size (replace p r (s .term))))
-      where
-        by-limits : (a b : Bool) → Keeps P Stop s (do-rewrite B L u s os p i r a b)
-        by-limits true b = tt
-        by-limits false true = tt
-        by-limits false false = λ v q.
-            inr (one-list _ e (unit-state true (Order.visit p ∷ drop i os)) (λ z. k .visit p _ (k .rewrote p i os z)) v q)
+    whole-keeps p i os e (some r) =
+        by-limits B L u s os p i r (Keeps P Stop s) (λ e. tt)
+        (λ v q. inr (one-list _ e (unit-state true (Order.visit p ∷ drop i os)) (λ z. k .visit p _ (k .rewrote p i os z)) v q))
 
     order-keeps : (o : Order) (os : List Order) → unit (s .units) u .list ≡ o ∷ os → Keeps P Stop s (carry-out-by G B L u s os o)
     unfolding carry-out-by do-visit
     order-keeps (Order.visit p) os e = λ v q.
-        inr (one-list _ e (unit-state true (orders (s .joins) p (steps B (label (subterm p (s .term)))) ++ os)) (λ z. k .steps (s .joins) p (steps B (label (subterm p (s .term)))) os (k .visited p os z)) v q)
+        inr (one-list _ e (unit-state true (orders (s .joins) p (to-do B (subterm p (s .term))) ++ os)) (λ z. k .steps (s .joins) p (to-do B (subterm p (s .term))) os (k .visited p os z)) v q)
     order-keeps (Order.fork p j) os e = fork-keeps p j os e (G s) (only s qd)
     order-keeps (Order.join j c) os e = join-keeps j c os e
     order-keeps (Order.exit p j) os e = exit-keeps p j os e
-    order-keeps (Order.whole p i) os e = whole-keeps p i os e (rewrite (B .rules) (subterm p (s .term)))
+    order-keeps (Order.whole p i) os e = whole-keeps p i os e (rewrite-over cells (B .rules) (subterm p (s .term)))
     order-keeps Order.sleep os e = λ v q. inr (one-list _ e (unit-state false (Order.sleep ∷ os)) (λ z. z) v q)
     order-keeps Order.bingo os e = tt
 
@@ -399,15 +396,10 @@ module _ (G : Grant) (only : OnlyIdle G) (B : Book) (L : Limits) (u : ℕ) (s : 
       let i = picks v refl in
       (v, i, ap (λ (y : UnitState). y .list) (getD-set-same (put (s .units) u (unit-state true os)) v _ asleep (rw (length-set (s .units) u (unit-state true os)) (i .0))))
 
-  whole-gives : (os : List Order) (p : Position) (k : ℕ) (r : Option Term) → Gives s (do-whole B L u s os p k r)
+  whole-gives : (os : List Order) (p : Position) (k : ℕ) (r : Option Marked) → Gives s (do-whole B L u s os p k r)
   unfolding do-whole do-rewrite
   whole-gives os p k none = tt
-  whole-gives os p k (some r) = by-limits (eqb (s .rewrites) (L .budget)) (exceeds (L .symbols) (size (replace p r (s .term))))
-    where
-      by-limits : (a b : Bool) → Gives s (do-rewrite B L u s os p k r a b)
-      by-limits true b = tt
-      by-limits false true = tt
-      by-limits false false = tt
+  whole-gives os p k (some r) = by-limits B L u s os p k r (Gives s) (λ e. tt) tt
 
   order-gives : (os : List Order) (o : Order) → Gives s (carry-out-by G B L u s os o)
   unfolding carry-out-by do-visit do-join do-exit
@@ -416,7 +408,7 @@ module _ (G : Grant) (only : OnlyIdle G) (B : Book) (L : Limits) (u : ℕ) (s : 
   order-gives os (Order.join j zero) = tt
   order-gives os (Order.join j (suc c)) = tt
   order-gives os (Order.exit p j) = tt
-  order-gives os (Order.whole p k) = whole-gives os p k (rewrite (B .rules) (subterm p (s .term)))
+  order-gives os (Order.whole p k) = whole-gives os p k (rewrite-over cells (B .rules) (subterm p (s .term)))
   order-gives os Order.sleep = tt
   order-gives os Order.bingo = tt
 
@@ -509,7 +501,7 @@ pub helps-of : (G : Grant) → OnlyIdle G → (B : Book) → Sound B → (t : Te
     Helps G B L units schedule t
 unfolding moments-by
 helps-of G only B sound t c L units schedule = record {
-  above = each-taken G only B L sound schedule (start units t) (todo t) first (start-inv B L units t c) (start-queued units t) (start-owns units t);
+  above = each-taken G only B L sound schedule (start units t) (todo (bare t)) first (start-inv B L units t c) (start-queued units t) (start-owns units t);
   done = course-done (whole-course G only B sound t c L units schedule);
 }
 

@@ -14,7 +14,7 @@ use Rattle.paper.specs.Strategy.{Item, layout, default}
 use Rattle.paper.specs.Book.{Operator, Symbol, Side, Rule, Book, arity, steps}
 use Rattle.paper.specs.Reader.{read-operator, read-rule, read-count, all-zero, read-end, read-bits, readBook}
 use Rattle.paper.specs.Writer.{concat, numbers, same, write-strategy, write-operator, write-symbol, write-side, write-rule, writeBook}
-use Rattle.paper.specs.Sound.{All, Distinct, Within, SoundRule, Sound}
+use Rattle.paper.specs.Sound.{All, Distinct, Within, EndsWhole, SoundRule, Sound}
 use Rattle.paper.specs.WellFormed.{GoodOperator, GoodRule, GoodBook}
 use Rattle.paper.proofs.Lists.{all-append, all-map}
 use Rattle.paper.proofs.Tests.{ltb-true}
@@ -254,9 +254,11 @@ unfolding steps
 good-book-sound B g =
     let D : Operator → Type 0 = λ o. Distinct (layout (o .strategy)) in
     let W : Operator → Type 0 = λ o. Within (o .arity) (layout (o .strategy)) in
+    let E : Operator → Type 0 = λ o. EndsWhole (o .strategy) in
     record {
       distinct = λ o. all-getD D (B .operators) o _ tt (all-map GoodOperator D good-distinct (B .operators) (g .operators));
       within = λ o. all-getD W (B .operators) o _ tt (all-map GoodOperator W good-within (B .operators) (g .operators));
+      ends = λ o. all-getD E (B .operators) o _ tt (all-map GoodOperator E (λ o h. h .ends) (B .operators) (g .operators));
       rules = all-map (GoodRule (B .operators)) (SoundRule B) (good-sound B) (B .rules) (g .rules);
     }
 

@@ -1,21 +1,22 @@
 -- Document 01's rules on inputs that show each of them, all computed, and from bytes where the input is bytes: every refusal's number, which of
--- two faults is told ('What is checked where'), the exact bounds, variables that stand twice (document 02, Change 4), and runs. No theorem says that
--- a number, a bound or the order of two checks is document 01's; what is computed here does. Assumes nothing.
-use mathlib.Core.Bool.{true}
+-- two faults is told ('What is checked where'), the exact bounds, variables that stand twice (document 02, Change 4), finished parts (Change 10),
+-- and runs. No theorem says that a number, a bound or the order of two checks is document 01's; what is computed here does. Assumes nothing.
+use mathlib.Core.Bool.{true, false}
 use mathlib.Core.List.{List, [], _∷_, _++_, map}
 use mathlib.Core.Option.{none, some}
 use mathlib.Core.Path.{_≡_, refl}
-use Prim.Native.Nat.{ℕ, zero, suc, _*_, _/_, _%_}
+use Prim.Native.Nat.{ℕ, zero, suc, _/_, _%_}
 use Prim.Native.String.{String}
 use lib.ListN.{take, drop, replicate}
 use Rattle.paper.specs.Result.{Result, refused, accepted, then}
 use Rattle.paper.specs.Tree.{Tree, node, nil, cons}
 use Rattle.paper.specs.Strategy.{Item}
-use Rattle.paper.specs.Book.{Operator, Symbol, Rule, Book}
+use Rattle.paper.specs.Book.{Operator, Symbol, Term, Rule, Book}
 use Rattle.paper.specs.Reader.{readBook}
 use Rattle.paper.specs.Writer.{writeBook}
 use Rattle.paper.specs.Line.{readLine}
-use Rattle.paper.specs.Match.{Symbols, rewrite-over, rewrite}
+use Rattle.paper.specs.Match.{rewrite-over, rewrite}
+use Rattle.paper.specs.Marks.{cell, Marked, cells}
 use Rattle.paper.specs.Machine.{Order, unit-state, Event, Ending, lowest}
 use Rattle.paper.specs.Run.{Answer, run, run-by, Moment, moments, events}
 use Rattle.paper.specs.Page.{Lengths, answerBy, answerOf, pageOf, writtenOf}
@@ -185,9 +186,30 @@ thrice = record { left = three-of (Symbol.operator 4) x x x; right = x } ∷ []
 abbrev pub deeper : List Rule
 deeper = record { left = two-of (Symbol.operator 2) x (one-of (Symbol.operator 1) x); right = x } ∷ []
 
--- symbols that bear a mark, 0 or 1, next to their operator: operator × 2 + mark
-abbrev pub halves : Symbols ℕ
-halves = record { operator = λ a. a / 2; new = λ o. o * 2 }
+-- 3 `copy` with the default and 4 `quote` with the empty list: copy(X) gives both(X, X)
+abbrev pub R : Book
+R = record {
+  operators = P-operators ++ (record { arity = 1; strategy = Item.argument 0 ∷ Item.whole ∷ [] } ∷ record { arity = 1; strategy = [] } ∷ []);
+  rules = record { left = one-of (Symbol.operator 3) x; right = two-of (Symbol.operator 2) x x } ∷ [];
+}
+
+abbrev pub copy : Term → Term
+copy t = one-of 3 t
+
+abbrev pub quote : Term → Term
+quote t = one-of 4 t
+
+-- 3 `equal` with some list: equal(X, X) gives tick(X)
+abbrev pub E : List Item → Book
+E items = record {
+  operators = P-operators ++ (record { arity = 2; strategy = items } ∷ []);
+  rules = record { left = two-of (Symbol.operator 3) x x; right = one-of (Symbol.operator 1) x } ∷ [];
+}
+
+-- the terms that the entries of a one-unit run leave
+unfoldable pub terms : Book → ℕ → Term → List Marked
+unfolding moments
+terms B n t = map (λ (m : Moment). m .state .term) (moments B (limits 9) 1 (replicate n 0) t)
 
 -- Each refusal's number
 
@@ -434,11 +456,11 @@ pub record Repeated : Type 0 where
   -- a rule that does not match leaves the term to the next
   pub next-rule : rewrite (twice ++ (general ∷ [])) (both end (tick end)) ≡ some end
   -- of two parts with the same operators and different marks the first is copied
-  pub first-kept : rewrite-over halves twice (two-of 4 (none-of 1) (none-of 0)) ≡ some (none-of 1)
-  pub first-kept-bare : rewrite-over halves twice (two-of 4 (none-of 0) (none-of 1)) ≡ some (none-of 0)
+  pub first-kept : rewrite-over cells twice (two-of (cell false 2) (none-of (cell true 0)) (none-of (cell false 0))) ≡ some (none-of (cell true 0))
+  pub first-kept-bare : rewrite-over cells twice (two-of (cell false 2) (none-of (cell false 0)) (none-of (cell true 0))) ≡ some (none-of (cell false 0))
   -- from bytes: the book is accepted and written back; pair(pair(end, end), end) is end after two rewrites
   pub accepted-book : writtenOf repeat-bytes ≡ accepted repeat-bytes
-  pub two-rewrites : repeat-page (1 ∷ 1 ∷ 0 ∷ 0 ∷ 0 ∷ []) ≡ ascii "REDUCE 1\nend 0\nrewrites 2\nentries 15\ngranted 0\nkept 0\nterm 0\n"
+  pub two-rewrites : repeat-page (1 ∷ 1 ∷ 0 ∷ 0 ∷ 0 ∷ []) ≡ ascii "REDUCE 1\nend 0\nrewrites 2\nentries 13\ngranted 0\nkept 0\nterm 0\n"
 
 pub repeated : Repeated
 unfolding ascii rewrite rewrite-over writtenOf repeat-page
@@ -460,6 +482,38 @@ repeated = record {
   accepted-book = refl;
   two-rewrites = refl;
 }
+
+-- Finished parts (document 02, Change 10)
+
+pub record Finished : Type 0 where
+  -- copies take their marks along: of both(X, X), where X is both(end, end) and was reduced before it was copied, neither X is walked, so that 2 FORKs are
+  -- carried out and not 4; FORK of the first X, which is marked, is one of them
+  pub copied : run R (limits 9) 1 (replicate 99 0) (copy (both end end)) ≡
+      record { ending = Ending.finished; rewrites = 1; entries = 17; granted = 0; kept = 2; term = both (both end end) (both end end) }
+  -- a part with the empty strategy is marked by its VISIT, and nothing in it is reduced
+  pub quoted : run R (limits 9) 1 (replicate 99 0) (copy (quote (copy end))) ≡
+      record { ending = Ending.finished; rewrites = 1; entries = 10; granted = 0; kept = 1; term = both (quote (copy end)) (quote (copy end)) }
+  pub empty-marks : drop 1 (terms R 2 (copy (quote end))) ≡ one-of (cell false 3) (one-of (cell true 4) (none-of (cell false 0))) ∷ []
+  -- VISIT of a marked part is an entry and does nothing else: the two copies of end, behind the rewrite
+  pub dropped : drop 3 (events (moments R (limits 9) 1 (replicate 99 0) (copy end))) ≡
+      Event.rewrote ∷ Event.visited ∷ Event.kept ∷ Event.visited ∷ Event.visited ∷ Event.passed 0 ∷ Event.missed ∷ []
+  -- a symbol that a right side brings is not marked, until its last WHOLE
+  pub new-unmarked : drop 3 (terms R 10 (copy end)) ≡
+      replicate 6 (two-of (cell false 2) (none-of (cell true 0)) (none-of (cell true 0)))
+      ++ (two-of (cell true 2) (none-of (cell true 0)) (none-of (cell true 0)) ∷ [])
+  -- with (0 1 0) and no rule that matches, the last WHOLE marks, and the first doesn't
+  pub last-marks : terms (record { operators = Q .operators; rules = [] }) 5 (dup end) ≡
+      replicate 3 (one-of (cell false 3) (none-of (cell false 0)))
+      ++ (one-of (cell false 3) (none-of (cell true 0)) ∷ one-of (cell true 3) (none-of (cell true 0)) ∷ [])
+  -- of a variable that stands twice the first part is copied: with (1 0) it is marked, with (2 0) it is not and is walked
+  pub first-marked : run (E (Item.argument 0 ∷ Item.whole ∷ [])) (limits 9) 1 (replicate 99 0) (two-of 3 end end) ≡
+      record { ending = Ending.finished; rewrites = 1; entries = 8; granted = 0; kept = 0; term = tick end }
+  pub second-marked : run (E (Item.argument 1 ∷ Item.whole ∷ [])) (limits 9) 1 (replicate 99 0) (two-of 3 end end) ≡
+      record { ending = Ending.finished; rewrites = 1; entries = 9; granted = 0; kept = 0; term = tick end }
+
+pub finished : Finished
+unfolding run moments events terms
+finished = record { copied = refl; quoted = refl; empty-marks = refl; dropped = refl; new-unmarked = refl; last-marks = refl; first-marked = refl; second-marked = refl }
 
 -- Runs
 
@@ -486,16 +540,16 @@ pub record Runs : Type 0 where
       ∷ []
   pub lists-written : writtenOf lists-bytes ≡ accepted lists-bytes
   -- pair(tick(end), tick(end)) is reduced, first the first argument (as a budget of 1 shows) and last the whole term
-  pub none-given : lists-page (2 ∷ 1 ∷ 0 ∷ 1 ∷ 0 ∷ []) 9 ≡ ascii "REDUCE 1\nend 0\nrewrites 3\nentries 17\ngranted 0\nkept 0\nterm 0\n"
-  pub first-argument : lists-page (2 ∷ 1 ∷ 0 ∷ 1 ∷ 0 ∷ []) 1 ≡ ascii "REDUCE 1\nend 1\nrewrites 1\nentries 11\ngranted 0\nkept 0\nterm 2 0 1 0\n"
+  pub none-given : lists-page (2 ∷ 1 ∷ 0 ∷ 1 ∷ 0 ∷ []) 9 ≡ ascii "REDUCE 1\nend 0\nrewrites 3\nentries 15\ngranted 0\nkept 0\nterm 0\n"
+  pub first-argument : lists-page (2 ∷ 1 ∷ 0 ∷ 1 ∷ 0 ∷ []) 1 ≡ ascii "REDUCE 1\nend 1\nrewrites 1\nentries 10\ngranted 0\nkept 0\nterm 2 0 1 0\n"
   -- in shut(tick(end), tick(end)) nothing is
   pub empty-given : lists-page (3 ∷ 1 ∷ 0 ∷ 1 ∷ 0 ∷ []) 9 ≡ ascii "REDUCE 1\nend 0\nrewrites 0\nentries 2\ngranted 0\nkept 0\nterm 3 1 0 1 0\n"
   -- the idle units are 1, 2 and up at the start: the part is unit 1's, and unit 2 has nothing to do
   pub from-1-up : pageOf (input (2 ∷ 0 ∷ 0 ∷ []) 3 9 (0 ∷ 0 ∷ 1 ∷ 1 ∷ 1 ∷ replicate 7 0)) ≡
-      ascii "REDUCE 1\nend 0\nrewrites 1\nentries 12\ngranted 1\nkept 0\nterm 0\n"
+      ascii "REDUCE 1\nend 0\nrewrites 1\nentries 11\ngranted 1\nkept 0\nterm 0\n"
   -- unit 1 has had a part and sleeps, so that unit 2 has been idle longer, and the next part is unit 2's
   pub longest-idle : pageOf (input (2 ∷ 0 ∷ 2 ∷ 0 ∷ 0 ∷ []) 3 9 rested) ≡
-      ascii "REDUCE 1\nend 0\nrewrites 2\nentries 22\ngranted 2\nkept 0\nterm 0\n"
+      ascii "REDUCE 1\nend 0\nrewrites 2\nentries 20\ngranted 2\nkept 0\nterm 0\n"
   -- by the rule of Change 3 it was unit 1's, which has no entry left: the ending differs
   pub lowest-idle : run-by lowest P (limits 1024) 3 rested (both end (both end end)) ≡
       record { ending = Ending.cut; rewrites = 0; entries = 31; granted = 2; kept = 0; term = both end (both end end) }
@@ -519,9 +573,9 @@ pub record Runs : Type 0 where
       ascii "REDUCE 1\nend 3\nrewrites 0\nentries 7\ngranted 2\nkept 0\nterm 2 2 0 0 0\n"
   -- every FORK accounted for: of the two, two units grant one and keep one, and one unit keeps both
   pub forks-of-two : pageOf (input (2 ∷ 2 ∷ 0 ∷ 0 ∷ 0 ∷ []) 2 9 (turns 99)) ≡
-      ascii "REDUCE 1\nend 0\nrewrites 2\nentries 33\ngranted 1\nkept 1\nterm 0\n"
+      ascii "REDUCE 1\nend 0\nrewrites 2\nentries 29\ngranted 1\nkept 1\nterm 0\n"
   pub forks-of-one : pageOf (input (2 ∷ 2 ∷ 0 ∷ 0 ∷ 0 ∷ []) 1 9 (replicate 99 0)) ≡
-      ascii "REDUCE 1\nend 0\nrewrites 2\nentries 19\ngranted 0\nkept 2\nterm 0\n"
+      ascii "REDUCE 1\nend 0\nrewrites 2\nentries 17\ngranted 0\nkept 2\nterm 0\n"
   -- a group of three: the first EXIT takes the JOIN's count from 2 to 1, and its unit stays idle; the second takes it to 0, and the JOIN passes
   pub three-parts : drop 5 (done three-bytes (1 ∷ 0 ∷ 0 ∷ 0 ∷ []) 3 (0 ∷ 0 ∷ 0 ∷ 0 ∷ 0 ∷ 0 ∷ 1 ∷ 1 ∷ 1 ∷ 0 ∷ 2 ∷ 2 ∷ 2 ∷ 0 ∷ [])) ≡
       Event.waited
@@ -578,7 +632,8 @@ pub record Examples : Type 0 where
   pub order : Precedence
   pub bounds : Bounds
   pub repeated : Repeated
+  pub finished : Finished
   pub runs : Runs
 
 pub examples : Examples
-examples = record { numbers = refusals; order = precedence; bounds = bounds; repeated = repeated; runs = runs }
+examples = record { numbers = refusals; order = precedence; bounds = bounds; repeated = repeated; finished = finished; runs = runs }

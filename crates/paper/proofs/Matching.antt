@@ -47,7 +47,7 @@ mutual
 
 -- A variable that is bound stays bound to its first part, over any symbols
 
-passed : {X : Type 0} (b : Bool) (m : Option X) (x : X) → elim b as (λ z. Option X) [ true ↦ m | false ↦ none ] ≡ some x → (b ≡ true) × (m ≡ some x)
+pub passed : {X : Type 0} (b : Bool) (m : Option X) (x : X) → elim b as (λ z. Option X) [ true ↦ m | false ↦ none ] ≡ some x → (b ≡ true) × (m ≡ some x)
 passed true m x e = (refl, e)
 passed false m x e = absurd (Option·none-ne-some _ e)
 
@@ -58,7 +58,7 @@ module _ {A : Type 0} where
   keeps-same : (g f : Bindings A) → some g ≡ some f → Keeps g f
   keeps-same g f e v u z = ap (λ (h : Bindings A). h v) (sym (Option·some-injective _ _ e)) ∙ z
 
-  both : (m : Option (Bindings A)) (k : Bindings A → Option (Bindings A)) (f : Bindings A) → and-then m k ≡ some f →
+  pub both : (m : Option (Bindings A)) (k : Bindings A → Option (Bindings A)) (f : Bindings A) → and-then m k ≡ some f →
       (h : Bindings A) × (m ≡ some h) × (k h ≡ some f)
   unfolding and-then
   both none k f e = absurd (Option·none-ne-some _ e)

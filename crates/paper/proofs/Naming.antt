@@ -1,7 +1,7 @@
 -- Laws of naming (document 02, Change 5): the test tells exactly whether two sides agree up to the naming of variables, this is an equivalence, and
 -- sides that agree match the same terms. Assumes nothing.
 use mathlib.Core.Bool.{Bool, true, false, true≢false}
-use mathlib.Core.List.{List, [], _∷_, _++_, map, append-assoc, append-nil}
+use mathlib.Core.List.{List, [], _∷_, _++_, map, map-append, append-assoc, append-nil}
 use mathlib.Core.Logic.{_⊎_, inl, inr, _≢_, _↔_}
 use mathlib.Core.Path.{_≡_, refl, sym, ap, ap₂, _∙_, subst}
 use Prim.Native.Nat.{ℕ, suc}
@@ -9,48 +9,30 @@ use native.Mathlib.Omega.{arith}
 use lib.Dec.{eqb}
 use lib.ListN.{getD}
 use Rattle.paper.specs.Result.{if}
-use Rattle.paper.specs.Tree.{node, Forest, nil, cons, count, preorder, preorders, Correct, Corrects}
+use Rattle.paper.specs.Tree.{node, Forest, nil, cons, preorder, Correct, relabels}
 use Rattle.paper.specs.Strategy.{has}
 use Rattle.paper.specs.Book.{Operator, Symbol, Term, Side, symbolArity}
 use Rattle.paper.specs.Reader.{variables}
 use Rattle.paper.specs.Match.{fills-over, operators, Filling, fill, Matches}
 use Rattle.paper.specs.Sound.{In, All}
-use Rattle.paper.specs.Naming.{rename-symbol, rename, renames, Alike, place, meeting, canonical, same-symbol, same-symbols, alike}
+use Rattle.paper.specs.Naming.{rename-symbol, rename, Alike, place, meeting, canonical, same-symbol, same-symbols, alike}
 use Rattle.paper.proofs.Lists.{all-append}
 use Rattle.paper.proofs.Tests.{eqb-cases, eqb-true, eqb-false, has-cases}
-use Rattle.paper.proofs.Trees.{same-first}
+use Rattle.paper.proofs.Trees.{same-first, relabel-preorder, relabel-correct}
 
 -- Renaming, on trees and on their symbols
 
-map-append : {A C : Type 0} (f : A → C) (xs ys : List A) → map f (xs ++ ys) ≡ map f xs ++ map f ys
-map-append f [] ys = refl
-map-append f (x ∷ xs) ys = ap (λ (zs : List _). f x ∷ zs) (map-append f xs ys)
-
-mutual
-  unfolding rename preorder
-
-  rename-preorder : (ρ : ℕ → ℕ) (s : Side) → preorder (rename ρ s) ≡ map (rename-symbol ρ) (preorder s)
-  rename-preorder ρ (node s ss) = ap (λ (zs : List Symbol). rename-symbol ρ s ∷ zs) (renames-preorders ρ ss)
-
-  renames-preorders : (ρ : ℕ → ℕ) (ss : Forest Symbol) → preorders (renames ρ ss) ≡ map (rename-symbol ρ) (preorders ss)
-  renames-preorders ρ nil = refl
-  renames-preorders ρ (cons s ss) =
-      ap₂ _++_ (rename-preorder ρ s) (renames-preorders ρ ss) ∙ sym (map-append (rename-symbol ρ) (preorder s) (preorders ss))
+rename-preorder : (ρ : ℕ → ℕ) (s : Side) → preorder (rename ρ s) ≡ map (rename-symbol ρ) (preorder s)
+unfolding rename
+rename-preorder ρ s = relabel-preorder (rename-symbol ρ) s
 
 symbol-arity : (ops : List Operator) (ρ : ℕ → ℕ) (s : Symbol) → symbolArity ops s ≡ symbolArity ops (rename-symbol ρ s)
 symbol-arity ops ρ (Symbol.operator o) = refl
 symbol-arity ops ρ (Symbol.variable v) = refl
 
-mutual
-  unfolding rename count
-
-  rename-correct : (ops : List Operator) (ρ : ℕ → ℕ) (s : Side) → Correct (symbolArity ops) s → Correct (symbolArity ops) (rename ρ s)
-  rename-correct ops ρ (node s ss) (c, cs) = let (d, ds) = renames-correct ops ρ ss cs in (d ∙ c ∙ symbol-arity ops ρ s, ds)
-
-  renames-correct : (ops : List Operator) (ρ : ℕ → ℕ) (ss : Forest Symbol) → Corrects (symbolArity ops) ss →
-      (count (renames ρ ss) ≡ count ss) × Corrects (symbolArity ops) (renames ρ ss)
-  renames-correct ops ρ nil c = (refl, tt)
-  renames-correct ops ρ (cons s ss) (c, cs) = let (d, ds) = renames-correct ops ρ ss cs in (ap suc d, (rename-correct ops ρ s c, ds))
+rename-correct : (ops : List Operator) (ρ : ℕ → ℕ) (s : Side) → Correct (symbolArity ops) s → Correct (symbolArity ops) (rename ρ s)
+unfolding rename
+rename-correct ops ρ s c = relabel-correct (rename-symbol ρ) (symbolArity ops) (symbolArity ops) (symbol-arity ops ρ) s c
 
 -- lists of symbols that agree up to naming
 abbrev Renamed : List Symbol → List Symbol → Type 0
@@ -327,7 +309,7 @@ mutual
   fill-rename ρ f (node (Symbol.operator o) ss) = ap (λ (ts : Forest ℕ). node o ts) (fills-rename ρ f ss)
   fill-rename ρ f (node (Symbol.variable v) ss) = refl
 
-  fills-rename : (ρ : ℕ → ℕ) (f : Filling) (ss : Forest Symbol) → fills-over operators f (renames ρ ss) ≡ fills-over operators (λ v. f (ρ v)) ss
+  fills-rename : (ρ : ℕ → ℕ) (f : Filling) (ss : Forest Symbol) → fills-over operators f (relabels (rename-symbol ρ) ss) ≡ fills-over operators (λ v. f (ρ v)) ss
   fills-rename ρ f nil = refl
   fills-rename ρ f (cons s ss) = ap₂ cons (fill-rename ρ f s) (fills-rename ρ f ss)
 

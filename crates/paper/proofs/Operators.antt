@@ -14,8 +14,8 @@ use Rattle.paper.specs.Strategy.{Item, default, settle, layout}
 use Rattle.paper.specs.Book.{Operator}
 use Rattle.paper.specs.Reader.{allowed, grouped-after, read-numbers, items, group-items, read-strategy, read-operator}
 use Rattle.paper.specs.Writer.{numbers, same, concat, write-strategy, write-operator}
-use Rattle.paper.specs.Sound.{All, Distinct, Within}
-use Rattle.paper.specs.WellFormed.{ItemsWithin, EndsAfter, EndsWhole, GoodOperator}
+use Rattle.paper.specs.Sound.{All, Distinct, Within, EndsAfter, EndsWhole}
+use Rattle.paper.specs.WellFormed.{ItemsWithin, GoodOperator}
 use Rattle.paper.proofs.Tests.{either, eqb-true, eqb-false, eqb-equal, ltb-true, ltb-false, ltb-less}
 use Rattle.paper.proofs.Readers.{bind-accepted, bind-return, return-accepted, refused-accepted}
 use Rattle.paper.proofs.Bits.{field-toBits, field-bounded}

@@ -101,7 +101,7 @@ pub record Terms : Type 0 where
   pub one-gap : squeezed (0x00 ∷ (ascii "...Fa. Meier & Söhne, 8001 Zürich!\r\n")) ≡ squeezed (ascii "FA MEIER SOHNE 8001 ZURICH")
   pub long-gap : squeezed (0x41 ∷ (replicate 30000 0x20 ++ (0x42 ∷ []))) ≡ 1 ∷ 42 ∷ 2 ∷ []
   -- a run from a text: c(a(b(end))) becomes a(b(end))
-  pub rewritten : text-page rule-book (ascii "Çab") 99 ≡ ascii "REDUCE 1\nend 0\nrewrites 1\nentries 15\ngranted 0\nkept 0\nterm 1 2 0\n"
+  pub rewritten : text-page rule-book (ascii "Çab") 99 ≡ ascii "REDUCE 1\nend 0\nrewrites 1\nentries 10\ngranted 0\nkept 0\nterm 1 2 0\n"
 
 pub terms : Terms
 unfolding ascii squeezed text-page not-run class-book rule-book end-finished

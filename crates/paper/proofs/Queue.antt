@@ -12,8 +12,9 @@ use lib.ListN.{replicate}
 use lib.ListN.{set as put}
 use Rattle.paper.specs.Tree.{Position, size, subterm, replace}
 use Rattle.paper.specs.Book.{Term, Book}
-use Rattle.paper.specs.Match.{rewrite}
-use Rattle.paper.specs.Machine.{Order, fall, zero-in, arrive, UnitState, unit-state, asleep, unit, still-idle, State, Outcome, going, ended, Limits, exceeds, Grant, do-visit, do-fork, do-join, do-exit, do-rewrite, do-whole, carry-out-by, turn-by, entry-by, numbers-from, start}
+use Rattle.paper.specs.Match.{rewrite-over}
+use Rattle.paper.specs.Marks.{Marked, cells}
+use Rattle.paper.specs.Machine.{Order, fall, zero-in, arrive, UnitState, unit-state, asleep, unit, still-idle, State, Ending, Outcome, going, ended, Limits, exceeds, Grant, do-visit, do-fork, do-join, do-exit, do-rewrite, do-whole, carry-out-by, turn-by, entry-by, numbers-from, start}
 use Rattle.paper.specs.Run.{Moment, on, moments-from-by, moments-by}
 use Rattle.paper.specs.Sound.{All}
 use Rattle.paper.specs.Demand3.{Throughout}
@@ -104,6 +105,17 @@ woken-arrive j (x ∷ xs) (suc v) e = woken-arrive j xs v e
 woken-twice : (xs ys zs : List UnitState) → Woken xs ys → Woken ys zs → Woken xs zs
 woken-twice xs ys zs h k v e = let (b, p) = k v e in let (c, q) = h v b in (c, p ∙ q)
 
+-- what holds of every ending, and of the rewrite, holds of a WHOLE with a match, whatever the limits say
+module _ (B : Book) (L : Limits) (u : ℕ) (s : State) (os : List Order) (p : Position) (k : ℕ) (r : Marked) where
+  pub by-limits : (P : Outcome → Type 0) → ((e : Ending) → P (ended e s)) → P (do-rewrite B L u s os p k r false false) → P (do-whole B L u s os p k (some r))
+  unfolding do-whole do-rewrite
+  by-limits P h g = go (eqb (s .rewrites) (L .budget)) (exceeds (L .symbols) (size (replace p r (s .term))))
+    where
+      go : (a b : Bool) → P (do-rewrite B L u s os p k r a b)
+      go true b = h Ending.spent
+      go false true = h Ending.full
+      go false false = g
+
 -- WHAT AN ENTRY DOES TO IT
 
 pub data Moved (s s′ : State) : Type 0 where
@@ -140,15 +152,10 @@ module _ (G : Grant) (B : Book) (L : Limits) (u : ℕ) (s : State) where
     join-moved j zero = stays (stay os) refl
     join-moved j (suc c) = joins u bz (rest _) refl
 
-    whole-moved : (p : Position) (k : ℕ) (x : Option Term) → MovedAfter s (do-whole B L u s os p k x)
+    whole-moved : (p : Position) (k : ℕ) (x : Option Marked) → MovedAfter s (do-whole B L u s os p k x)
     unfolding do-whole do-rewrite
     whole-moved p k none = stays (stay os) refl
-    whole-moved p k (some r) = by-limits (eqb (s .rewrites) (L .budget)) (exceeds (L .symbols) (size (replace p r (s .term))))
-      where
-        by-limits : (a b : Bool) → MovedAfter s (do-rewrite B L u s os p k r a b)
-        by-limits true b = tt
-        by-limits false true = tt
-        by-limits false false = stays (stay _) refl
+    whole-moved p k (some r) = by-limits B L u s os p k r (MovedAfter s) (λ e. tt) (stays (stay _) refl)
 
     order-moved : (o : Order) → MovedAfter s (carry-out-by G B L u s os o)
     unfolding carry-out-by do-visit do-exit
@@ -156,7 +163,7 @@ module _ (G : Grant) (B : Book) (L : Limits) (u : ℕ) (s : State) where
     order-moved (Order.fork p j) = fork-moved p j (G s)
     order-moved (Order.join j c) = join-moved j c
     order-moved (Order.exit p j) = leaves (woken-twice (s .units) _ _ (woken-put (s .units) u os) (woken-arrive j _)) refl
-    order-moved (Order.whole p k) = whole-moved p k (rewrite (B .rules) (subterm p (s .term)))
+    order-moved (Order.whole p k) = whole-moved p k (rewrite-over cells (B .rules) (subterm p (s .term)))
     order-moved Order.sleep = joins u bz (rest _) refl
     order-moved Order.bingo = tt
 

@@ -1,5 +1,5 @@
 -- The starred cases of document 01 ('The program and its page') in one statement, all of them computed, with the page's line `kept` of document 02,
--- Change 2, and the number of the bytes 00 of Change 5; proofs/Examples has more. Assumes nothing.
+-- Change 2, the number of the bytes 00 of Change 5, and the entries of Change 10; proofs/Examples has more. Assumes nothing.
 use mathlib.Core.List.{List, [], _∷_, _++_}
 use mathlib.Core.Option.{some}
 use mathlib.Core.Path.{_≡_, refl}
@@ -120,10 +120,11 @@ abbrev pub limits : ℕ → Limits
 limits n = record { budget = 9; symbols = some n }
 
 pub record Starred : Type 0 where
-  -- the page; with 28 entries; with budget 1
-  pub page : pageOf (input P-line 1 9 (replicate 29 0)) ≡ ascii "REDUCE 1\nend 0\nrewrites 2\nentries 29\ngranted 0\nkept 2\nterm 1 1 0\n"
-  pub cut : pageOf (input P-line 1 9 (replicate 28 0)) ≡ ascii "REDUCE 1\nend 3\nrewrites 2\nentries 28\ngranted 0\nkept 2\nterm 1 1 0\n"
-  pub spent : pageOf (input P-line 1 1 (replicate 29 0)) ≡ ascii "REDUCE 1\nend 1\nrewrites 1\nentries 23\ngranted 0\nkept 2\nterm 1 2 0 1 0\n"
+  -- the page, which "ends at entry 22" (document 02, Change 10); with 28 entries, which are enough now, and with 21; with budget 1
+  pub page : pageOf (input P-line 1 9 (replicate 29 0)) ≡ ascii "REDUCE 1\nend 0\nrewrites 2\nentries 22\ngranted 0\nkept 2\nterm 1 1 0\n"
+  pub enough : pageOf (input P-line 1 9 (replicate 28 0)) ≡ ascii "REDUCE 1\nend 0\nrewrites 2\nentries 22\ngranted 0\nkept 2\nterm 1 1 0\n"
+  pub cut : pageOf (input P-line 1 9 (replicate 21 0)) ≡ ascii "REDUCE 1\nend 3\nrewrites 2\nentries 21\ngranted 0\nkept 2\nterm 1 1 0\n"
+  pub spent : pageOf (input P-line 1 1 (replicate 29 0)) ≡ ascii "REDUCE 1\nend 1\nrewrites 1\nentries 19\ngranted 0\nkept 2\nterm 1 2 0 1 0\n"
   -- U = 2, 100 entries of 0
   pub waits : pageOf (input P-line 2 9 (replicate 100 0)) ≡ ascii "REDUCE 1\nend 3\nrewrites 0\nentries 100\ngranted 1\nkept 0\nterm 2 1 0 1 0\n"
   -- U = 2, 13 entries 0 1 0 1 ..: the page, and what the last entry did, P and its line being what is read
@@ -145,6 +146,7 @@ pub starred : Starred
 unfolding ascii input turns pageOf readBook readAny readLine moments events numbers settle items writtenOf
 starred = record {
   page = refl;
+  enough = refl;
   cut = refl;
   spent = refl;
   waits = refl;

@@ -1,10 +1,12 @@
--- Preorder writing of trees: what is written is rebuilt, and the lists that spell exactly n arity-correct trees. Assumes nothing.
-use mathlib.Core.List.{List, [], _∷_, _++_, append-assoc, append-nil}
+-- Preorder writing of trees: what is written is rebuilt, and the lists that spell exactly n arity-correct trees; parts put in their places; labels
+-- turned into others. Assumes nothing.
+use mathlib.Core.List.{List, [], _∷_, _++_, map, map-append, append-assoc, append-nil}
+use mathlib.Core.Logic.{_≢_}
 use mathlib.Core.Path.{_≡_, refl, sym, ap, ap₂, _∙_, subst}
-use Prim.Native.Nat.{ℕ, zero, suc, _+_, _-_, _≤_}
+use Prim.Native.Nat.{ℕ, zero, suc, _+_, _-_, _≤_, _<_}
 use native.Mathlib.Omega.{arith}
-use lib.ListN.{length, length-append}
-use Rattle.paper.specs.Tree.{Tree, node, Forest, nil, cons, count, preorder, preorders, size, sizes, first-trees, other-trees, trees, Correct, Corrects, Complete}
+use lib.ListN.{length, length-append, length-map}
+use Rattle.paper.specs.Tree.{Tree, node, Forest, nil, cons, label, arguments, count, preorder, preorders, size, sizes, first-trees, other-trees, trees, Correct, Corrects, Complete, relabel, relabels, Position, pick, subterm, change, replace}
 
 module _ {A : Type 0} where
   -- one forest before another
@@ -139,3 +141,140 @@ module _ {A : Type 0} (arity : A → ℕ) where
       let p : cons t (trees arity xs) ≡ cons u (trees arity ys) =
       sym (trees-preorder t c xs) ∙ ap (trees arity) e ∙ trees-preorder u d ys in
       cc
+
+-- ARGUMENTS, of which one is put in its place
+
+module _ {A : Type 0} where
+  pub count-change : (i : ℕ) (f : Tree A → Tree A) (ts : Forest A) → count (change i f ts) ≡ count ts
+  unfolding count change
+  count-change i f nil = refl
+  count-change zero f (cons t ts) = refl
+  count-change (suc i) f (cons t ts) = ap suc (count-change i f ts)
+
+  -- an argument that is there
+  pub pick-any : (d e : Tree A) (j : ℕ) (ts : Forest A) → j < count ts → pick d j ts ≡ pick e j ts
+  unfolding count pick
+  pick-any d e j nil h = absurd (omega arith)
+  pick-any d e zero (cons t ts) h = refl
+  pick-any d e (suc j) (cons t ts) h = pick-any d e j ts (omega arith)
+
+  pub pick-changed : (d e : Tree A) (j : ℕ) (f : Tree A → Tree A) (ts : Forest A) → j < count ts → pick d j (change j f ts) ≡ f (pick e j ts)
+  unfolding count pick change
+  pick-changed d e j f nil h = absurd (omega arith)
+  pick-changed d e zero f (cons t ts) h = refl
+  pick-changed d e (suc j) f (cons t ts) h = pick-changed d e j f ts (omega arith)
+
+  pub pick-other : (d e : Tree A) (i j : ℕ) (f : Tree A → Tree A) (ts : Forest A) → j ≢ i → j < count ts → pick d j (change i f ts) ≡ pick e j ts
+  unfolding count pick change
+  pick-other d e i j f nil ne h = absurd (omega arith)
+  pick-other d e zero zero f (cons t ts) ne h = absurd (ne refl)
+  pick-other d e zero (suc j) f (cons t ts) ne h = pick-any d e j ts (omega arith)
+  pick-other d e (suc i) zero f (cons t ts) ne h = refl
+  pick-other d e (suc i) (suc j) f (cons t ts) ne h = pick-other d e i j f ts (λ q. ne (ap suc q)) (omega arith)
+
+  -- below a position
+  pub subterm-append : (p r : Position) (t : Tree A) → subterm (p ++ r) t ≡ subterm r (subterm p t)
+  unfolding subterm
+  subterm-append [] r t = refl
+  subterm-append (j ∷ p) r t = subterm-append p r (pick t j (arguments t))
+
+  change-below : (d : Tree A) (j : ℕ) (f g : Tree A → Tree A) (ts : Forest A) → f (pick d j ts) ≡ g (pick d j ts) → change j f ts ≡ change j g ts
+  unfolding pick change
+  change-below d j f g nil e = refl
+  change-below d zero f g (cons t ts) e = ap (λ (x : Tree A). cons x ts) e
+  change-below d (suc j) f g (cons t ts) e = ap (cons t) (change-below d j f g ts e)
+
+  change-same : (j : ℕ) (ts : Forest A) → change j (λ x. x) ts ≡ ts
+  unfolding change
+  change-same j nil = refl
+  change-same zero (cons t ts) = refl
+  change-same (suc j) (cons t ts) = ap (cons t) (change-same j ts)
+
+  -- a part put in its own place
+  pub replace-same : (p : Position) (t : Tree A) → replace p (subterm p t) t ≡ t
+  unfolding subterm replace label arguments
+  replace-same [] t = refl
+  replace-same (j ∷ p) (node a ts) =
+      let x = pick (node a ts) j ts in
+      ap (node a) (change-below (node a ts) j (replace p (subterm p x)) (λ x. x) ts (replace-same p x) ∙ change-same j ts)
+
+  pub replace-below : (p : Position) (i : ℕ) (x t : Tree A) → replace (p ++ (i ∷ [])) x t ≡ replace p (replace (i ∷ []) x (subterm p t)) t
+  unfolding subterm replace
+  replace-below [] i x t = refl
+  replace-below (j ∷ p) i x t =
+      ap (node (label t))
+      (change-below t j (replace (p ++ (i ∷ [])) x) (replace p (replace (i ∷ []) x (subterm p (pick t j (arguments t))))) (arguments t)
+      (replace-below p i x (pick t j (arguments t))))
+
+  pub corrects-change : (arity : A → ℕ) (i : ℕ) (s : Tree A) (ts : Forest A) → Correct arity s → Corrects arity ts →
+      Corrects arity (change i (replace [] s) ts)
+  unfolding change replace
+  corrects-change arity i s nil c cs = tt
+  corrects-change arity zero s (cons t ts) c cs = (c, cs .1)
+  corrects-change arity (suc i) s (cons t ts) c cs = (cs .0, corrects-change arity i s ts c (cs .1))
+
+-- LABELS TURNED INTO OTHERS
+
+module _ {A B : Type 0} (f : A → B) where
+  mutual
+    unfolding relabel preorder
+
+    pub relabel-preorder : (t : Tree A) → preorder (relabel f t) ≡ map f (preorder t)
+    relabel-preorder (node a ts) = ap (λ (ys : List B). f a ∷ ys) (relabels-preorders ts)
+
+    pub relabels-preorders : (ts : Forest A) → preorders (relabels f ts) ≡ map f (preorders ts)
+    relabels-preorders nil = refl
+    relabels-preorders (cons t ts) = ap₂ _++_ (relabel-preorder t) (relabels-preorders ts) ∙ sym (map-append f (preorder t) (preorders ts))
+
+  pub relabel-size : (t : Tree A) → size (relabel f t) ≡ size t
+  relabel-size t = size-preorder (relabel f t) ∙ ap length (relabel-preorder t) ∙ length-map (preorder t) f ∙ sym (size-preorder t)
+
+  pub relabels-count : (ts : Forest A) → count (relabels f ts) ≡ count ts
+  unfolding relabel count
+  relabels-count nil = refl
+  relabels-count (cons t ts) = ap suc (relabels-count ts)
+
+  relabel-pick : (d : Tree A) (i : ℕ) (ts : Forest A) → relabel f (pick d i ts) ≡ pick (relabel f d) i (relabels f ts)
+  unfolding relabel pick
+  relabel-pick d i nil = refl
+  relabel-pick d zero (cons t ts) = refl
+  relabel-pick d (suc i) (cons t ts) = relabel-pick d i ts
+
+  pub relabel-subterm : (p : Position) (t : Tree A) → relabel f (subterm p t) ≡ subterm p (relabel f t)
+  unfolding relabel subterm arguments
+  relabel-subterm [] t = refl
+  relabel-subterm (i ∷ p) (node a ts) = relabel-subterm p (pick (node a ts) i ts) ∙ ap (subterm p) (relabel-pick (node a ts) i ts)
+
+  relabels-change : (i : ℕ) (g : Tree A → Tree A) (h : Tree B → Tree B) (ts : Forest A) → ((t : Tree A) → relabel f (g t) ≡ h (relabel f t)) →
+      relabels f (change i g ts) ≡ change i h (relabels f ts)
+  unfolding relabel change
+  relabels-change i g h nil e = refl
+  relabels-change zero g h (cons t ts) e = ap (λ (u : Tree B). cons u (relabels f ts)) (e t)
+  relabels-change (suc i) g h (cons t ts) e = ap (cons (relabel f t)) (relabels-change i g h ts e)
+
+  pub relabel-replace : (p : Position) (s t : Tree A) → relabel f (replace p s t) ≡ replace p (relabel f s) (relabel f t)
+  unfolding relabel replace label arguments
+  relabel-replace [] s t = refl
+  relabel-replace (i ∷ p) s (node a ts) = ap (node (f a)) (relabels-change i (replace p s) (replace p (relabel f s)) ts (relabel-replace p s))
+
+  -- where the arities stay
+  module _ (a : A → ℕ) (b : B → ℕ) (e : (x : A) → a x ≡ b (f x)) where
+    mutual
+      unfolding relabel
+
+      pub relabel-correct : (t : Tree A) → Correct a t → Correct b (relabel f t)
+      relabel-correct (node x ts) (c, cs) = (relabels-count ts ∙ c ∙ e x, relabels-correct ts cs)
+
+      relabels-correct : (ts : Forest A) → Corrects a ts → Corrects b (relabels f ts)
+      relabels-correct nil c = tt
+      relabels-correct (cons t ts) (c, cs) = (relabel-correct t c, relabels-correct ts cs)
+
+    mutual
+      unfolding relabel
+
+      pub correct-relabel : (t : Tree A) → Correct b (relabel f t) → Correct a t
+      correct-relabel (node x ts) (c, cs) = (sym (relabels-count ts) ∙ c ∙ sym (e x), corrects-relabels ts cs)
+
+      corrects-relabels : (ts : Forest A) → Corrects b (relabels f ts) → Corrects a ts
+      corrects-relabels nil c = tt
+      corrects-relabels (cons t ts) (c, cs) = (correct-relabel t c, corrects-relabels ts cs)

@@ -10,12 +10,15 @@ pub mod Dated
 pub mod Line
 pub mod Text
 pub mod Match
+pub mod Marks
 pub mod Sound
 pub mod WellFormed
 pub mod Reduction
+pub mod Walk
 pub mod Machine
 pub mod Run
 pub mod OneUnit
 pub mod Demand3
 pub mod Idle
+pub mod Change10
 pub mod Page

@@ -6,7 +6,7 @@ use mathlib.Core.Path.{_≡_}
 use Prim.Native.Nat.{ℕ, suc}
 use lib.Dec.{eqb}
 use Rattle.paper.specs.Result.{if}
-use Rattle.paper.specs.Tree.{node, Forest, nil, cons, preorder}
+use Rattle.paper.specs.Tree.{preorder, relabel}
 use Rattle.paper.specs.Strategy.{has}
 use Rattle.paper.specs.Book.{Symbol, Side}
 
@@ -15,13 +15,9 @@ rename-symbol ρ (Symbol.operator o) = Symbol.operator o
 rename-symbol ρ (Symbol.variable v) = Symbol.variable (ρ v)
 
 -- the side with each variable renamed
-unfoldable mutual
-  pub rename : (ℕ → ℕ) → Side → Side
-  rename ρ (node s ss) = node (rename-symbol ρ s) (renames ρ ss)
-
-  pub renames : (ℕ → ℕ) → Forest Symbol → Forest Symbol
-  renames ρ nil = nil
-  renames ρ (cons s ss) = cons (rename ρ s) (renames ρ ss)
+unfoldable pub rename : (ℕ → ℕ) → Side → Side
+unfolding relabel
+rename ρ = relabel (rename-symbol ρ)
 
 -- two sides agree up to the naming of variables: each is the other renamed
 abbrev pub Alike : Side → Side → Type 0

@@ -1,12 +1,14 @@
 -- The one-unit run without symbol limit, and what is said against it: of the FORKs granted (document 01, 'How a run ends': "FORKs granted (in a
 -- finished run at most the FORK orders of a one-unit run without symbol limit)"), and of all FORKs (document 02, Change 2: "In a finished run grants
--- and kept together are exactly the FORKs of a one-unit run without symbol limit"). Assumes nothing.
+-- and kept together are exactly the FORKs of a one-unit run without symbol limit"; Change 10: FORKs are "those of the steps with marks, also in the
+-- account of Change 2"). Assumes nothing.
 use mathlib.Core.Option.{none}
 use mathlib.Core.Path.{_≡_}
 use Prim.Native.Nat.{ℕ, _+_, _≤_}
 use lib.ListN.{replicate}
 use Rattle.paper.specs.Book.{Term, Book}
-use Rattle.paper.specs.Reduction.{forks, Reduces}
+use Rattle.paper.specs.Reduction.{forks}
+use Rattle.paper.specs.Walk.{ReducesMarked}
 use Rattle.paper.specs.Machine.{Ending, Limits}
 use Rattle.paper.specs.Run.{Answer, run}
 
@@ -34,5 +36,5 @@ pub record Accounted (B : Book) (budget : ℕ) (t : Term) (A : Answer) : Type 0 
   pub none-granted : (n : ℕ) → alone B budget t n .granted ≡ 0
   -- wherever it finishes, they are exactly these
   pub exactly : (n : ℕ) → alone B budget t n .ending ≡ Ending.finished → A .granted + A .kept ≡ alone B budget t n .kept
-  -- and exactly the FORKs of reduction one after the other, which leads to the same term
-  pub reduces : Reduces B forks t (A .granted + A .kept) (A .term)
+  -- and exactly the FORKs of reduction one after the other with marks, which leads to the same term
+  pub reduces : ReducesMarked B forks t (A .granted + A .kept) (A .term)

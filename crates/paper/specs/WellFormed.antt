@@ -1,6 +1,5 @@
 -- What a book that is read has, field by field of the layout (document 01, 'The book, bit by bit' and 'Strategies, settled'; refusals 2 to 5, 7
 -- and 8). `Sound` is what a run needs of it; this is all of it, so that such a book is written and read back as itself. Assumes nothing.
-use mathlib.Core.Bool.{Bool, true, false}
 use mathlib.Core.List.{List, [], _∷_}
 use mathlib.Core.Path.{_≡_}
 use Prim.Native.Nat.{ℕ, _^_, _≤_, _<_}
@@ -10,7 +9,7 @@ use Rattle.paper.specs.Strategy.{Item, settle}
 use Rattle.paper.specs.Book.{Operator, Symbol, Side, Rule, Book, symbolArity}
 use Rattle.paper.specs.Reader.{variables}
 use Rattle.paper.specs.Writer.{numbers}
-use Rattle.paper.specs.Sound.{In, All, IsOperator}
+use Rattle.paper.specs.Sound.{In, All, EndsWhole, IsOperator}
 use Rattle.paper.specs.Dated.{DatedRule, DatedBook, AnyBook}
 
 -- every argument that is named, in a group or not, is one of n
@@ -19,18 +18,6 @@ ItemsWithin n [] = Unit {0}
 ItemsWithin n (Item.whole ∷ is) = ItemsWithin n is
 ItemsWithin n (Item.argument i ∷ is) = (i < n) × ItemsWithin n is
 ItemsWithin n (Item.group js ∷ is) = All (λ j. j < n) js × ItemsWithin n is
-
--- the list ends in 0, behind an item that is 0 or not
-abbrev pub EndsAfter : Bool → List Item → Type 0
-EndsAfter true [] = Unit {0}
-EndsAfter false [] = ⊥
-EndsAfter b (Item.whole ∷ is) = EndsAfter true is
-EndsAfter b (Item.argument i ∷ is) = EndsAfter false is
-EndsAfter b (Item.group js ∷ is) = EndsAfter false is
-
--- empty, or its last item is 0
-abbrev pub EndsWhole : List Item → Type 0
-EndsWhole = EndsAfter true
 
 -- an arity of 3 bits, and a settled strategy of at most 31 items within it that is empty or ends in 0
 pub record GoodOperator (o : Operator) : Type 0 where

@@ -10,7 +10,7 @@ use Rattle.paper.specs.Book.{Symbol, Rule}
 use Rattle.paper.specs.Sound.{All}
 use Rattle.paper.proofs.Lists.{all-split}
 use Rattle.flat.specs.Symbols as flat
-use Rattle.flat.specs.Symbols.{segment, Binding, blank, bind, meet, match, fill, rewrite}
+use Rattle.flat.specs.Symbols.{segment, Binding, blank, bind, meet, match, rewrite}
 use Rattle.flat.proofs.Sizes.{skip-same}
 
 pub all-drop : (P : ℕ → Type 0) (k : ℕ) (xs : List ℕ) → All P xs → All P (drop k xs)
@@ -42,5 +42,5 @@ pub rewrite-same : (f g : ℕ → ℕ) (rs : List Rule) (a : ℕ) (xs : List ℕ
 unfolding rewrite
 rewrite-same f g [] a xs h = refl
 rewrite-same f g (r ∷ rs) a xs h =
-    ap₂ (λ (m : flat.Match) (k : flat.Hit). elim m as (λ z. flat.Hit) [ flat.Match.differs ↦ k | flat.Match.agrees b e ↦ flat.Hit.hit (fill (preorder (r .right)) b xs) e ])
+    ap₂ (λ (m : flat.Match) (k : flat.Hit). elim m as (λ z. flat.Hit) [ flat.Match.differs ↦ k | flat.Match.agrees b e ↦ flat.Hit.hit (preorder (r .right)) b e ])
     (match-same f g xs (preorder (r .left)) a (drop a xs) blank (all-drop _ a xs h)) (rewrite-same f g rs a xs h)

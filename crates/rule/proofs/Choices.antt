@@ -10,7 +10,7 @@ use Rattle.paper.specs.Tree.{node, label, preorder, preorders}
 use Rattle.paper.specs.Book.{Symbol, Side, Rule, Book, arity}
 use Rattle.paper.specs.Sound.{All, IsOperator}
 use Rattle.flat.specs.Symbols as flat
-use Rattle.flat.specs.Symbols.{Binding, blank, match, fill, rewrite}
+use Rattle.flat.specs.Symbols.{Binding, blank, match, rewrite}
 use Rattle.flat.specs.Rules.{spells}
 use Rattle.tables.specs.Layout.{arity-in, left-in}
 use Rattle.tables.specs.Tables.{ruleAt, Root, Tables}
@@ -82,7 +82,7 @@ module _ (operators xs : List ℕ) (a : ℕ) where
   rewrite-later r rs e = rw (e, rewrite)
 
   rewrite-here : (r : Rule) (rs : List Rule) (b : Binding) (e : ℕ) → match (arity-in operators) xs (preorder (r .left)) a (drop a xs) blank ≡ flat.Match.agrees b e →
-      rewrite (arity-in operators) (r ∷ rs) a xs ≡ flat.Hit.hit (fill (preorder (r .right)) b xs) e
+      rewrite (arity-in operators) (r ∷ rs) a xs ≡ flat.Hit.hit (preorder (r .right)) b e
   unfolding rewrite
   rewrite-here r rs b e h = rw (h, rewrite)
 
@@ -92,7 +92,7 @@ module _ (operators xs : List ℕ) (a : ℕ) where
   rewrite-miss (r ∷ rs) p = rewrite-later r rs (p 0 (omega arith)) ∙ rewrite-miss rs (λ j l. p (suc j) (omega arith))
 
   rewrite-first : (rs : List Rule) (i e : ℕ) (b : Binding) → i < length rs → Passed operators rs i a xs → tries operators rs i a xs ≡ flat.Match.agrees b e →
-      rewrite (arity-in operators) rs a xs ≡ flat.Hit.hit (fill (preorder (ruleAt rs i .right)) b xs) e
+      rewrite (arity-in operators) rs a xs ≡ flat.Hit.hit (preorder (ruleAt rs i .right)) b e
   rewrite-first [] i e b l p h = absurd (omega arith)
   rewrite-first (r ∷ rs) zero e b l p h = rewrite-here r rs b e h
   rewrite-first (r ∷ rs) (suc i) e b l p h =

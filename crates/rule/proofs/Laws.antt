@@ -74,7 +74,7 @@ module _ {bytes operators rules : List ℕ} {B : Book} (T : Tables bytes operato
   pub passed-matches : (i : ℕ) → i ≤ length (B .rules) → Passed operators (B .rules) i a xs → (j : ℕ) → j < i → Matches (left j) t → ⊥
   passed-matches i l p j k = differs-matches j (omega arith) (p j k)
 
-  hits : Hits (a + size t) (rewrite (arity B) (B .rules) a xs) (Match.rewrite (B .rules) t)
+  hits : Hits xs (a + size t) (rewrite (arity B) (B .rules) a xs) (Match.rewrite (B .rules) t)
   hits = rewrite-hits B (B .rules) sound t correct a rest xs there
 
   -- the paper's new term is the right side of the rule that is found, filled
@@ -82,14 +82,14 @@ module _ {bytes operators rules : List ℕ} {B : Book} (T : Tables bytes operato
       (y : Term) × (Match.rewrite (B .rules) t ≡ some y) × (fill (preorder (ruleAt (B .rules) (m .rule) .right)) b xs ≡ preorder y) × (m .end ≡ a + size t)
   first-rewrites m b f = go refl hits
     where
-      go : {o : Option Term} → Match.rewrite (B .rules) t ≡ o → Hits (a + size t) (rewrite (arity B) (B .rules) a xs) o →
+      go : {o : Option Term} → Match.rewrite (B .rules) t ≡ o → Hits xs (a + size t) (rewrite (arity B) (B .rules) a xs) o →
           (y : Term) × (Match.rewrite (B .rules) t ≡ some y) × (fill (preorder (ruleAt (B .rules) (m .rule) .right)) b xs ≡ preorder y) × (m .end ≡ a + size t)
       go p (h-miss q) = let s = f .is in let z : _≡_ {A = ℕ} 0 1 = cc in absurd (omega arith)
-      go p (h-hit y q) = let s = f .is in (y, p, cc, cc)
+      go p (h-hit y right b′ q z) = let s = f .is in (y, p, cc, cc)
 
   pub missed-rewrites : C.None-found B operators a xs → Match.rewrite (B .rules) t ≡ none
   missed-rewrites f = go refl hits
     where
-      go : {o : Option Term} → Match.rewrite (B .rules) t ≡ o → Hits (a + size t) (rewrite (arity B) (B .rules) a xs) o → Match.rewrite (B .rules) t ≡ none
+      go : {o : Option Term} → Match.rewrite (B .rules) t ≡ o → Hits xs (a + size t) (rewrite (arity B) (B .rules) a xs) o → Match.rewrite (B .rules) t ≡ none
       go p (h-miss q) = p
-      go p (h-hit y q) = let s = f .is in let z : _≡_ {A = ℕ} 0 1 = cc in absurd (omega arith)
+      go p (h-hit y right b q e) = let s = f .is in let z : _≡_ {A = ℕ} 0 1 = cc in absurd (omega arith)

@@ -9,7 +9,7 @@ use Rattle.paper.specs.Tree.{label, preorder}
 use Rattle.paper.specs.Book.{Symbol, Side, Rule, Book, arity}
 use Rattle.paper.specs.Sound.{All, IsOperator}
 use Rattle.flat.specs.Symbols as flat
-use Rattle.flat.specs.Symbols.{Binding, blank, skip, meet, match, fill, rewrite}
+use Rattle.flat.specs.Symbols.{Binding, blank, skip, meet, match, rewrite}
 use Rattle.flat.specs.Sizes as flat-sizes
 use Rattle.side.specs.Contracts.{StandingAt}
 use Rattle.side.specs.declared.Standing as Sd
@@ -149,7 +149,7 @@ pub record Rule-found (B : Book) (operators : List ℕ) (a : ℕ) (xs : List ℕ
   pub below : m .rule < length (B .rules)
   pub passed : Passed operators (B .rules) (m .rule) a xs
   pub agrees : tries operators (B .rules) (m .rule) a xs ≡ flat.Match.agrees b (m .end)
-  pub is : rewrite (arity B) (B .rules) a xs ≡ flat.Hit.hit (fill (preorder (ruleAt (B .rules) (m .rule) .right)) b xs) (m .end)
+  pub is : rewrite (arity B) (B .rules) a xs ≡ flat.Hit.hit (preorder (ruleAt (B .rules) (m .rule) .right)) b (m .end)
   pub within : Binds-within b len
   pub end : m .end ≤ len
   -- each variable of its right side is bound to a term

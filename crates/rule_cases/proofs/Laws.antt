@@ -1,5 +1,5 @@
 -- What the cases need: a line's symbols loaded one by one, the present term of a sound line, and the only unit at its start. Assumes nothing.
-use mathlib.Core.Bool.{true}
+use mathlib.Core.Bool.{Bool, true}
 use mathlib.Core.List.{List, [], _∷_, _++_}
 use mathlib.Core.Path.{_≡_, sym, ap, _∙_, subst}
 use Prim.Native.Nat.{ℕ, _+_, _≤_, _<_}
@@ -57,8 +57,8 @@ module _ {bytes operators net : List ℕ} {n : ℕ} (line : List ℕ) (t : NetOf
       spells-book B (tables-by t .operators-in) 1 line a ∙ subst (λ (xs : List ℕ). spells (arity B) 1 xs ≡ true) e (correct-spells (arity B) x c)
 
   -- and, loaded, the present term
-  pub present : {symbols : List ℕ} (len offset : ℕ) → length bytes ≤ 65536 → len ≡ length line → Loaded (arity-in operators) line len symbols → offset < len →
-      Present bytes operators net symbols offset
+  pub present : {symbols : List ℕ} {ms : List Bool} (len offset : ℕ) → length bytes ≤ 65536 → len ≡ length line → Loaded (arity-in operators) line ms len symbols →
+      offset < len → Present bytes operators net symbols offset
   present {symbols} len offset short e l i =
       let (all, most) = sound-known n (arity-in operators) line (sym sound) in
       let few : len ≤ 1024 = omega arith in

@@ -8,11 +8,11 @@ use lib.ListN.{length, take, drop, length-drop, length-map}
 use lib.Seq.{paste, take-paste, drop-paste, take-take, take-add, take-all, drop-at, drop-drop, length-take-le, take-append-le}
 use Rattle.flat.specs.Symbols.{splice}
 use Rattle.flat.specs.Sizes.{grow, resize}
-use Rattle.symbol.specs.Record.{operator, size, operators, sizes}
+use Rattle.symbol.specs.Record.{operator, marked, size, sizes}
 use Rattle.symbol.proofs.Record.{map-take, map-drop}
 use Rattle.term.specs.Contracts.{Pasted}
 use Rattle.splice.specs.Contracts.{Replaceable, Grown-before, Replaced}
-use Rattle.splice.proofs.Growing.{before-are, behind-are, none-grown}
+use Rattle.splice.proofs.Growing.{All-regrown, before-are, behind-are, none-grown}
 
 drop-take : (k r : ℕ) (l : List ℕ) → k + r ≤ length l → drop k (take (k + r) l) ≡ take r (drop k l)
 drop-take k r l h = rw (take-add k r l) (drop-at (take k l) (take r (drop k l)) k (length-take-le k l (omega arith)))
@@ -44,8 +44,7 @@ module _ (d : List ℕ) (at : ℕ) (s : List ℕ) (n : ℕ) (fits : at ≤ lengt
 
 -- all but the new part is done: the sizes before offset a are put right, and what stands behind is at its place
 pub record Opened (s p : List ℕ) (len a e n : ℕ) (s₂ p₂ : List ℕ) : Type 0 where
-  pub operators-before : operators (take a s₂) ≡ operators (take a s)
-  pub sizes-before : sizes (take a s₂) ≡ grow a e n 0 (sizes (take a s))
+  pub before : All-regrown a e n 0 (take a s) (take a s₂)
   pub rest : take (len - e) (drop (a + n) s₂) ≡ take (len - e) (drop e s)
   pub part : drop (1024 - n) p₂ ≡ drop (1024 - n) p
   pub long : length s₂ ≡ 1024
@@ -59,10 +58,8 @@ opened {s} {p} {s₁} {s₂} {p₂} {len} {a} {e} {n} q lp g out back =
     let k = out .long in
     let d : length (drop e s₁) ≡ length s₁ - e = length-drop e s₁ in
     let front = ap (take a) (back .is) ∙ paste-before s₁ (a + n) p₂ (len - e) (omega arith) (omega arith) a (omega arith) in
-    let before = before-are g (omega arith) in
     record {
-      operators-before = ap operators front ∙ before .0;
-      sizes-before = ap sizes front ∙ before .1;
+      before = rw front (before-are g (omega arith));
       rest =
           ap (λ (x : List ℕ). take (len - e) (drop (a + n) x)) (back .is)
           ∙ paste-new s₁ (a + n) p₂ (len - e) (omega arith) (omega arith)
@@ -79,8 +76,7 @@ opened {s} {p} {s₁} {s₂} {p₂} {len} {a} {e} {n} q lp g out back =
 pub open-already : {s p : List ℕ} {len a e n : ℕ} → Replaceable s len a e n → length p ≡ 1024 → a + n ≡ e → Opened s p len a e n s p
 open-already {s} {len = len} {a} {e} {n} q lp h =
     record {
-      operators-before = refl;
-      sizes-before = before-are (none-grown a e n s h) (omega arith) .1;
+      before = before-are (none-grown a e n s h) (omega arith);
       rest = ap (λ (k : ℕ). take (len - e) (drop k s)) h;
       part = refl;
       long = q .holding .long;
@@ -104,25 +100,30 @@ module _ {s p s₂ p₂ s₃ : List ℕ} {len a e n : ℕ} (q : Replaceable s le
       ∙ ap₂ (λ (x y : List ℕ). take a s₂ ++ (x ++ y)) (take-all n (drop (1024 - n) p₂) (omega arith) ∙ o .part)
       (o .rest ∙ sym (drop-take e (len - e) s (omega arith)) ∙ ap (λ (k : ℕ). drop e (take k s)) i)
 
-  -- of each symbol one thing, its operator or its size
-  mapped : (f : ℕ → ℕ) → map f (take (a + n + (len - e)) s₃) ≡ map f (take a s₂) ++ (map f (drop (1024 - n) p) ++ drop e (map f (take len s)))
+  -- of each symbol one thing, its operator, its mark or its size
+  mapped : {A : Type 0} (f : ℕ → A) → map f (take (a + n + (len - e)) s₃) ≡ map f (take a s₂) ++ (map f (drop (1024 - n) p) ++ drop e (map f (take len s)))
   mapped f = rw (parts, map-append, map-append, map-drop f e (take len s))
 
-  first-of : (f : ℕ → ℕ) → map f (take a s) ≡ take a (map f (take len s))
+  first-of : {A : Type 0} (f : ℕ → A) → map f (take a s) ≡ take a (map f (take len s))
   first-of f = ap (map f) (sym (take-take a len s (omega arith))) ∙ map-take f a (take len s)
+
+  -- what is as it was of each symbol before
+  kept : {A : Type 0} (f : ℕ → A) → map f (take a s₂) ≡ map f (take a s) →
+      map f (take (a + n + (len - e)) s₃) ≡ splice a e (map f (drop (1024 - n) p)) (map f (take len s))
+  unfolding splice
+  kept {A} f h = mapped f ∙ ap (λ (x : List A). x ++ (map f (drop (1024 - n) p) ++ drop e (map f (take len s)))) (h ∙ first-of f)
 
   pub replaced : Replaced s len a e p n s₃ p₂
   unfolding splice resize
   replaced =
       let k : n ≡ length (sizes (drop (1024 - n) p)) = simp (length-map, length-drop) (omega arith) in
       record {
-        operators-are =
-            mapped operator
-            ∙ ap (λ (x : List ℕ). x ++ (operators (drop (1024 - n) p) ++ drop e (operators (take len s)))) (o .operators-before ∙ first-of operator);
+        operators-are = kept operator (o .before .operators-are);
+        marks-are = kept marked (o .before .marks-are);
         sizes-are =
             mapped size
             ∙ ap (λ (x : List ℕ). x ++ (sizes (drop (1024 - n) p) ++ drop e (sizes (take len s))))
-            (o .sizes-before ∙ ap₂ (λ (x : ℕ) (y : List ℕ). grow a e x 0 y) k (first-of size));
+            (o .before .sizes-are ∙ ap₂ (λ (x : ℕ) (y : List ℕ). grow a e x 0 y) k (first-of size));
         long = put .long;
         part-long = o .part-long;
       }

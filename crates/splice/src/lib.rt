@@ -5,27 +5,32 @@ ghost use lib.ListN.{length};
 ghost use Rattle.symbol.specs.Record as R;
 ghost use Rattle.splice.specs.Contracts as C;
 
-// The record x at offset i, which takes the difference if its term holds the symbols from offset a to offset e.
-fn regrown(x: u32, i: usize, a: usize, e: usize, n: usize) -> u32
-    requires { ⌜ (i < a) × (a ≤ e) × (e ≤ 1024) × (n ≤ 1024) × (a < i + R.size x → (e ≤ i + R.size x) × (i + R.size x ≤ 1024)) ⌝ }
-    ensures { λ r. ⌜ C.Regrown a e n i x r ⌝ }
+// The record x at offset at, which takes the difference if its term holds the symbol at offset a: `less` symbols from there on go, `more` come.
+fn regrown(x: u32, at: u32, a: u32, less: u32, more: u32) -> u32
+    requires { ⌜ (at < a) × (a + less ≤ 1024) × (more ≤ 1024) × (a < at + R.size x → (a + less ≤ at + R.size x) × (at + R.size x ≤ 1024)) ⌝ }
+    ensures { λ r. ⌜ C.Regrown a (a + less) more at x r ⌝ }
 {
-    if a < i + symbol::size(x) {
-        symbol::resized(x, e - a, n)
+    if a < at + symbol::size32(x) {
+        symbol::resized(x, less, more)
     } else {
         x
     }
 }
 
-// The sizes of the symbols above: each symbol before offset a is asked whether its term holds those from a to e. One pass with no early leave, so that
-// several are done at a time.
+// The sizes of the symbols above: each symbol before offset a is asked whether its term holds those from a to e. One pass with no early leave, all in as
+// many bits as a record has, so that several are done at a time.
 fn grow(symbols: &mut [u32; 1024], a: usize, e: usize, n: usize)
     requires { ⌜ C.Holding (now symbols) a e n ⌝ }
     ensures { λ _. ⌜ C.Grown-before a e n (now (symbols .entry)) (now (symbols .exit)) ⌝ }
 {
+    let first = a as u32;
+    let less = (e - a) as u32;
+    let more = n as u32;
+    let mut at: u32 = 0;
     let mut i = 0;
     while i < a {
-        symbols[i] = regrown(symbols[i], i, a, e, n);
+        symbols[i] = regrown(symbols[i], at, first, less, more);
+        at += 1;
         i += 1;
     }
 }

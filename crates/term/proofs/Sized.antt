@@ -1,6 +1,6 @@
 -- Laws of the present term: each symbol's size is what skip finds by arities, so hopping leads to the arguments; terms lie inside one another; and when
 -- some symbols are a term with true sizes. Assumes nothing.
-use mathlib.Core.Bool.{true}
+use mathlib.Core.Bool.{Bool, true, false}
 use mathlib.Core.List.{List}
 use mathlib.Core.Path.{_≡_, sym, ap, _∙_}
 use Prim.Native.Nat.{ℕ, _+_, _≤_, _<_}
@@ -12,9 +12,9 @@ use Rattle.flat.specs.Rules.{spells}
 use Rattle.flat.specs.Sizes as flat
 use Rattle.flat.specs.Symbols.{skip, argument}
 use Rattle.flat.proofs.Sizes as F
-use Rattle.symbol.specs.Record.{operator, size, operators, sizes}
-use Rattle.symbol.proofs.Record.{size-at, front-length, operator-front, size-front}
-use Rattle.term.specs.Present.{length-in, operators-in, Sized, Hops}
+use Rattle.symbol.specs.Record.{operator, marked, size, operators, marks, sizes}
+use Rattle.symbol.proofs.Record.{size-at, front-length, operator-front, marked-front, size-front}
+use Rattle.term.specs.Present.{length-in, operators-in, marks-in, Sized, Hops}
 use Rattle.term.specs.Contracts.{Loaded}
 use Rattle.term.proofs.Hopping.{hops-arguments, hop-argument-is}
 
@@ -22,8 +22,14 @@ module _ (ar : ℕ → ℕ) (symbols : List ℕ) (s : Sized ar symbols) where
   pub operators-length : length (operators-in symbols) ≡ length-in symbols
   operators-length = front-length operator (length-in symbols) symbols (let l = s .long in let m = s .most in omega arith)
 
+  pub marks-length : length (marks-in symbols) ≡ length-in symbols
+  marks-length = front-length marked (length-in symbols) symbols (let l = s .long in let m = s .most in omega arith)
+
   pub operator-is : (a : ℕ) → a < length-in symbols → operator (getD symbols a 0) ≡ getD (operators-in symbols) a 0
   operator-is a h = sym (operator-front (length-in symbols) symbols a h)
+
+  pub marked-is : (a : ℕ) → a < length-in symbols → marked (getD symbols a 0) ≡ getD (marks-in symbols) a false
+  marked-is a h = sym (marked-front (length-in symbols) symbols a h)
 
   pub size-is : (a : ℕ) → a < length-in symbols → size (getD symbols a 0) ≡ skip ar 1 (drop a (operators-in symbols))
   size-is a h =
@@ -70,7 +76,8 @@ module _ (ar : ℕ → ℕ) (symbols : List ℕ) (s : Sized ar symbols) where
   argument-inside a i h l = omega (arith, operators-length, F.arguments-inside ar (operators-in symbols) a i (s .term) (omega (arith, operators-length)) l)
 
 -- the first n symbols are the operators of one term, with true sizes: that is the present term
-module _ (ar : ℕ → ℕ) (xs : List ℕ) (n : ℕ) (symbols : List ℕ) (few : n ≤ 1024) (one : spells ar 1 xs ≡ true) (l : Loaded ar xs n symbols) where
+module _ {ms : List Bool} (ar : ℕ → ℕ) (xs : List ℕ) (n : ℕ) (symbols : List ℕ) (few : n ≤ 1024) (one : spells ar 1 xs ≡ true)
+    (l : Loaded ar xs ms n symbols) where
   loaded-all : length xs ≡ n
   loaded-all = ap length (sym (l .operators-are)) ∙ front-length operator n symbols (let h = l .long in omega arith)
 
@@ -83,6 +90,9 @@ module _ (ar : ℕ → ℕ) (xs : List ℕ) (n : ℕ) (symbols : List ℕ) (few 
 
   pub loaded-operators : operators-in symbols ≡ xs
   loaded-operators = ap (λ (k : ℕ). operators (take k symbols)) loaded-length ∙ l .operators-are
+
+  pub loaded-marks : marks-in symbols ≡ ms
+  loaded-marks = ap (λ (k : ℕ). marks (take k symbols)) loaded-length ∙ l .marks-are
 
   pub loaded-sized : Sized ar symbols
   loaded-sized =

@@ -1,6 +1,6 @@
--- The present term in the working array (document 02, Change 7): its symbols stand in front, as many as the root's size says, and each one's size is
+-- The present term in the working array (document 02, Changes 7 and 10): its symbols stand in front, as many as the root's size says, and each one's size is
 -- that of the term that begins there. Assumes nothing.
-use mathlib.Core.Bool.{true}
+use mathlib.Core.Bool.{Bool, true}
 use mathlib.Core.List.{List}
 use mathlib.Core.Path.{_≡_}
 use Prim.Native.Nat.{ℕ, _≤_}
@@ -8,7 +8,7 @@ use lib.ListN.{length, getD, take}
 use Rattle.flat.specs.Sizes as flat
 pub use Rattle.flat.specs.Sizes.{Hops}
 use Rattle.flat.specs.Rules.{spells}
-use Rattle.symbol.specs.Record.{operators, sizes, size}
+use Rattle.symbol.specs.Record.{operators, marks, sizes, size}
 
 -- how many symbols the term has, read from its root; these symbols
 abbrev pub length-in : List ℕ → ℕ
@@ -17,9 +17,12 @@ length-in symbols = size (getD symbols 0 0)
 abbrev pub present : List ℕ → List ℕ
 present symbols = take (length-in symbols) symbols
 
--- its operators, and its sizes
+-- its operators, its marks, and its sizes
 abbrev pub operators-in : List ℕ → List ℕ
 operators-in symbols = operators (present symbols)
+
+abbrev pub marks-in : List ℕ → List Bool
+marks-in symbols = marks (present symbols)
 
 abbrev pub sizes-in : List ℕ → List ℕ
 sizes-in symbols = sizes (present symbols)

@@ -1,5 +1,6 @@
-// The present term as an array of symbols in preorder, each with its size: where its parts stand, two compared, one copied.
-ghost use mathlib.Core.Bool.{true};
+// The present term as an array of symbols in preorder, each with its size and its mark: where its parts stand, two compared, one copied, one marked.
+ghost use mathlib.Core.Bool.{true, false};
+ghost use mathlib.Core.List.{map};
 ghost use mathlib.Core.Path.{_≡_};
 ghost use Prim.Native.Nat.{_+_, _-_, _<_, _≤_};
 ghost use lib.ListN.{length, getD, take};
@@ -8,7 +9,7 @@ ghost use Rattle.flat.specs.Sizes as flat;
 ghost use Rattle.symbol.specs.Record as R;
 ghost use Rattle.tables.specs.Layout.{arity-in};
 ghost use Rattle.term.specs.Present.{length-in, Hops};
-ghost use Rattle.term.specs.Contracts.{Compared, Pasted, Put-sized, Loaded};
+ghost use Rattle.term.specs.Contracts.{Compared, Pasted, Marked-at, Put-sized, Loaded};
 
 // How many symbols the term has.
 pub fn length(symbols: &[u32; 1024]) -> usize
@@ -29,6 +30,21 @@ pub fn size_at(symbols: &[u32; 1024], at: usize) -> usize
     ensures { λ r. ⌜ r ≡ R.size (getD (now (symbols .entry)) at 0) ⌝ }
 {
     symbol::size(symbols[at])
+}
+
+pub fn is_marked_at(symbols: &[u32; 1024], at: usize) -> bool
+    requires { ⌜ at < 1024 ⌝ }
+    ensures { λ r. ⌜ r ≡ R.marked (getD (now (symbols .entry)) at 0) ⌝ }
+{
+    symbol::is_marked(symbols[at])
+}
+
+// Marks the term at offset at.
+pub fn mark(symbols: &mut [u32; 1024], at: usize)
+    requires { ⌜ at < 1024 ⌝ }
+    ensures { λ _. ⌜ Marked-at at (now (symbols .entry)) (now (symbols .exit)) ⌝ }
+{
+    symbols[at] = symbol::mark(symbols[at]);
 }
 
 // The offset of argument i of the term at offset at; where it has i arguments, the offset behind it.
@@ -76,7 +92,7 @@ pub fn copy(symbols: &mut [u32; 1024], at: usize, part: &[u32; 1024], from: usiz
     }
 }
 
-// Puts the operator o at offset at, with its size by those of its arguments, which stand behind it.
+// Puts the operator o at offset at, without mark, with its size by those of its arguments, which stand behind it.
 pub fn put_sized(symbols: &mut [u32; 1024], operators: &[u8; 4352], at: usize, o: u8)
     requires { ⌜ (length (now symbols) ≡ 1024) × (at < 1024) × Hops (R.sizes (now symbols)) (arity-in (now operators) o) (at + 1) × (flat.hop (R.sizes (now symbols)) (arity-in (now operators) o) (at + 1) ≤ 1024) ⌝ }
     ensures { λ _. ⌜ Put-sized (arity-in (now (operators .entry)) o) at o (now (symbols .entry)) (now (symbols .exit)) ⌝ }
@@ -104,10 +120,10 @@ fn size_before(
     argument(symbols, at + behind, n - 1) - at
 }
 
-// The operators of a line that is one term, with their sizes, from the last to the first.
+// The operators of a line that is one term, none marked, with their sizes, from the last to the first.
 pub fn load(symbols: &mut [u32; 1024], operators: &[u8; 4352], line: &[u8; 1024], n: usize)
     requires { ⌜ (length (now symbols) ≡ 1024) × (length (now line) ≡ 1024) × (n ≤ 1024) × (spells (arity-in (now operators)) 1 (take n (now line)) ≡ true) ⌝ }
-    ensures { λ _. ⌜ Loaded (arity-in (now (operators .entry))) (take n (now (line .entry))) n (now (symbols .exit)) ⌝ }
+    ensures { λ _. ⌜ Loaded (arity-in (now (operators .entry))) (take n (now (line .entry))) (map (λ o. false) (take n (now (line .entry)))) n (now (symbols .exit)) ⌝ }
 {
     let mut i = n;
     // The size of the symbol at i, kept: to load what was just stored is slow.

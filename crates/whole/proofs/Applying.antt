@@ -115,6 +115,7 @@ pub applied : {s : Arrays} {count i : ℕ} {scratch scratch′ symbols′ : List
     Rewritten x (drop (1024 - f .size) scratch) (f .size) (f .end) count s (record { symbols = symbols′; store = s₂ })
 applied {s} {count = count} {x = x} {f = f} p e t v = record {
   operators-are = p .operators-are;
+  marks-are = p .marks-are;
   sizes-are = p .sizes-are;
   units = v .units ∙ ap (map (shift-unit (x .offset) (f .end) (f .size)))
       (t .units count ∙ ap (λ (j : ℕ). at (x .unit) (topped (Frame.job j 0 0)) (units-in (s .store) count)) e);

@@ -1,7 +1,7 @@
 -- The choice of a rule: what the search for one and the filling of its right side say. Assumes nothing.
-use mathlib.Core.Bool.{true, false}
+use mathlib.Core.Bool.{Bool, true, false}
 use mathlib.Core.List.{List}
-use mathlib.Core.Path.{_≡_, sym, ap, _∙_}
+use mathlib.Core.Path.{_≡_, _∙_}
 use Prim.Native.Nat.{ℕ, _+_, _-_, _≤_, _<_}
 use native.Mathlib.Omega.{arith}
 use lib.ListN.{length}
@@ -11,10 +11,10 @@ use Rattle.paper.specs.Book.{Side, Book, arity}
 use Rattle.paper.specs.Sound.{SoundRule}
 use Rattle.paper.proofs.Rules.{good-sound}
 use Rattle.flat.proofs.Inside.{fill-known}
-use Rattle.flat.specs.Symbols.{Hit, Binding, fill}
+use Rattle.flat.specs.Symbols.{Binding, fill}
 use Rattle.tables.specs.Tables.{ruleAt}
 use Rattle.tables.proofs.Laws.{rule-good}
-use Rattle.term.specs.Present.{length-in, operators-in}
+use Rattle.term.specs.Present.{length-in, operators-in, marks-in}
 use Rattle.term.proofs.Sized.{held}
 use Rattle.term.proofs.Skipping.{sizes-book}
 use Rattle.splice.specs.Contracts.{Replaceable}
@@ -40,12 +40,15 @@ module _ {bytes operators net symbols : List ℕ} {a : ℕ} (here : Present byte
   abbrev xs : List ℕ
   xs = operators-in symbols
 
+  abbrev ms : List Bool
+  ms = marks-in symbols
+
   module _ {b : Binding} {m : M.Match} (h : Rule-found B operators a xs (length-in symbols) b m) where
     pub small : m .rule < 256
     small = omega (arith, h .below, tables-by (here .netted) .good .few-rules)
 
     pub spends : (p : P.Progress) (l : L.Limits) → p .rewrites ≡ l .budget → Rule-gives B a xs (λ ys e. spent p l ≡ true)
-    spends p l e = record { ys = _; e = m .end; hit = h .is; so = eq-eqb (p .rewrites) (l .budget) e }
+    spends p l e = record { right = _; b = _; e = m .end; hit = h .is; so = eq-eqb (p .rewrites) (l .budget) e }
 
     -- the symbols around the term
     pub around : a + (length-in symbols - m .end) ≤ 1024
@@ -80,21 +83,25 @@ module _ {bytes operators net symbols : List ℕ} {a : ℕ} (here : Present byte
               fits = omega (arith, around);
             }
 
-        pub fills : {scratch : List ℕ} → Side-filled bytes at operators xs b limit scratch Z.Size.Over →
+        pub fills : {scratch : List ℕ} → Side-filled bytes at operators xs ms b limit scratch Z.Size.Over →
             Rule-gives B a xs (λ ys e. (spent p l ≡ false) × (over a xs ys e ≡ true))
         fills f =
             let g : 1024 < length (fill (preorder right) b xs) + (length xs - (m .end - a)) =
             omega (arith, end-is here (h .is), length-is here, h .end, f .is right stands) in
-            record { ys = _; e = m .end; hit = h .is; so = (ne-eqb (p .rewrites) (l .budget) unspent, lt-ltb 1024 _ g) }
+            record { right = _; b = _; e = m .end; hit = h .is; so = (ne-eqb (p .rewrites) (l .budget) unspent, lt-ltb 1024 _ g) }
 
-        pub picks : {scratch : List ℕ} {k : ℕ} → Side-filled bytes at operators xs b limit scratch (Z.Size.Fits k) →
+        pub picks : {scratch : List ℕ} {k : ℕ} → Side-filled bytes at operators xs ms b limit scratch (Z.Size.Fits k) →
             Right-fits B a p l symbols scratch (record { size = k; end = m .end })
         picks f =
             let q = f .is .0 right stands in
             let r : SoundRule B (ruleAt (B .rules) (m .rule)) = good-sound B _ (rule-good (tables-by (here .netted)) (m .rule) (h .below)) in
             record {
               left = ne-eqb (p .rewrites) (l .budget) unspent;
-              hit = h .is ∙ ap (λ (ys : List ℕ). Hit.hit ys (m .end)) (sym q);
-              true-sizes = f .is .1 ∙ sizes-book B (tables-by (here .netted) .operators-in) _ (rw q (fill-known B (preorder right) b xs (r .right-known) (here .known)));
+              right = preorder right;
+              b = b;
+              hit = h .is;
+              operators-are = q .operators-are;
+              marks-are = q .marks-are;
+              true-sizes = f .is .1 ∙ sizes-book B (tables-by (here .netted) .operators-in) _ (rw (q .operators-are) (fill-known B (preorder right) b xs (r .right-known) (here .known)));
               replaceable = replaceable (f .is .2);
             }

@@ -8,14 +8,14 @@ use native.Mathlib.Omega.{arith}
 use lib.ListN.{length, getD, take, drop, take-append-drop}
 use lib.Seq.{drop-drop, drop-append-seam, length-take-le}
 use Rattle.paper.specs.Tree.{size, preorder, Correct}
-use Rattle.paper.specs.Book.{Term, Book, arity}
+use Rattle.paper.specs.Book.{Symbol, Term, Book, arity}
 use Rattle.paper.specs.Match
 use Rattle.paper.specs.Sound.{All, SoundRule}
 use Rattle.paper.proofs.Lists.{all-map}
 use Rattle.paper.proofs.Matching.{rewrite-correct}
 use Rattle.paper.proofs.Rules.{good-sound}
 use Rattle.paper.proofs.Trees.{size-preorder}
-use Rattle.flat.specs.Symbols.{Hit, skip, rewrite, splice}
+use Rattle.flat.specs.Symbols.{Binding, Hit, skip, fill, rewrite, splice}
 use Rattle.flat.specs.Sizes.{sizes, resize}
 use Rattle.flat.specs.Rules.{spells}
 use Rattle.flat.proofs.Matching.{Hits, h-miss, h-hit, rewrite-hits}
@@ -104,16 +104,19 @@ module _ {bytes operators net symbols : List ℕ} {a : ℕ} (P : Present bytes o
   inside = omega (arith, P .inside, length-is)
 
   -- a rule that matches gives a term for the one at the offset
-  module _ {ys : List ℕ} {e : ℕ} (h : rewrite (arity B) (B .rules) a xs ≡ Hit.hit ys e) where
+  module _ {right : List Symbol} {b : Binding} {e : ℕ} (h : rewrite (arity B) (B .rules) a xs ≡ Hit.hit right b e) where
+    abbrev ys : List ℕ
+    ys = fill right b xs
+
     gives-way : Gives-way (arity B) a e xs ys
     gives-way =
         let (t, c, r, d) = term-at (arity B) xs a (sized .term) inside in
         go t c r d refl (rewrite-hits B (B .rules) sound t c a r xs d)
       where
         go : (t : Term) → Correct (arity B) t → (r : List ℕ) → drop a xs ≡ preorder t ++ r → {o : Option Term} → Match.rewrite (B .rules) t ≡ o →
-            Hits (a + size t) (rewrite (arity B) (B .rules) a xs) o → Gives-way (arity B) a e xs ys
+            Hits xs (a + size t) (rewrite (arity B) (B .rules) a xs) o → Gives-way (arity B) a e xs ys
         go t c r d p (h-miss q) = let z : _≡_ {A = ℕ} 0 1 = cc in absurd (omega arith)
-        go t c r d p (h-hit y q) =
+        go t c r d p (h-hit y right′ b′ q z) =
             let u : preorder y ≡ ys = cc in
             let v : a + size t ≡ e = cc in
             record {

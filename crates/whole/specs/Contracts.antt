@@ -7,16 +7,16 @@ use Prim.Native.Nat.{ℕ, suc, _+_, _-_, _≤_, _<_}
 use lib.Dec.{eqb}
 use lib.ListN.{length, take, drop}
 use Rattle.paper.specs.Strategy.{Step}
-use Rattle.paper.specs.Book.{Book, arity}
+use Rattle.paper.specs.Book.{Symbol, Book, arity}
 use Rattle.paper.specs.Line.{symbol-limit}
 use Rattle.paper.specs.Machine.{Ending, exceeds}
 use Rattle.paper.specs.Sound.{All}
-use Rattle.flat.specs.Symbols.{Hit, rewrite, splice}
+use Rattle.flat.specs.Symbols.{Binding, Hit, fill, fill-marks, rewrite, splice}
 use Rattle.flat.specs.Sizes as flat
 use Rattle.flat.specs.Sizes.{resize}
-use Rattle.flat.specs.Machine.{Frame, FlatUnit, flat-unit, unit, FlatState, FlatOutcome, going, ended, shift-unit, with-unit, proceed, do-whole}
-use Rattle.symbol.specs.Record.{operators, sizes}
-use Rattle.term.specs.Present.{length-in, operators-in, sizes-in}
+use Rattle.flat.specs.Machine.{Frame, FlatUnit, flat-unit, unit, FlatState, FlatOutcome, going, ended, shift-unit, with-unit, with-marks, proceed, mark, do-whole}
+use Rattle.symbol.specs.Record.{operators, marks, sizes}
+use Rattle.term.specs.Present.{length-in, operators-in, marks-in, sizes-in}
 use Rattle.splice.specs.Contracts.{Replaceable}
 use Rattle.units.specs.Stacks.{Offsets, Store, units-in}
 use Rattle.units.specs.Contracts.{Stacks-fit, Has-frame, topped, at}
@@ -37,17 +37,22 @@ spent p l = eqb (p .rewrites) (l .budget)
 abbrev pub over : ℕ → List ℕ → List ℕ → ℕ → Bool
 over a xs ys e = exceeds (some symbol-limit) (length ys + (length xs - (e - a)))
 
--- a rule of the book B matches: ys is to stand for the symbols of xs from offset a up to e, and Q holds of them
+-- a rule of the book B matches: its filled right side is to stand for the symbols of xs from offset a up to e, and Q holds of these
 pub record Rule-gives (B : Book) (a : ℕ) (xs : List ℕ) (Q : List ℕ → ℕ → Type 0) : Type 0 where
-  pub ys : List ℕ
+  pub right : List Symbol
+  pub b : Binding
   pub e : ℕ
-  pub hit : rewrite (arity B) (B .rules) a xs ≡ Hit.hit ys e
-  pub so : Q ys e
+  pub hit : rewrite (arity B) (B .rules) a xs ≡ Hit.hit right b e
+  pub so : Q (fill right b xs) e
 
--- its filled right side is the last symbols of scratch, with their sizes, and there is room for them
+-- its filled right side is the last symbols of scratch, with the marks of what is copied and with their sizes, and there is room for them
 pub record Right-fits (B : Book) (a : ℕ) (p : P.Progress) (l : L.Limits) (symbols scratch : List ℕ) (f : F.Filled) : Type 0 where
   pub left : spent p l ≡ false
-  pub hit : rewrite (arity B) (B .rules) a (operators-in symbols) ≡ Hit.hit (operators (drop (1024 - f .size) scratch)) (f .end)
+  pub right : List Symbol
+  pub b : Binding
+  pub hit : rewrite (arity B) (B .rules) a (operators-in symbols) ≡ Hit.hit right b (f .end)
+  pub operators-are : operators (drop (1024 - f .size) scratch) ≡ fill right b (operators-in symbols)
+  pub marks-are : marks (drop (1024 - f .size) scratch) ≡ fill-marks right b (marks-in symbols)
   pub true-sizes : sizes (drop (1024 - f .size) scratch) ≡ flat.sizes (arity B) (operators (drop (1024 - f .size) scratch))
   pub replaceable : Replaceable symbols (length-in symbols) a (f .end) (f .size)
 
@@ -72,11 +77,12 @@ pub record Units-due (s : Store) (count : ℕ) (x : Pl.Place) (len : ℕ) : Type
   pub offsets : All (λ (y : FlatUnit). Offsets len (y .stack)) (units-in s count)
   pub alone : count ≡ 1 → Offsets (x .offset) (drop 1 (unit (units-in s count) (x .unit) .stack))
 
--- the n symbols ys, with their sizes, stand for those from the place's offset up to e, the jobs' offsets have gone along, and the unit is to visit the new
+-- the n symbols ys, with their marks and sizes, stand for those from the place's offset up to e, the jobs' offsets have gone along, and the unit is to visit the new
 -- term
 pub record Rewritten (x : Pl.Place) (ys : List ℕ) (n e count : ℕ) (s s′ : Arrays) : Type 0 where
   pub operators-are : operators (take (x .offset + n + (length-in (s .symbols) - e)) (s′ .symbols))
       ≡ splice (x .offset) e (operators ys) (operators-in (s .symbols))
+  pub marks-are : marks (take (x .offset + n + (length-in (s .symbols) - e)) (s′ .symbols)) ≡ splice (x .offset) e (marks ys) (marks-in (s .symbols))
   pub sizes-are : sizes (take (x .offset + n + (length-in (s .symbols) - e)) (s′ .symbols)) ≡ resize (x .offset) e (sizes ys) (sizes-in (s .symbols))
   pub units : units-in (s′ .store) count
       ≡ map (shift-unit (x .offset) e n) (at (x .unit) (topped (Frame.job (x .offset) 0 0)) (units-in (s .store) count))
@@ -87,7 +93,8 @@ pub record Rewritten (x : Pl.Place) (ys : List ℕ) (n e count : ℕ) (s s′ : 
 
 -- the outcome of an answer, from s to s′; k, c, ss and fs are the job's, as do-whole has them
 abbrev pub outcome : Pl.Place → ℕ → ℕ → List Step → List Frame → FlatState → FlatState → W.Whole → FlatOutcome
-outcome x k c ss fs s s′ W.Whole.Missed = going (with-unit s (x .unit) 0 (proceed (x .offset) (suc k) c ss fs))
+outcome x k c ss fs s s′ W.Whole.Missed =
+    going (with-marks (with-unit s (x .unit) 0 (proceed (x .offset) (suc k) c ss fs)) (mark (length ss) (x .offset) (s .marks)))
 outcome x k c ss fs s s′ W.Whole.Rewrote = going s′
 outcome x k c ss fs s s′ W.Whole.Spent = ended Ending.spent s
 outcome x k c ss fs s s′ W.Whole.Full = ended Ending.full s

@@ -1,4 +1,4 @@
--- The state of the machine on lists that arrays and numbers show: the present term's symbols, the units' work area and cells, what is counted, and the
+-- The state of the machine on lists that arrays and numbers show: the present term's symbols, with their marks, the units' work area and cells, what is counted, and the
 -- limits. Assumes nothing.
 use mathlib.Core.List.{List}
 use mathlib.Core.Option.{some}
@@ -6,7 +6,7 @@ use Prim.Native.Nat.{ℕ, suc}
 use Rattle.paper.specs.Line.{symbol-limit}
 use Rattle.paper.specs.Machine as M
 use Rattle.flat.specs.Machine.{FlatState}
-use Rattle.term.specs.Present.{operators-in, sizes-in}
+use Rattle.term.specs.Present.{operators-in, marks-in, sizes-in}
 use Rattle.units.specs.Stacks.{Store, store, units-in}
 use Rattle.whole.specs.declared.Progress.{Progress}
 use Rattle.whole.specs.declared.Limits.{Limits}
@@ -24,6 +24,7 @@ abbrev pub state : Arrays → Progress → Limits → FlatState
 state s p l = record {
   symbols = operators-in (s .symbols);
   sizes = sizes-in (s .symbols);
+  marks = marks-in (s .symbols);
   units = units-in (s .store) (l .units);
   rewrites = p .rewrites;
   granted = p .granted;

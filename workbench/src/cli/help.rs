@@ -183,7 +183,8 @@ the order's part in brackets. The orders come from a plain model; after every
 entry its term, counts and ending are compared with what the proved engine
 answers for the schedule cut there, and a difference stops the trace. The time
 for this grows with the square of the entries; --check 100 compares after every
-100th entry, and at the end.
+100th entry, and at the end. A part that has no orders left is finished: a later
+VISIT of it, or of a copy, is dropped.
 
 The picture has a lane for each unit: a box while it is busy, hatched while it
 waits at a JOIN, a thin line while it is idle, with arrows for FORKs and EXITs. A

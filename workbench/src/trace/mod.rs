@@ -23,6 +23,8 @@ pub enum Deed {
     Nothing,
     /// The orders that took the place of VISIT, the top one first.
     Visit(Vec<Order>),
+    /// A VISIT whose part is finished already.
+    Dropped,
     /// The unit that took the part, if one was idle.
     Fork(Option<usize>),
     /// The count for which the JOIN waits; 0 if it passed.
@@ -340,14 +342,19 @@ struct Watch {
     /// How many orders lie under it.
     below: usize,
     busy: Vec<bool>,
+    /// Is the part of a VISIT marked?
+    marked: bool,
     /// The rule, counted from 1, that matches the part of a WHOLE.
     rule: Option<usize>,
 }
 
 impl Watch {
     fn new(machine: &Machine, unit: usize) -> Watch {
-        let acting = &machine.units[unit];
-        let order = acting.orders.last().filter(|_| acting.busy).cloned();
+        let order = machine.due(unit).cloned();
+        let marked = match &order {
+            Some(Order::Visit(part)) => machine.term.part(part).is_some_and(|part| part.marked),
+            _ => false,
+        };
         let rule = match &order {
             Some(Order::Whole { term, .. }) => rule_number(machine.book, &machine.term, term),
             _ => None,
@@ -356,8 +363,9 @@ impl Watch {
         Watch {
             unit,
             order,
-            below: acting.orders.len() - 1,
+            below: machine.units[unit].orders.len() - 1,
             busy,
+            marked,
             rule,
         }
     }
@@ -367,6 +375,7 @@ impl Watch {
         let woken = |unit: &usize| machine.units[*unit].busy && !self.busy[*unit];
         match (&self.order, self.rule, ended) {
             (None, ..) => Deed::Nothing,
+            (Some(Order::Visit(_)), ..) if self.marked => Deed::Dropped,
             (Some(Order::Visit(_)), ..) => {
                 Deed::Visit(orders[self.below..].iter().rev().cloned().collect())
             }

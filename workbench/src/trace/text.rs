@@ -66,7 +66,7 @@ fn row(text: &mut String, [entry, unit, order, change, term]: [&str; 5]) {
 pub fn order(deed: &Deed) -> &'static str {
     match deed {
         Deed::Nothing => "-",
-        Deed::Visit(_) => "VISIT",
+        Deed::Visit(_) | Deed::Dropped => "VISIT",
         Deed::Fork(_) => "FORK",
         Deed::Join(_) => "JOIN",
         Deed::Exit { .. } => "EXIT",
@@ -86,6 +86,7 @@ pub fn change(step: &Step, before: State, rule_lines: &[usize]) -> String {
             let placed: Vec<String> = orders.iter().map(placed).collect();
             format!("gives {}", placed.join(", "))
         }
+        Deed::Dropped => "dropped: this part is finished already".into(),
         Deed::Fork(Some(unit)) => taken(*unit, step),
         Deed::Fork(None) => "no unit is idle: becomes VISIT".into(),
         Deed::Join(0) => "passes".into(),

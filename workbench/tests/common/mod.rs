@@ -47,6 +47,28 @@ pub fn file(name: &str, content: impl AsRef<[u8]>) -> String {
     path.to_str().unwrap().to_owned()
 }
 
+/// A book by which a short line has a long run: `double` becomes twice as many
+/// for each tick.
+pub const DOUBLING: &str = "\
+op end/0 op tick double/1 op both/2 ({1 2} 0)
+var X
+rule double(end) = end
+rule double(tick(X)) = both(double(X), double(X))
+rule both(end, end) = end
+";
+
+/// Its run takes about 14 entries for each part that it becomes: over 32,768 for
+/// 12 ticks, over 262,144 for 15.
+pub fn doubled(ticks: usize) -> String {
+    let (open, close) = ("tick(".repeat(ticks), ")".repeat(ticks));
+    format!("double({open}end{close})")
+}
+
+/// The rewrites of that run.
+pub fn doubled_rewrites(ticks: u32) -> u64 {
+    3 * (1 << ticks) - 2
+}
+
 /// Books at the layout's limits: 255 operators, of each arity, with lists of
 /// 31 items, and 255 rules with sides of 64 symbols and 16 variables.
 pub fn largest_draft(random: &mut Random) -> Draft {

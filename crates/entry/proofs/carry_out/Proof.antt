@@ -9,7 +9,8 @@ visit-requires : tie.Need-visit-requires
 visit-requires c κs =
     let q = c .before .before .before .before .before .before .before .before .pre in
     let t = q .1 in
-    rw (t .3) (visit-asks (q .0) (t .0) (t .1) (t .2))
+    let v = visit-asks (q .0) (t .0) (t .1) (t .2) in
+    (rw (t .3) (v .0), v .1, v .2, v .3, t .3)
 
 same-length : tie.Need-same-length
 same-length c = search needs
@@ -17,15 +18,15 @@ same-length c = search needs
 returns : tie.Need-returns
 returns c =
     let v = c .before .before in
-    let i = v .before .before .before in
-    let q = i .before .before .before .before .before .before .pre in
+    let i = v .before .before .before .before in
+    let q = i .before .before .before .before .before .pre in
     let t = q .1 in
-    visited (q .0) (t .0) (t .1) (t .2) (i .if1 .taken) (rw (t .3) at (v .visit .ensures))
+    visited (q .0) (t .0) (t .1) (t .2) (i .if1 .taken) (v .visit .ensures)
 
 step-requires : tie.Need-step-requires
 step-requires c κs =
     let i = c .before .before .before .before in
-    let q = i .before .before .before .before .before .before .pre in
+    let q = i .before .before .before .before .before .pre in
     (q .0, (q .1, omega (arith, i .if1 .left)))
 
 same-length-2 : tie.Need-same-length-2

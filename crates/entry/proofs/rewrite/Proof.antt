@@ -2,7 +2,7 @@
 use borrow.Author.Needs.{needs}
 use mathlib.Core.Path.{refl}
 use native.Mathlib.Omega.{arith}
-use Rattle.entry.proofs.Rewriting.{whole-present, whole-operator, units-due, proceed-asks, rewrites-left, whole-rewrote, whole-spent, whole-full, whole-missed}
+use Rattle.entry.proofs.Rewriting.{whole-present, whole-operator, units-due, proceed-asks, mark-asks, rewrites-left, whole-rewrote, whole-spent, whole-full, whole-missed}
 use Rattle.entry.proofs.rewrite.Statement.{statement}
 use Rattle.entry.proofs.rewrite.Tie as tie
 
@@ -34,6 +34,16 @@ proceed-requires c κs =
     let t = q .1 .0 in
     rw (t .3) (proceed-asks (q .0) (t .0) (t .1) (t .2) (q .1 .1) refl e (t .3) (rw (m .enum-told .given .1) at (w .rewrite .ensures) .0))
 
+mark-last-requires : tie.Need-mark-last-requires
+mark-last-requires c κs =
+    let m = c .before .before .before .before .before .before in
+    let w = m .before .before .before .before in
+    let a = w .before .before .before .before .before in
+    let q = a .before .before .before .before .before .pre in
+    let e = a .offset .ensures .0 in
+    let t = q .1 .0 in
+    rw (t .3) (mark-asks (q .0) (t .0) (t .1) (t .2) (q .1 .1) refl e (t .3) (rw (m .enum-told .given .1) at (w .rewrite .ensures) .0))
+
 enum-told-2 : tie.Need-enum-told-2
 enum-told-2 c = search needs
 
@@ -58,7 +68,7 @@ same-length c = search needs
 
 returns : tie.Need-returns
 returns c =
-    let g = c .before .before in
+    let g = c .before .before .before .before in
     let m = g .before .before .before in
     let w = m .before .before .before .before in
     let a = w .before .before .before .before .before in
@@ -66,7 +76,7 @@ returns c =
     let e = a .offset .ensures .0 in
     let t = q .1 .0 in
     let d = rw (m .enum-told .given .1) at (w .rewrite .ensures) in
-    whole-missed (q .0) (t .0) (t .1) (t .2) (q .1 .1) refl e (t .3) (d .0) _ (d .1) (rw (t .3) at (g .proceed .ensures))
+    whole-missed (q .0) (t .0) (t .1) (t .2) (q .1 .1) refl e (t .3) (d .0) _ (d .1) (rw (t .3) at (g .proceed .ensures)) (rw (t .3) at (c .mark-last .ensures))
 
 same-length-2 : tie.Need-same-length-2
 same-length-2 c = search needs
@@ -116,6 +126,7 @@ rewrite-spec =
     rewrite-requires
     enum-told
     proceed-requires
+    mark-last-requires
     enum-told-2
     rewritten-requires
     enum-told-3

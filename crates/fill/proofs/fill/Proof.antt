@@ -3,7 +3,7 @@ use mathlib.Core.Path.{refl}
 use Prim.Native.Nat.{_≤_}
 use native.Mathlib.Omega.{arith}
 use borrow.Author.Needs.{needs}
-use Rattle.term.specs.Present.{operators-in}
+use Rattle.term.specs.Present.{operators-in, marks-in}
 use Rattle.rule.specs.Packed.{binding}
 use Rattle.fill.proofs.Filling.{Filling, filling-starts, filling-ready, filling-went, filling-stopped, filling-ended}
 use Rattle.fill.proofs.fill.Statement.{statement}
@@ -11,7 +11,7 @@ use Rattle.fill.proofs.fill.Tie as tie
 
 abbrev Inv-loop : tie.InvT-loop
 Inv-loop book at operators symbols limit bound scratch₀ codes i₀ k₀ scratch i k =
-    (i ≤ 64) × (k ≤ limit) × Filling book at operators (operators-in symbols) (binding bound) i k scratch
+    (i ≤ 64) × (k ≤ limit) × Filling book at operators (operators-in symbols) (marks-in symbols) (binding bound) i k scratch
 
 abbrev μ-loop : tie.MeasureT-loop
 μ-loop book at operators symbols limit bound scratch₀ codes i₀ k₀ scratch i k = i
@@ -42,7 +42,7 @@ loop-again c =
     let o = n .before .before in
     let l = o .before .before .before in
     let s = rw (n .n .given .1) at (o .fill-one .ensures) in
-    (omega arith, s .is .2, filling-went (l .before .decode .ensures) (l .loop .inv .2) (omega arith) s)
+    (omega arith, s .is .4, filling-went (l .before .decode .ensures) (l .loop .inv .2) (omega arith) s)
 
 returns-2 : tie.Need-returns-2 Inv-loop μ-loop
 returns-2 c = let i = c .before .loop .inv in filling-ended (i .2) (omega arith) (i .1)

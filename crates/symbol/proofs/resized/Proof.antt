@@ -1,13 +1,14 @@
 -- `symbol::resized` meets its contract. Assumes nothing.
 use native.Mathlib.Omega.{arith}
 use borrow.Author.Needs.{needs}
-use Rattle.symbol.specs.Record.{size}
-use Rattle.symbol.proofs.Record.{resized-fits, operator-resized, size-resized}
+use Rattle.symbol.specs.Record.{operator, size}
+use Rattle.symbol.proofs.Record.{same-bit}
 use Rattle.symbol.proofs.resized.Statement.{statement}
 use Rattle.symbol.proofs.resized.Tie as tie
 
 sub-result : tie.Need-sub-result
-sub-result c = resized-fits (c .args .x) (c .args .less) (omega arith)
+unfolding size
+sub-result c = omega arith
 
 -- the record stays far below 2 ^ 32
 add-result : tie.Need-add-result
@@ -15,9 +16,8 @@ unfolding size
 add-result c = search needs
 
 returns : tie.Need-returns
-returns c =
-    (operator-resized (c .args .x) (c .args .less) (c .args .more) (omega arith), size-resized (c .args .x) (c .args .less) (c .args .more) (omega arith))
+unfolding operator size
+returns c = (omega arith, omega arith, same-bit _ _ (omega arith))
 
 pub resized-spec : {M : Type 1} → statement M
-resized-spec =
-    tie.close (tie.spec (λ c. search needs) (λ c. search needs) sub-result (λ c. search needs) (λ c. search needs) add-result returns)
+resized-spec = tie.close (tie.spec (λ c. search needs) sub-result (λ c. search needs) add-result returns)

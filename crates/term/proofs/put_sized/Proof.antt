@@ -32,7 +32,7 @@ returns c =
     let a = c .before .before .before .before .args in
     let e = c .before .argument .ensures ∙ ap (λ (k : ℕ). hop (sizes (now (a .symbols))) k (a .at + 1)) (c .before .before .arity .ensures .0) in
     record {
-      is = (c .make .result, refl, c .make .ensures .0, omega (arith, c .make .ensures .1));
+      is = (c .make .result, refl, c .make .ensures .0, omega (arith, c .make .ensures .1), c .make .ensures .2);
       long = length-set (now (a .symbols)) (a .at) (c .make .result) ∙ c .before .before .before .before .pre .0;
     }
 
