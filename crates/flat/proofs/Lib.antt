@@ -17,7 +17,6 @@ pub mod Bounds
 pub mod Counts
 pub mod Heights
 pub mod Lengths
-pub mod Lenders
 pub mod Placing
 pub mod Alone
 pub mod Rules

@@ -42,8 +42,10 @@ pub mod Fork
 pub mod Queue
 pub mod Idle
 pub mod Longest
+pub mod Owners
 pub mod Exit
 pub mod Entry
+pub mod Parts
 pub mod Progress
 pub mod Course
 pub mod Outside
@@ -51,6 +53,7 @@ pub mod Lasting
 pub mod Joined
 pub mod Waits
 pub mod Demand3
+pub mod Placing
 pub mod Above
 pub mod OneUnit
 pub mod Change10
