@@ -5,20 +5,19 @@ use mathlib.Core.Bool.{true, false}
 use mathlib.Core.List.{List, [], _∷_}
 use mathlib.Core.Logic.{inl, inr}
 use mathlib.Core.Option.{none, some}
-use Prim.Native.Nat.{ℕ, zero, suc, _+_, _*_, _-_, _≤_, _<_}
+use Prim.Native.Nat.{ℕ, zero, suc, _-_, _≤_, _<_}
 use native.Mathlib.Omega.{arith}
 use lib.ListN.{length, getD, drop, length-drop}
 use types.Run.{OneOf}
 use denote.Enum.Declared.{tagOf}
 use Rattle.paper.specs.Strategy.{Step}
-use Rattle.paper.specs.Book.{Book, arity, steps}
+use Rattle.paper.specs.Book.{Book, steps}
 use Rattle.paper.specs.Machine as paper
 use Rattle.paper.specs.Sound.{In, Sound}
 use Rattle.paper.proofs.Books.{good-book-sound}
-use Rattle.flat.specs.Symbols.{argument}
-use Rattle.flat.specs.Machine.{Frame, FlatUnit, flat-unit, unit, FlatState, going, carry-out, turn, flat-entry}
+use Rattle.flat.specs.Machine.{Frame, FlatUnit, flat-unit, unit, FlatState, going, proceed, carry-out, turn, flat-entry}
 use Rattle.flat.specs.Rules.{stack, Rules, Numbers}
-use Rattle.flat.proofs.Steps.{Settled, good-settled}
+use Rattle.flat.proofs.Steps.{Shape, Settled, good-settled, shape-drop}
 use Rattle.flat.proofs.Rules as reached
 use Rattle.flat.proofs.Inside.{room-next}
 use Rattle.flat.proofs.Run.{reached-inv}
@@ -38,11 +37,26 @@ use Rattle.units.specs.Stacks.{store, rank-in, busy-in, height-in, unit-in}
 use Rattle.units.specs.Contracts.{Top-is, Has-frame}
 use Rattle.units.specs.declared.frames.Job.{Job}
 use Rattle.units.proofs.Units.{length-units, unit-at, height-at, busy-rank, idle-rank}
-use Rattle.orders.specs.Contracts.{Can-proceed}
+use Rattle.orders.specs.Contracts.{is-some, Can-proceed}
+use Rattle.orders.proofs.Steps.{proceed-some}
 use Rattle.whole.specs.declared.Progress.{Progress}
 use Rattle.whole.specs.declared.Limits.{Limits}
 use Rattle.entry.specs.State.{limited, state, Arrays}
 use Rattle.entry.specs.Contracts.{Running, Turn, Working}
+
+-- VISIT, FORK or JOIN: since steps end in WHOLE, one is left behind it
+abbrev pub Inner : Step → Type 0
+Inner (Step.visit i) = Unit {0}
+Inner (Step.fork i) = Unit {0}
+Inner (Step.join c) = Unit {0}
+Inner Step.whole = ⊥
+
+some-behind : (y : Step) (ss : List Step) → Inner y → Shape (y ∷ ss) → is-some ss ≡ true
+some-behind (Step.visit i) [] q h = absurd (h .0)
+some-behind (Step.fork i) [] q h = absurd (h .0)
+some-behind (Step.join c) [] q h = absurd (h .0)
+some-behind Step.whole [] q h = absurd q
+some-behind y (s ∷ ss) q h = refl
 
 -- a state of a run, and unit u whose turn it is
 module _ {bytes operators net symbols scratch work units : List ℕ} {u : ℕ} {p : Progress} {l : Limits} (z : Arrays symbols scratch work units l)
@@ -202,3 +216,14 @@ module _ {bytes operators net symbols scratch work units : List ℕ} {u : ℕ} {
           let k : suc (x .next - 1) ≡ x .next = omega arith in
           ap (drop (x .next - 1)) (sym steps-are) ∙ here-is rowed (x .next - 1) (omega (arith, next-most)) (some y) e .0
           ∙ ap₂ (λ (j : ℕ) (ss : List Step). y ∷ drop j ss) k steps-are
+
+      -- where it is VISIT, FORK or JOIN, the job goes on with the step behind it
+      module _ (q : Inner y) where
+        pub more : is-some (drop (x .next) (steps-in operators o)) ≡ true
+        more =
+            ap (λ (ss : List Step). is-some (drop (x .next) ss)) steps-are
+            ∙ some-behind y (drop (x .next) (steps B o)) q (subst Shape step-is (shape-drop (x .next - 1) (steps B o) (is-settled o)))
+
+        pub goes-on : (c : ℕ) (fs : List Frame) →
+            proceed (x .offset) (suc (x .next)) c (drop (x .next) (steps-in operators o)) fs ≡ Frame.job (x .offset) (suc (x .next)) c ∷ fs
+        goes-on = proceed-some (drop (x .next) (steps-in operators o)) more (x .offset) (suc (x .next))

@@ -1,26 +1,29 @@
 -- FORK as an entry. Assumes nothing.
-use mathlib.Core.Path.{_≡_, refl, sym, ap, subst, subst₂, _∙_}
+use mathlib.Core.Path.{_≡_, refl, sym, ap, subst, _∙_}
 use mathlib.Core.Bool.{Bool, true, false}
-use mathlib.Core.List.{List, [], _∷_}
+use mathlib.Core.List.{List, _∷_}
 use mathlib.Core.Logic.{_≢_}
 use mathlib.Core.Option.{Option, none, some}
-use Prim.Native.Nat.{ℕ, suc, _+_, _-_, _≤_, _<_, pred}
+use Prim.Native.Nat.{ℕ, _+_, _-_, _≤_, _<_, pred}
 use native.Mathlib.Omega.{arith}
-use lib.ListN.{length, getD, drop, length-drop, length-set}
+use lib.ListN.{length, drop, length-set}
 use lib.ListN.{set as put}
 use lib.Seq.{getD-set-same}
 use Rattle.paper.specs.Strategy.{Step}
 use Rattle.paper.specs.Book.{arity, steps}
-use Rattle.flat.specs.Machine.{Frame, FlatUnit, flat-unit, asleep, FlatState, FlatOutcome, unit, going, proceed, first-idle, do-fork, do-step, flat-entry}
+use Rattle.flat.specs.Sizes.{hop}
+use Rattle.flat.specs.Machine.{Frame, FlatUnit, flat-unit, asleep, FlatState, unit, going, first-idle, do-fork, do-step, flat-entry}
 use Rattle.flat.specs.Rules.{stack}
 use Rattle.flat.proofs.Idle.{idle-is, idle-other, leave-stack}
 use Rattle.flat.proofs.Inside.{fork-within}
+use Rattle.symbol.specs.Record.{sizes}
 use Rattle.tables.specs.Layout.{step-of, code-in, steps-in}
 use Rattle.net.proofs.Laws.{tables-by}
 use Rattle.units.specs.Stacks.{store, height-in, units-in}
 use Rattle.units.specs.declared.frames.Job.{Job}
 use Rattle.orders.specs.Contracts as O
 use Rattle.orders.proofs.Tables.{argument-by, argument-said}
+use Rattle.orders.proofs.Changes.{argument-found}
 use Rattle.orders.proofs.Entries as entries
 use Rattle.whole.specs.declared.Progress.{Progress}
 use Rattle.whole.specs.declared.Limits.{Limits}
@@ -77,11 +80,12 @@ module _ {bytes operators net symbols scratch work units : List ℕ} {u : ℕ} {
       omega (arith, F.room-after z r t s′ q v, ap length h, ap (λ (y : FlatUnit). length (y .stack)) (getD-set-same us v y (asleep 1) m))
 
   -- kept: the stack after the entry fits
-  kept-fits : first-idle (s .units) ≡ none → O.Room-for (O.keeps ss x (a .offset)) u (store work units)
+  kept-fits : first-idle (s .units) ≡ none → O.Room-for (O.keeps x (a .offset)) u (store work units)
   unfolding do-fork
   kept-fits q =
-      subst (λ (gs : List Frame). length (O.keeps ss x (a .offset) gs) ≤ 1026) (sym (F.stack-kept z r t u (t .one)))
-      (stack-fits _ (s .units) u (flat-unit 0 (O.keeps ss x (a .offset) (stack s u))) (by-idle none q) refl inside)
+      subst (λ (gs : List Frame). length (O.keeps x (a .offset) gs) ≤ 1026) (sym (F.stack-kept z r t u (t .one)))
+      (subst (λ (gs : List Frame). length (Frame.job (a .offset) 0 0 ∷ gs) ≤ 1026) (F.goes-on z r t w one e tt (pred (x .count)) fs)
+      (stack-fits _ (s .units) u (flat-unit 0 (Frame.job (a .offset) 0 0 ∷ O.goes-on ss x (pred (x .count)) (stack s u))) (by-idle none q) refl inside))
 
   -- granted: two frames more fit on the idle unit's stack
   granted-fits : (v : ℕ) → first-idle (s .units) ≡ some v → (v ≢ u) × (height-in units v + 2 ≤ 1026)
@@ -96,25 +100,36 @@ module _ {bytes operators net symbols scratch work units : List ℕ} {u : ℕ} {
         omega (arith, h, F.height-is z r t v (omega (arith, m, F.units-count z r t))),
       )
 
-  pub fork-asks : O.Can-fork ss x a (l .units) u (store work units)
-  fork-asks = record { job = F.can-proceed z r t w; few = z .few; keep = kept-fits; grant = granted-fits }
-
   -- the state behind a FORK is that of the counts behind it
   counted : (work′ units′ : List ℕ) (g : Bool) → entries.counted-fork s (units-in (store work′ units′) (l .units)) g ≡ state symbols work′ units′ (forked p g) l
   counted work′ units′ true = refl
   counted work′ units′ false = refl
 
-  pub fork-entered : {work′ units′ : List ℕ} {g : Bool} → O.Forked ss x a (l .units) u (store work units) (store work′ units′) g → (p′ : Progress) → p′ ≡ forked p g →
-      (going (state symbols work′ units′ p′ l) ≡ flat-entry (F.B z r t) (F.L z r t) u s) × Arrays symbols scratch work′ units′ l
-  fork-entered {work′} {units′} {g} d p′ h =
-      subst (λ (q : Progress). (going (state symbols work′ units′ q l) ≡ flat-entry (F.B z r t) (F.L z r t) u s) × Arrays symbols scratch work′ units′ l) (sym h) (
-        sym (
-            F.entry-is z r t (w .busy) (w .top)
-            ∙ entries.fork-entry (F.B z r t) (F.L z r t) u (l .units) s (store work units) refl (t .one) _ fs (F.unit-is z r t (w .busy) (w .top)) (tables-by (r .netted))
-            (r .known) x (omega (arith, F.offset-inside z r t w, F.length-is z r t)) one (omega (arith, F.next-most z r t w)) i
-            (subst (λ (q : ℕ). some (Step.fork i) ≡ step-of (code-in operators q (x .next - 1))) (sym (F.operator-is z r t w)) e) there
-            (subst (λ (q : ℕ). O.Forked (steps-in operators q) x a (l .units) u (store work units) (store work′ units′) g) (sym (F.operator-is z r t w)) d)
-            ∙ ap (λ (y : FlatState). going y) (counted work′ units′ g)
-            ),
-        record { symbols-long = z .symbols-long; scratch-long = z .scratch-long; most = z .most; fit = d .fit; few = z .few },
-      )
+  -- found at offset b
+  module _ {b : ℕ} (eb : b ≡ hop (sizes symbols) i (x .offset + 1)) where
+    at : b ≡ a .offset
+    at = argument-found (fork-place .place) eb
+
+    pub fork-asks : b < 1024 → O.Can-fork x b (l .units) u (store work units)
+    fork-asks h = record {
+      job = F.can-proceed z r t w;
+      offset = h;
+      few = z .few;
+      keep = λ q. subst (λ (k : ℕ). O.Room-for (O.keeps x k) u (store work units)) (sym at) (kept-fits q);
+      grant = granted-fits;
+    }
+
+    pub fork-entered : {work′ units′ : List ℕ} {g : Bool} → O.Forked x b (l .units) u (store work units) (store work′ units′) g → (p′ : Progress) → p′ ≡ forked p g →
+        (going (state symbols work′ units′ p′ l) ≡ flat-entry (F.B z r t) (F.L z r t) u s) × Arrays symbols scratch work′ units′ l
+    fork-entered {work′} {units′} {g} d p′ h =
+        subst (λ (q : Progress). (going (state symbols work′ units′ q l) ≡ flat-entry (F.B z r t) (F.L z r t) u s) × Arrays symbols scratch work′ units′ l) (sym h) (
+          sym (
+              F.entry-is z r t (w .busy) (w .top)
+              ∙ entries.fork-entry (F.B z r t) (F.L z r t) u (l .units) s (store work units) refl (t .one) _ fs (F.unit-is z r t (w .busy) (w .top)) (tables-by (r .netted))
+              (r .known) x (omega (arith, F.offset-inside z r t w, F.length-is z r t)) one (omega (arith, F.next-most z r t w)) (orders.more z r t w one e tt) i
+              (subst (λ (q : ℕ). some (Step.fork i) ≡ step-of (code-in operators q (x .next - 1))) (sym (F.operator-is z r t w)) e) there
+              (subst (λ (k : ℕ). O.Forked x k (l .units) u (store work units) (store work′ units′) g) at d)
+              ∙ ap (λ (y : FlatState). going y) (counted work′ units′ g)
+              ),
+          record { symbols-long = z .symbols-long; scratch-long = z .scratch-long; most = z .most; fit = d .fit; few = z .few },
+        )

@@ -104,17 +104,17 @@ module _ {operators symbols : List ℕ} {x : Job} {i : ℕ} (q : O.Argument-insi
         ap (λ (j : ℕ). record { offset = j; steps = to-do operators symbols j }) (sym found)
         ∙ ap₂ (λ (j : ℕ) (ts : List Step). record { offset = j; steps = ts }) ek e
 
-    argument-visited-by : {rs : List Step} {u : ℕ} {symbols′ : List ℕ} {s s′ : Store} → O.Argument-visited rs x (record { offset = b; steps = ss }) u s s′ →
-        Marked-left (length ss) k symbols symbols′ → Argument-visited operators rs x i u symbols symbols′ s s′
-    argument-visited-by {rs} {u} {symbols′} {s} {s′} d m = record {
-      stack = subst (λ (p : O.Argument). O.Argument-visited rs x p u s s′) (sym visit-is) d;
+    argument-visited-by : {u : ℕ} {symbols′ : List ℕ} {s s′ : Store} → O.Argument-visited x (record { offset = b; steps = ss }) u s s′ →
+        Marked-left (length ss) k symbols symbols′ → Argument-visited operators x i u symbols symbols′ s s′
+    argument-visited-by {u} {symbols′} {s} {s′} d m = record {
+      stack = subst (λ (p : O.Argument). O.Argument-visited x p u s s′) (sym visit-is) d;
       marks = subst (λ (p : O.Argument). Marked-left (length (p .steps)) (p .offset) symbols symbols′) (sym visit-is)
           (subst (λ (j : ℕ). Marked-left (length ss) j symbols symbols′) ek m);
     }
 
   -- it is marked: the job goes on alone
-  pub argument-dropped : marked (getD symbols k 0) ≡ true → {rs : List Step} {u : ℕ} {s s′ : Store} → O.Proceeded rs x u s s′ →
-      Argument-visited operators rs x i u symbols symbols s s′
+  pub argument-dropped : marked (getD symbols k 0) ≡ true → {u : ℕ} {s s′ : Store} → O.Advanced x u s s′ →
+      Argument-visited operators x i u symbols symbols s s′
   unfolding proceed
   argument-dropped m d =
       argument-visited-by (to-do-none operators symbols argument-there m) (record { change = d .change }) (stays-marked operators symbols argument-there m)
@@ -124,9 +124,9 @@ module _ {operators symbols : List ℕ} {x : Job} {i : ℕ} (q : O.Argument-insi
     its-steps : to-do operators symbols k ≡ steps-in operators o
     its-steps = to-do-all operators symbols argument-there m eo
 
-    pub can-visit : {rs : List Step} {u : ℕ} {s : Store} → O.Can-visit rs x (visit-of operators symbols x i) u s → O.Can-visit rs x (O.argument-at operators b o) u s
-    can-visit {rs} {u} {s} c = subst (λ (p : O.Argument). O.Can-visit rs x p u s) (visit-is its-steps) c
+    pub can-visit : {u : ℕ} {s : Store} → O.Can-visit x (visit-of operators symbols x i) u s → O.Can-visit x (O.argument-at operators b o) u s
+    can-visit {u} {s} c = subst (λ (p : O.Argument). O.Can-visit x p u s) (visit-is its-steps) c
 
-    pub argument-entered : {rs : List Step} {u : ℕ} {symbols′ : List ℕ} {s s′ : Store} → O.Argument-visited rs x (O.argument-at operators b o) u s s′ →
-        Marked-left (length (steps-in operators o)) k symbols symbols′ → Argument-visited operators rs x i u symbols symbols′ s s′
+    pub argument-entered : {u : ℕ} {symbols′ : List ℕ} {s s′ : Store} → O.Argument-visited x (O.argument-at operators b o) u s s′ →
+        Marked-left (length (steps-in operators o)) k symbols symbols′ → Argument-visited operators x i u symbols symbols′ s s′
     argument-entered d n = argument-visited-by its-steps d n

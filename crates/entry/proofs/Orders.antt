@@ -151,6 +151,11 @@ module _ {bytes operators net symbols scratch work units : List ℕ} {u : ℕ} {
           ∙ ap (λ (q : ℕ). do-step (F.B z r t) (F.L z r t) u s (x .offset) (x .next) (x .count) (y ∷ drop (x .next) (steps-in operators q)) fs)
           (F.operator-is z r t w)
 
+      -- a step behind it is left
+      pub more : {y : Step} → some y ≡ step-of (code-in operators o (x .next - 1)) → F.Inner y →
+          O.is-some (drop (x .next) (steps-in operators (getD (s .symbols) (x .offset) 0))) ≡ true
+      more e q = by-operator (λ (j : ℕ). O.is-some (drop (x .next) (steps-in operators j)) ≡ true) (F.more z r t w one e q)
+
       -- a stack that the machine gives unit u fits
       pub next-fits : (k : ℕ) (gs : List Frame) (ms : List Bool) → flat-entry (F.B z r t) (F.L z r t) u s ≡ going (with-marks (with-unit s u k gs) ms) → length gs ≤ 1026
       next-fits k gs ms e =
@@ -186,28 +191,27 @@ module _ {bytes operators net symbols scratch work units : List ℕ} {u : ℕ} {
         a = visit-of operators symbols x i
 
         -- the stack after the entry fits
-        visit-fits : O.Room-for (O.visits (steps-in operators o) x a) u (store work units)
+        visit-fits : O.Room-for (O.visits x a) u (store work units)
         unfolding do-step do-visit visit
         visit-fits =
             let said = visit-said (tables-by (r .netted)) (s .symbols) (r .known) (s .marks) x i (argument-there visit-there) in
             let b = visit-by (F.B z r t) (s .symbols) (s .marks) x i in
-            subst₂ (λ (b : O.Argument) (gs : List Frame). length (O.visits (steps-in operators o) x b gs) ≤ 1026) (sym said)
+            subst₂ (λ (b : O.Argument) (gs : List Frame). length (O.visits x b gs) ≤ 1026) (sym said)
             (sym (F.stack-kept z r t u (t .one)))
-            (next-fits 0 (O.visits (steps-in operators o) x b (stack s u)) (mark (length (b .steps)) (b .offset) (s .marks)) (step-entry e))
+            (next-fits 0 (O.visits x b (stack s u)) (mark (length (b .steps)) (b .offset) (s .marks))
+            (step-entry e ∙ ap (do-visit (F.B z r t) (F.L z r t) u s (b .offset)) (F.goes-on z r t w one e tt (x .count) fs)))
 
-        pub visit-argument-asks : O.Can-visit (steps-in operators o) x a u (store work units)
+        pub visit-argument-asks : O.Can-visit x a u (store work units)
         visit-argument-asks = record { job = F.can-proceed z r t w; room = visit-fits }
 
         pub visited-argument : {symbols′ work′ units′ : List ℕ} →
-            Argument-visited operators (steps-in operators o) x i u symbols symbols′ (store work units) (store work′ units′) → GoesOn symbols′ work′ units′
-        visited-argument {work′ = work′} {units′ = units′} d =
+            Argument-visited operators x i u symbols symbols′ (store work units) (store work′ units′) → GoesOn symbols′ work′ units′
+        visited-argument d =
             went-marked (d .marks) (d .stack .change .fit)
             (F.entry-is z r t (w .busy) (w .top)
             ∙ entries.visit-argument-entry (F.B z r t) (F.L z r t) u (l .units) s (store work units) refl (t .one) _ fs (F.unit-is z r t (w .busy) (w .top))
-            (tables-by (r .netted)) (r .known) x inside one (omega (arith, F.next-most z r t w)) i
-            (by-operator (λ (q : ℕ). some (Step.visit i) ≡ step-of (code-in operators q (x .next - 1))) e)
-            (argument-there visit-there)
-            (by-operator (λ (q : ℕ). O.Argument-visited (steps-in operators q) x a u (store work units) (store work′ units′)) (d .stack)))
+            (tables-by (r .netted)) (r .known) x inside one (omega (arith, F.next-most z r t w)) (more e tt) i
+            (by-operator (λ (q : ℕ). some (Step.visit i) ≡ step-of (code-in operators q (x .next - 1))) e) (argument-there visit-there) (d .stack))
 
       -- JOIN
       pub joined : {c : ℕ} → some (Step.join c) ≡ step-of (code-in operators o (x .next - 1)) → {work′ units′ : List ℕ} →
@@ -216,6 +220,6 @@ module _ {bytes operators net symbols scratch work units : List ℕ} {u : ℕ} {
           went-on (d .change .fit)
           (F.entry-is z r t (w .busy) (w .top)
           ∙ entries.join-entry (F.B z r t) (F.L z r t) u (l .units) s (store work units) refl (t .one) _ fs (F.unit-is z r t (w .busy) (w .top)) (tables-by (r .netted))
-          (r .known) x inside one (omega (arith, F.next-most z r t w)) c
+          (r .known) x inside one (omega (arith, F.next-most z r t w)) (more e tt) c
           (by-operator (λ (q : ℕ). some (Step.join c) ≡ step-of (code-in operators q (x .next - 1))) e) refl
           (by-operator (λ (q : ℕ). O.Joined (steps-in operators q) x (l .units) u (store work units) (store work′ units′)) d))

@@ -89,9 +89,9 @@ pub record Visited (operators : List ℕ) (a u : ℕ) (symbols symbols′ : List
 abbrev pub visit-of : List ℕ → List ℕ → Job → ℕ → O.Argument
 visit-of operators symbols x i = O.visit-of operators (operators-in symbols) (marks-in symbols) x i
 
--- its VISIT, ss being the steps of the job's operator
-pub record Argument-visited (operators : List ℕ) (ss : List Step) (x : Job) (i u : ℕ) (symbols symbols′ : List ℕ) (s s′ : Store) : Type 0 where
-  pub stack : O.Argument-visited ss x (visit-of operators symbols x i) u s s′
+-- its VISIT
+pub record Argument-visited (operators : List ℕ) (x : Job) (i u : ℕ) (symbols symbols′ : List ℕ) (s s′ : Store) : Type 0 where
+  pub stack : O.Argument-visited x (visit-of operators symbols x i) u s s′
   pub marks : Marked-left (length (visit-of operators symbols x i .steps)) (visit-of operators symbols x i .offset) symbols symbols′
 
 -- what the machine on lists does for unit u in the state s

@@ -103,32 +103,23 @@ fn visit_argument(
     symbols: &mut [u32; 1024],
     work: &mut [u8],
     units: &mut [u32; 8],
-    task: Task,
+    u: usize,
+    job: Job,
     i: u8,
 )
     ghost { Store }
     requires { λ s. ⌜ store (now work) (now units) ≡ s ⌝ }
-    requires { λ s. ⌜ Rowed (now operators) (task .operator) × O.Argument-rowed (now operators) (now symbols) (task .job) i ⌝ }
-    requires { λ s. ⌜ O.Can-visit (steps-in (now operators) (task .operator)) (task .job) (E.visit-of (now operators) (now symbols) (task .job) i) (task .unit) s ⌝ }
-    ensures { λ s _. ⌜ E.Argument-visited (now (operators .entry)) (steps-in (now (operators .entry)) (task .operator)) (task .job) i (task .unit) (now (symbols .entry)) (now (symbols .exit)) s (store (now (work .exit)) (now (units .exit))) ⌝ }
+    requires { λ s. ⌜ O.Argument-rowed (now operators) (now symbols) job i × O.Can-visit job (E.visit-of (now operators) (now symbols) job i) u s ⌝ }
+    ensures { λ s _. ⌜ E.Argument-visited (now (operators .entry)) job i u (now (symbols .entry)) (now (symbols .exit)) s (store (now (work .exit)) (now (units .exit))) ⌝ }
 {
-    let b = orders::argument(symbols, task.job, i);
+    let b = orders::argument(symbols, job, i);
     let at = casts::offset(b);
     if term::is_marked_at(symbols, at) {
-        orders::proceed(operators, work, units, task.unit, task.operator, task.job);
+        orders::advance(work, units, u, job);
         return;
     }
     let p = term::operator_at(symbols, at);
-    orders::visit_argument(
-        operators,
-        work,
-        units,
-        task.unit,
-        task.operator,
-        task.job,
-        b,
-        p,
-    );
+    orders::visit_argument(operators, work, units, u, job, b, p);
     mark_last(operators, symbols, p, 0, at);
 }
 
@@ -211,11 +202,12 @@ fn step(
     let o = task.operator;
     match tables::step_at(operators, o, job.next - 1) {
         Step::Visit(i) => {
-            visit_argument(operators, symbols, work, units, task, i);
+            visit_argument(operators, symbols, work, units, u, job, i);
             Entry::Going(p)
         }
         Step::Fork(i) => {
-            let granted = orders::fork(operators, symbols, work, units, l.units, u, o, job, i);
+            let b = orders::argument(symbols, job, i);
+            let granted = orders::fork(work, units, l.units, u, job, b);
             Entry::Going(forked(p, granted))
         }
         Step::Join(_) => {

@@ -10,7 +10,7 @@ use lib.ListN.{length, getD, drop}
 use Rattle.paper.specs.Strategy.{Step}
 use Rattle.flat.specs.Sizes.{hop}
 use Rattle.flat.specs.Machine.{Frame, FlatUnit, flat-unit, next-count, proceed, idle-count, arrive}
-use Rattle.tables.specs.Layout.{arity-in, steps-in, Rowed}
+use Rattle.tables.specs.Layout.{arity-in, Rowed}
 use Rattle.symbol.specs.Record.{operator, sizes}
 use Rattle.term.specs.Present.{length-in, operators-in, Hops}
 use Rattle.term.proofs.Sized.{operator-is, argument-hops, argument-is, argument-inside}
@@ -26,7 +26,8 @@ use Rattle.orders.specs.Contracts.{
   argument-of,
   Argument-inside,
   Restacked,
-  goes-on,
+  advances,
+  Advanced,
   Proceeded,
   enters,
   Can-enter,
@@ -41,17 +42,21 @@ use Rattle.orders.specs.Contracts.{
 }
 use Rattle.orders.proofs.Steps.{proceed-some, proceed-none}
 
--- the job goes on: it has a step, or none
+-- the job goes on
+pub advanced : {x : Job} {u : ℕ} {s s′ : Store} → Changed u (topped (Frame.job (x .offset) (x .next + 1) (x .count))) s s′ → Advanced x u s s′
+advanced {x} {u} {s} p = record {
+  change = changed-as p
+      (ap (λ (j : ℕ). flat-unit (unit-in s u .rank) (Frame.job (x .offset) j (x .count) ∷ drop 1 (unit-in s u .stack))) (add-one (x .next)));
+}
+
+-- by its steps: there is one, or none
 module _ {ss : List Step} {x : Job} {u : ℕ} {s s′ : Store} where
-  pub proceeds-some : is-some (drop (x .next) ss) ≡ true → Changed u (topped (Frame.job (x .offset) (x .next + 1) (x .count))) s s′ → Proceeded ss x u s s′
-  proceeds-some n p =
-      let fs = drop 1 (unit-in s u .stack) in
-      record {
-        change = changed-as p
-            (ap (flat-unit (unit-in s u .rank))
-            (ap (λ (j : ℕ). Frame.job (x .offset) j (x .count) ∷ fs) (add-one (x .next))
-            ∙ sym (proceed-some (drop (x .next) ss) n (x .offset) (suc (x .next)) (x .count) fs)));
-      }
+  pub proceeds-some : is-some (drop (x .next) ss) ≡ true → Advanced x u s s′ → Proceeded ss x u s s′
+  proceeds-some n p = record {
+    change = changed-as (p .change)
+        (ap (flat-unit (unit-in s u .rank))
+        (sym (proceed-some (drop (x .next) ss) n (x .offset) (suc (x .next)) (x .count) (drop 1 (unit-in s u .stack)))));
+  }
 
   pub proceeds-none : is-some (drop (x .next) ss) ≡ false → Changed u dropped s s′ → Proceeded ss x u s s′
   proceeds-none n p = record {
@@ -91,10 +96,10 @@ visited {ss} {a} {u} {s = s} {s′ = s′} q p = record {
 }
 
 pub join-passes : {ss : List Step} {x : Job} {n u c : ℕ} {s s′ : Store} → x .count ≡ 0 → Counted (drop (x .next) ss) c →
-    Proceeded ss (record { offset = x .offset; next = x .next; count = c }) u s s′ → Joined ss x n u s s′
+    Advanced (record { offset = x .offset; next = x .next; count = c }) u s s′ → Joined ss x n u s s′
 join-passes {ss} {x} {n} {u} {s = s} {s′ = s′} e q p = record {
   change =
-      let y : Restacked (goes-on ss x (next-count (drop (x .next) ss))) u s s′ = subst (λ (c : ℕ). Restacked (goes-on ss x c) u s s′) (q .is) (p .change) in
+      let y : Restacked (advances x (next-count (drop (x .next) ss))) u s s′ = subst (λ (c : ℕ). Restacked (advances x c) u s s′) (q .is) (p .change) in
       subst (λ (c : ℕ). Changed u (joins ss x (suc (idle-count (units-in s n))) c) s s′) (sym e) y;
 }
 
@@ -107,8 +112,8 @@ join-waits {ss} {x} {n} {u} {w} {c} {c′} f ne t = record { change = go (x .cou
     go (suc k) z = t .change w f
 
 -- VISIT of the argument p: the job goes on first
-module _ {ss : List Step} {x : Job} {p : Argument} {u : ℕ} {s s₁ : Store} (d : Proceeded ss x u s s₁) where
-  pub can-enter : Can-visit ss x p u s → p .offset < 1024 → Can-enter (p .steps) (p .offset) u s₁
+module _ {x : Job} {p : Argument} {u : ℕ} {s s₁ : Store} (d : Advanced x u s s₁) where
+  pub can-enter : Can-visit x p u s → p .offset < 1024 → Can-enter (p .steps) (p .offset) u s₁
   can-enter v l = record {
     fit = d .change .fit;
     unit = v .job .top .unit;
@@ -116,7 +121,7 @@ module _ {ss : List Step} {x : Job} {p : Argument} {u : ℕ} {s s₁ : Store} (d
     room = omega (arith, v .room, ap (λ (y : FlatUnit). length (enters (p .steps) (p .offset) (y .stack))) (unit-same (d .change)));
   }
 
-  pub argument-visited : {s₂ : Store} → Entered (p .steps) (p .offset) u s₁ s₂ → Argument-visited ss x p u s s₂
+  pub argument-visited : {s₂ : Store} → Entered (p .steps) (p .offset) u s₁ s₂ → Argument-visited x p u s s₂
   argument-visited e = record { change = changed-then (d .change) (e .change) }
 
 -- argument i of the job's term

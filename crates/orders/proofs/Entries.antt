@@ -5,7 +5,7 @@ use mathlib.Core.Bool.{Bool, true, false}
 use mathlib.Core.List.{List, _∷_}
 use mathlib.Core.Logic.{_≢_}
 use mathlib.Core.Option.{Option, none, some}
-use Prim.Native.Nat.{ℕ, zero, suc, _-_, _≤_, _<_}
+use Prim.Native.Nat.{ℕ, zero, suc, _-_, _≤_, _<_, pred}
 use native.Mathlib.Omega.{arith}
 use lib.ListN.{length, getD, drop}
 use lib.ListN.{set as put}
@@ -13,7 +13,7 @@ use Rattle.paper.specs.Strategy.{Step}
 use Rattle.paper.specs.Book.{Book}
 use Rattle.paper.specs.Machine.{Limits}
 use Rattle.paper.specs.Sound.{All}
-use Rattle.flat.specs.Machine.{Frame, FlatUnit, flat-unit, unit, FlatState, FlatOutcome, going, with-units, with-marks, next-count, mark, visit, idle-count, first-idle, leave, arrive, do-visit, do-fork, do-join, do-step, carry-out}
+use Rattle.flat.specs.Machine.{Frame, FlatUnit, flat-unit, unit, FlatState, FlatOutcome, going, with-units, with-marks, next-count, proceed, mark, visit, idle-count, first-idle, leave, arrive, do-visit, do-fork, do-join, do-step, carry-out}
 use Rattle.tables.specs.Layout.{step-of, code-in, steps-in}
 use Rattle.tables.specs.Tables.{Tables}
 use Rattle.tables.proofs.Rows.{here-is}
@@ -24,12 +24,13 @@ use Rattle.units.specs.declared.frames.Job.{Job}
 use Rattle.units.specs.declared.frames.Exit.{Exit}
 use Rattle.units.proofs.Units.{height-at, at-is, at-else}
 use Rattle.orders.specs.Contracts.{
+  is-some,
   to-do-in,
   Argument,
   argument-of,
   visit-of,
   restack,
-  goes-on,
+  advances,
   enters,
   Visited,
   visits,
@@ -43,6 +44,7 @@ use Rattle.orders.specs.Contracts.{
   grants,
   Forked,
 }
+use Rattle.orders.proofs.Steps.{proceed-some}
 use Rattle.orders.proofs.Tables.{rowed-said, steps-said, argument-by, argument-said, to-do-said, visit-said}
 
 -- the state with other units, after a FORK that was granted or kept
@@ -123,63 +125,70 @@ module _ (B : Book) (L : Limits) (u n : ℕ) (s : FlatState) (t : Store) (us : s
               (ap (drop k) (sym (steps-said T (s .symbols) known (x .offset) lx))
               ∙ here-is (rowed-said T (s .symbols) known (x .offset) lx) k (omega arith) (some st) (rw j at q) .0)
 
-      pub visit-argument-entry : (i : ℕ) {t′ : Store} → some (Step.visit i) ≡ step-of (code-in operators (operator (x .offset)) (x .next - 1)) →
-          argument-by B (s .symbols) x i .offset < length (s .symbols) →
-          let a = visit-of operators (s .symbols) (s .marks) x i in
-          Argument-visited ss x a u t t′ →
-          carry-out B L u s fs (Frame.job (x .offset) (x .next) (x .count)) ≡
-          going (with-marks (with-units s (units-in t′ n)) (mark (length (a .steps)) (a .offset) (s .marks)))
-      unfolding do-step do-visit visit
-      visit-argument-entry i q la d =
-          let a = visit-of operators (s .symbols) (s .marks) x i in
-          step-entry (Step.visit i) q
-          ∙ ap (λ (a : Argument).
-          going (with-marks (with-units s (put (s .units) u (flat-unit 0 (visits ss x a (f ∷ fs))))) (mark (length (a .steps)) (a .offset) (s .marks))))
-          (sym (visit-said T (s .symbols) known (s .marks) x i la))
-          ∙ changed-with (mark (length (a .steps)) (a .offset) (s .marks)) (flat-unit 0 (visits ss x a (f ∷ fs))) (d .change) refl
+      -- one that has another behind it
+      module _ (more : is-some (drop (x .next) ss) ≡ true) where
+        goes : (c : ℕ) → proceed (x .offset) (suc (x .next)) c (drop (x .next) ss) fs ≡ advances x c (f ∷ fs)
+        goes c = proceed-some (drop (x .next) ss) more (x .offset) (suc (x .next)) c fs
 
-      pub join-entry : (c : ℕ) {t′ : Store} → some (Step.join c) ≡ step-of (code-in operators (operator (x .offset)) (x .next - 1)) →
-          f ≡ Frame.job (x .offset) (x .next) (x .count) → Joined ss x n u t t′ →
-          carry-out B L u s fs (Frame.job (x .offset) (x .next) (x .count)) ≡ going (with-units s (units-in t′ n))
-      unfolding do-step do-join
-      join-entry c {t′} q h d = step-entry (Step.join c) q ∙ go (x .count) h (d .change)
-        where
-          go : (k : ℕ) → f ≡ Frame.job (x .offset) (x .next) k → Changed u (joins ss x (suc (idle-count (units-in t n))) k) t t′ →
-              do-join B L u s (x .offset) (x .next) k (drop (x .next) ss) fs ≡ going (with-units s (units-in t′ n))
-          go zero z y = changed (flat-unit 0 (goes-on ss x (next-count (drop (x .next) ss)) (f ∷ fs))) y refl
-          go (suc k) z y =
-              changed (flat-unit last (Frame.job (x .offset) (x .next) (suc k) ∷ fs)) y (ap₂ (λ (r : ℕ) (b : Frame). flat-unit r (b ∷ fs)) last-is (sym z))
+        pub visit-argument-entry : (i : ℕ) {t′ : Store} → some (Step.visit i) ≡ step-of (code-in operators (operator (x .offset)) (x .next - 1)) →
+            argument-by B (s .symbols) x i .offset < length (s .symbols) →
+            let a = visit-of operators (s .symbols) (s .marks) x i in
+            Argument-visited x a u t t′ →
+            carry-out B L u s fs (Frame.job (x .offset) (x .next) (x .count)) ≡
+            going (with-marks (with-units s (units-in t′ n)) (mark (length (a .steps)) (a .offset) (s .marks)))
+        unfolding do-step do-visit visit
+        visit-argument-entry i q la d =
+            let a = visit-of operators (s .symbols) (s .marks) x i in
+            step-entry (Step.visit i) q ∙ ap (do-visit B L u s (argument-by B (s .symbols) x i .offset)) (goes (x .count))
+            ∙ ap (λ (a : Argument).
+            going (with-marks (with-units s (put (s .units) u (flat-unit 0 (visits x a (f ∷ fs))))) (mark (length (a .steps)) (a .offset) (s .marks))))
+            (sym (visit-said T (s .symbols) known (s .marks) x i la))
+            ∙ changed-with (mark (length (a .steps)) (a .offset) (s .marks)) (flat-unit 0 (visits x a (f ∷ fs))) (d .change) refl
 
-      -- FORK, by the unit that is idle
-      height-here : height-in (t .cells) u - 1 ≡ length fs
-      height-here =
-          let q = height-at (t .work) (t .cells) n u l in
-          let p = ap (λ (y : List FlatUnit). length (unit y u .stack)) us in
-          let r = ap (λ (y : FlatUnit). length (y .stack)) e in
-          omega arith
+        pub join-entry : (c : ℕ) {t′ : Store} → some (Step.join c) ≡ step-of (code-in operators (operator (x .offset)) (x .next - 1)) →
+            f ≡ Frame.job (x .offset) (x .next) (x .count) → Joined ss x n u t t′ →
+            carry-out B L u s fs (Frame.job (x .offset) (x .next) (x .count)) ≡ going (with-units s (units-in t′ n))
+        unfolding do-step do-join
+        join-entry c {t′} q h d = step-entry (Step.join c) q ∙ go (x .count) h (d .change)
+          where
+            go : (k : ℕ) → f ≡ Frame.job (x .offset) (x .next) k → Changed u (joins ss x (suc (idle-count (units-in t n))) k) t t′ →
+                do-join B L u s (x .offset) (x .next) k (drop (x .next) ss) fs ≡ going (with-units s (units-in t′ n))
+            go zero z y = let c = next-count (drop (x .next) ss) in changed (flat-unit 0 (proceed (x .offset) (suc (x .next)) c (drop (x .next) ss) fs)) y (ap (flat-unit 0) (goes c))
+            go (suc k) z y =
+                changed (flat-unit last (Frame.job (x .offset) (x .next) (suc k) ∷ fs)) y (ap₂ (λ (r : ℕ) (b : Frame). flat-unit r (b ∷ fs)) last-is (sym z))
 
-      by-idle : (b : ℕ) (r : Option ℕ) → ((v : ℕ) → r ≡ some v → v ≢ u) →
-          do-fork B L u s (x .offset) b (x .next) (x .count) (drop (x .next) ss) fs r
-          ≡ going (counted-fork s (forks ss x b u (height-in (t .cells) u) (units-in t n) r) (grants r))
-      unfolding do-fork
-      by-idle b none q = ap (λ (y : List FlatUnit). going (counted-fork s y false)) (at-here (restack (keeps ss x b)))
-      by-idle b (some v) q =
-          let g : FlatUnit → FlatUnit = restack (goes-on ss x (x .count)) in
-          let m : unit (s .units) v ≡ unit (at u g (units-in t n)) v =
-          ap (λ (y : List FlatUnit). unit y v) us ∙ sym (at-else u (units-in t n) g v (q v refl)) in
-          ap (λ (y : List FlatUnit). going (counted-fork s y true))
-          (ap₂ (λ (y : List FlatUnit) (z : FlatUnit). leave 1 (put y v z)) (at-here g)
-          (ap₂ (λ (z : FlatUnit) (j : ℕ). given u j b z) m (sym height-here)))
+        -- FORK, by the unit that is idle
+        height-here : height-in (t .cells) u - 1 ≡ length fs
+        height-here =
+            let q = height-at (t .work) (t .cells) n u l in
+            let p = ap (λ (y : List FlatUnit). length (unit y u .stack)) us in
+            let r = ap (λ (y : FlatUnit). length (y .stack)) e in
+            omega arith
 
-      pub fork-entry : (i : ℕ) {t′ : Store} {r : Bool} → some (Step.fork i) ≡ step-of (code-in operators (operator (x .offset)) (x .next - 1)) →
-          argument-by B (s .symbols) x i .offset < length (s .symbols) → Forked ss x (argument-of operators (s .symbols) x i) n u t t′ r →
-          carry-out B L u s fs (Frame.job (x .offset) (x .next) (x .count)) ≡ going (counted-fork s (units-in t′ n) r)
-      unfolding do-step
-      fork-entry i q la d =
-          let h = height-in (t .cells) u in
-          step-entry (Step.fork i) q
-          ∙ by-idle (argument-by B (s .symbols) x i .offset) (first-idle (s .units))
-          (λ v z. idle-other (s .units) u v z (ap (λ (y : FlatUnit). y .rank) e))
-          ∙ ap₂ (λ (y : List FlatUnit) (a : Argument). going (counted-fork s (forks ss x (a .offset) u h (units-in t n) (first-idle y)) (grants (first-idle y)))) us
-          (sym (argument-said T (s .symbols) known x i la))
-          ∙ ap₂ (λ (y : List FlatUnit) (z : Bool). going (counted-fork s y z)) (sym (d .units)) (sym (d .answer))
+        by-idle : (b : ℕ) (r : Option ℕ) → ((v : ℕ) → r ≡ some v → v ≢ u) →
+            do-fork B L u s (x .offset) b (x .next) (x .count) (drop (x .next) ss) fs r
+            ≡ going (counted-fork s (forks x b u (height-in (t .cells) u) (units-in t n) r) (grants r))
+        unfolding do-fork
+        by-idle b none q =
+            ap (λ (y : List FlatUnit). going (counted-fork s y false))
+            (ap (λ (gs : List Frame). put (s .units) u (flat-unit 0 (Frame.job b 0 0 ∷ gs))) (goes (pred (x .count))) ∙ at-here (restack (keeps x b)))
+        by-idle b (some v) q =
+            let g : FlatUnit → FlatUnit = restack (advances x (x .count)) in
+            let m : unit (s .units) v ≡ unit (at u g (units-in t n)) v =
+            ap (λ (y : List FlatUnit). unit y v) us ∙ sym (at-else u (units-in t n) g v (q v refl)) in
+            ap (λ (y : List FlatUnit). going (counted-fork s y true))
+            (ap₂ (λ (y : List FlatUnit) (z : FlatUnit). leave 1 (put y v z)) (ap (λ (gs : List Frame). put (s .units) u (flat-unit 0 gs)) (goes (x .count)) ∙ at-here g)
+            (ap₂ (λ (z : FlatUnit) (j : ℕ). given u j b z) m (sym height-here)))
+
+        pub fork-entry : (i : ℕ) {t′ : Store} {r : Bool} → some (Step.fork i) ≡ step-of (code-in operators (operator (x .offset)) (x .next - 1)) →
+            argument-by B (s .symbols) x i .offset < length (s .symbols) → Forked x (argument-of operators (s .symbols) x i .offset) n u t t′ r →
+            carry-out B L u s fs (Frame.job (x .offset) (x .next) (x .count)) ≡ going (counted-fork s (units-in t′ n) r)
+        unfolding do-step
+        fork-entry i q la d =
+            let h = height-in (t .cells) u in
+            step-entry (Step.fork i) q
+            ∙ by-idle (argument-by B (s .symbols) x i .offset) (first-idle (s .units))
+            (λ v z. idle-other (s .units) u v z (ap (λ (y : FlatUnit). y .rank) e))
+            ∙ ap₂ (λ (y : List FlatUnit) (a : Argument). going (counted-fork s (forks x (a .offset) u h (units-in t n) (first-idle y)) (grants (first-idle y)))) us
+            (sym (argument-said T (s .symbols) known x i la))
+            ∙ ap₂ (λ (y : List FlatUnit) (z : Bool). going (counted-fork s y z)) (sym (d .units)) (sym (d .answer))

@@ -76,7 +76,11 @@ Restacked f u s s′ = Changed u (restack f) s s′
 abbrev pub Room-for : (List Frame → List Frame) → ℕ → Store → Type 0
 Room-for f u s = length (f (unit-in s u .stack)) ≤ height
 
--- the job on top goes on behind its next order, with count c
+-- the job on top goes on with the order behind its next, with count c
+abbrev pub advances : Job → ℕ → List Frame → List Frame
+advances x c fs = Frame.job (x .offset) (suc (x .next)) c ∷ drop 1 fs
+
+-- the same by the steps: with none left, it goes
 abbrev pub goes-on : List Step → Job → ℕ → List Frame → List Frame
 goes-on ss x c fs = proceed (x .offset) (suc (x .next)) c (drop (x .next) ss) (drop 1 fs)
 
@@ -86,6 +90,9 @@ pub record Can-proceed (x : Job) (u : ℕ) (s : Store) : Type 0 where
   pub offset : x .offset < 1024
   pub next : x .next ≤ 15
   pub count : x .count < 64
+
+pub record Advanced (x : Job) (u : ℕ) (s s′ : Store) : Type 0 where
+  pub change : Restacked (advances x (x .count)) u s s′
 
 pub record Proceeded (ss : List Step) (x : Job) (u : ℕ) (s s′ : Store) : Type 0 where
   pub change : Restacked (goes-on ss x (x .count)) u s s′
@@ -107,33 +114,33 @@ pub record Visited (ss : List Step) (a u : ℕ) (s s′ : Store) : Type 0 where
   pub change : Restacked (λ (fs : List Frame). enters ss a (drop 1 fs)) u s s′
 
 -- VISIT of the argument p
-abbrev pub visits : List Step → Job → Argument → List Frame → List Frame
-visits ss x p fs = enters (p .steps) (p .offset) (goes-on ss x (x .count) fs)
+abbrev pub visits : Job → Argument → List Frame → List Frame
+visits x p fs = enters (p .steps) (p .offset) (advances x (x .count) fs)
 
-pub record Can-visit (ss : List Step) (x : Job) (p : Argument) (u : ℕ) (s : Store) : Type 0 where
+pub record Can-visit (x : Job) (p : Argument) (u : ℕ) (s : Store) : Type 0 where
   pub job : Can-proceed x u s
-  pub room : Room-for (visits ss x p) u s
+  pub room : Room-for (visits x p) u s
 
-pub record Argument-visited (ss : List Step) (x : Job) (p : Argument) (u : ℕ) (s s′ : Store) : Type 0 where
-  pub change : Restacked (visits ss x p) u s s′
+pub record Argument-visited (x : Job) (p : Argument) (u : ℕ) (s s′ : Store) : Type 0 where
+  pub change : Restacked (visits x p) u s s′
 
 -- FORK of the term at offset b that is kept
-abbrev pub keeps : List Step → Job → ℕ → List Frame → List Frame
-keeps ss x b fs = Frame.job b 0 0 ∷ goes-on ss x (pred (x .count)) fs
+abbrev pub keeps : Job → ℕ → List Frame → List Frame
+keeps x b fs = Frame.job b 0 0 ∷ advances x (pred (x .count)) fs
 
-pub record Can-keep (ss : List Step) (x : Job) (b u : ℕ) (s : Store) : Type 0 where
+pub record Can-keep (x : Job) (b u : ℕ) (s : Store) : Type 0 where
   pub job : Can-proceed x u s
   pub offset : b < 1024
-  pub room : Room-for (keeps ss x b) u s
+  pub room : Room-for (keeps x b) u s
 
-pub record Argument-kept (ss : List Step) (x : Job) (b u : ℕ) (s s′ : Store) : Type 0 where
-  pub change : Restacked (keeps ss x b) u s s′
+pub record Argument-kept (x : Job) (b u : ℕ) (s s′ : Store) : Type 0 where
+  pub change : Restacked (keeps x b) u s s′
 
 -- UNITS
 
 -- JOIN by its count c; r is the rank of a unit that becomes idle, behind all that are of n
 abbrev pub joins : List Step → Job → ℕ → ℕ → FlatUnit → FlatUnit
-joins ss x r zero = restack (goes-on ss x (next-count (drop (x .next) ss)))
+joins ss x r zero = restack (advances x (next-count (drop (x .next) ss)))
 joins ss x r (suc c) = idled r
 
 pub record Joined (ss : List Step) (x : Job) (n u : ℕ) (s s′ : Store) : Type 0 where
@@ -158,9 +165,9 @@ pub record Given (v u i b : ℕ) (s s′ : Store) : Type 0 where
   pub units : (n : ℕ) → units-in s′ n ≡ leave 1 (at v (given u i b) (units-in s n))
 
 -- by the answer of the search for an idle unit; h is the height of unit u's stack
-abbrev pub forks : List Step → Job → ℕ → ℕ → ℕ → List FlatUnit → Option ℕ → List FlatUnit
-forks ss x b u h us none = at u (restack (keeps ss x b)) us
-forks ss x b u h us (some v) = leave 1 (at v (given u (h - 1) b) (at u (restack (goes-on ss x (x .count))) us))
+abbrev pub forks : Job → ℕ → ℕ → ℕ → List FlatUnit → Option ℕ → List FlatUnit
+forks x b u h us none = at u (restack (keeps x b)) us
+forks x b u h us (some v) = leave 1 (at v (given u (h - 1) b) (at u (restack (advances x (x .count))) us))
 
 abbrev pub grants : Option ℕ → Bool
 grants none = false
@@ -174,18 +181,19 @@ pub record Can-grant (x : Job) (b v u : ℕ) (s : Store) : Type 0 where
   pub other : v ≢ u
   pub room : height-in (s .cells) v + 2 ≤ height
 
-pub record Granted (ss : List Step) (x : Job) (b v u : ℕ) (s s′ : Store) : Type 0 where
+pub record Granted (x : Job) (b v u : ℕ) (s s′ : Store) : Type 0 where
   pub fit : Stacks-fit s′
-  pub units : (n : ℕ) → units-in s′ n ≡ forks ss x b u (height-in (s .cells) u) (units-in s n) (some v)
+  pub units : (n : ℕ) → units-in s′ n ≡ forks x b u (height-in (s .cells) u) (units-in s n) (some v)
 
 -- there is room on unit u's stack if no unit of n is idle, and for two frames on the idle unit's, which is another
-pub record Can-fork (ss : List Step) (x : Job) (p : Argument) (n u : ℕ) (s : Store) : Type 0 where
+pub record Can-fork (x : Job) (b n u : ℕ) (s : Store) : Type 0 where
   pub job : Can-proceed x u s
+  pub offset : b < 1024
   pub few : n ≤ 8
-  pub keep : first-idle (units-in s n) ≡ none → Room-for (keeps ss x (p .offset)) u s
+  pub keep : first-idle (units-in s n) ≡ none → Room-for (keeps x b) u s
   pub grant : (v : ℕ) → first-idle (units-in s n) ≡ some v → (v ≢ u) × (height-in (s .cells) v + 2 ≤ height)
 
-pub record Forked (ss : List Step) (x : Job) (p : Argument) (n u : ℕ) (s s′ : Store) (r : Bool) : Type 0 where
+pub record Forked (x : Job) (b n u : ℕ) (s s′ : Store) (r : Bool) : Type 0 where
   pub fit : Stacks-fit s′
-  pub units : units-in s′ n ≡ forks ss x (p .offset) u (height-in (s .cells) u) (units-in s n) (first-idle (units-in s n))
+  pub units : units-in s′ n ≡ forks x b u (height-in (s .cells) u) (units-in s n) (first-idle (units-in s n))
   pub answer : r ≡ grants (first-idle (units-in s n))

@@ -11,7 +11,7 @@ ghost use lib.ListN.{length, drop};
 ghost use Rattle.flat.specs.Sizes.{hop};
 ghost use Rattle.symbol.specs.Record.{sizes};
 ghost use Rattle.tables.specs.Layout as L;
-ghost use Rattle.term.specs.Present.{operators-in, Hops};
+ghost use Rattle.term.specs.Present.{Hops};
 ghost use Rattle.units.specs.Stacks as K;
 ghost use Rattle.units.specs.Contracts as U;
 ghost use Rattle.orders.specs.Contracts as O;
@@ -49,6 +49,25 @@ fn next_count(operators: &[u8; 4352], o: u8, k: u8) -> u8
     0
 }
 
+// The job's next order is done, and there is one behind, as behind every order but WHOLE: it goes on with that.
+pub fn advance(work: &mut [u8], units: &[u32; 8], u: usize, job: Job)
+    ghost { K.Store }
+    requires { λ s. ⌜ K.store (now work) (now units) ≡ s ⌝ }
+    requires { λ s. ⌜ O.Can-proceed job u s ⌝ }
+    ensures { λ s _. ⌜ O.Advanced job u s (K.store (now (work .exit)) (s .cells)) ⌝ }
+{
+    units::set_top(
+        work,
+        units,
+        u,
+        Frame::Job(Job {
+            offset: job.offset,
+            next: job.next + 1,
+            count: job.count,
+        }),
+    );
+}
+
 // The job's next order is done: it goes on with the one behind, or it goes if there is none. WHOLE with no match does just this.
 pub fn proceed(
     operators: &[u8; 4352],
@@ -64,16 +83,7 @@ pub fn proceed(
     ensures { λ s _. ⌜ O.Proceeded (L.steps-in (now (operators .entry)) o) job u s (K.store (now (work .exit)) (now (units .exit))) ⌝ }
 {
     if has_step(operators, o, job.next) {
-        units::set_top(
-            work,
-            units,
-            u,
-            Frame::Job(Job {
-                offset: job.offset,
-                next: job.next + 1,
-                count: job.count,
-            }),
-        );
+        advance(work, units, u, job);
     } else {
         units::drop_top(units, u);
     }
@@ -137,18 +147,16 @@ pub fn visit_argument(
     work: &mut [u8],
     units: &mut [u32; 8],
     u: usize,
-    o: u8,
     job: Job,
     b: u16,
     p: u8,
 )
     ghost { K.Store }
     requires { λ s. ⌜ K.store (now work) (now units) ≡ s ⌝ }
-    requires { λ s. ⌜ L.Rowed (now operators) o × L.Rowed (now operators) p × (b < 1024) ⌝ }
-    requires { λ s. ⌜ O.Can-visit (L.steps-in (now operators) o) job (O.argument-at (now operators) b p) u s ⌝ }
-    ensures { λ s _. ⌜ O.Argument-visited (L.steps-in (now (operators .entry)) o) job (O.argument-at (now (operators .entry)) b p) u s (K.store (now (work .exit)) (now (units .exit))) ⌝ }
+    requires { λ s. ⌜ L.Rowed (now operators) p × (b < 1024) × O.Can-visit job (O.argument-at (now operators) b p) u s ⌝ }
+    ensures { λ s _. ⌜ O.Argument-visited job (O.argument-at (now (operators .entry)) b p) u s (K.store (now (work .exit)) (now (units .exit))) ⌝ }
 {
-    proceed(operators, work, units, u, o, job);
+    advance(work, units, u, job);
     enter(operators, work, units, u, p, b);
 }
 
@@ -169,12 +177,10 @@ pub fn join(
 {
     if job.count == 0 {
         let c = next_count(operators, o, job.next);
-        proceed(
-            operators,
+        advance(
             work,
             units,
             u,
-            o,
             Job {
                 offset: job.offset,
                 next: job.next,
@@ -212,27 +218,17 @@ fn lower(count: u8) -> u8
 }
 
 // FORK with no idle unit: the argument at offset b is kept, as a job on top of the one that goes on.
-fn keep(
-    operators: &[u8; 4352],
-    work: &mut [u8],
-    units: &mut [u32; 8],
-    u: usize,
-    o: u8,
-    job: Job,
-    b: u16,
-)
+fn keep(work: &mut [u8], units: &mut [u32; 8], u: usize, job: Job, b: u16)
     ghost { K.Store }
     requires { λ s. ⌜ K.store (now work) (now units) ≡ s ⌝ }
-    requires { λ s. ⌜ L.Rowed (now operators) o × O.Can-keep (L.steps-in (now operators) o) job b u s ⌝ }
-    ensures { λ s _. ⌜ O.Argument-kept (L.steps-in (now (operators .entry)) o) job b u s (K.store (now (work .exit)) (now (units .exit))) ⌝ }
+    requires { λ s. ⌜ O.Can-keep job b u s ⌝ }
+    ensures { λ s _. ⌜ O.Argument-kept job b u s (K.store (now (work .exit)) (now (units .exit))) ⌝ }
 {
     let c = lower(job.count);
-    proceed(
-        operators,
+    advance(
         work,
         units,
         u,
-        o,
         Job {
             offset: job.offset,
             next: job.next,
@@ -273,23 +269,14 @@ fn give(work: &mut [u8], units: &mut [u32; 8], v: usize, exit: Exit, b: u16)
 }
 
 // FORK with an idle unit v: it gets the argument at offset b.
-fn grant(
-    operators: &[u8; 4352],
-    work: &mut [u8],
-    units: &mut [u32; 8],
-    u: usize,
-    o: u8,
-    job: Job,
-    b: u16,
-    v: usize,
-)
+fn grant(work: &mut [u8], units: &mut [u32; 8], u: usize, job: Job, b: u16, v: usize)
     ghost { K.Store }
     requires { λ s. ⌜ K.store (now work) (now units) ≡ s ⌝ }
-    requires { λ s. ⌜ L.Rowed (now operators) o × O.Can-grant job b v u s ⌝ }
-    ensures { λ s _. ⌜ O.Granted (L.steps-in (now (operators .entry)) o) job b v u s (K.store (now (work .exit)) (now (units .exit))) ⌝ }
+    requires { λ s. ⌜ O.Can-grant job b v u s ⌝ }
+    ensures { λ s _. ⌜ O.Granted job b v u s (K.store (now (work .exit)) (now (units .exit))) ⌝ }
 {
     let index = units::top_index(units, u);
-    proceed(operators, work, units, u, o, job);
+    advance(work, units, u, job);
     give(
         work,
         units,
@@ -302,32 +289,20 @@ fn grant(
     );
 }
 
-// FORK of argument i, by unit u of so many: the first of the idle queue gets it, or it is kept; whether it was granted.
-pub fn fork(
-    operators: &[u8; 4352],
-    symbols: &[u32; 1024],
-    work: &mut [u8],
-    units: &mut [u32; 8],
-    count: usize,
-    u: usize,
-    o: u8,
-    job: Job,
-    i: u8,
-) -> bool
+// FORK of the argument at offset b, by unit u of so many: the first of the idle queue gets it, or it is kept; whether it was granted.
+pub fn fork(work: &mut [u8], units: &mut [u32; 8], count: usize, u: usize, job: Job, b: u16) -> bool
     ghost { K.Store }
     requires { λ s. ⌜ K.store (now work) (now units) ≡ s ⌝ }
-    requires { λ s. ⌜ L.Rowed (now operators) o × O.Argument-inside (now operators) (now symbols) job i ⌝ }
-    requires { λ s. ⌜ O.Can-fork (L.steps-in (now operators) o) job (O.argument-of (now operators) (operators-in (now symbols)) job i) count u s ⌝ }
-    ensures { λ s r. ⌜ O.Forked (L.steps-in (now (operators .entry)) o) job (O.argument-of (now (operators .entry)) (operators-in (now (symbols .entry))) job i) count u s (K.store (now (work .exit)) (now (units .exit))) r ⌝ }
+    requires { λ s. ⌜ O.Can-fork job b count u s ⌝ }
+    ensures { λ s r. ⌜ O.Forked job b count u s (K.store (now (work .exit)) (now (units .exit))) r ⌝ }
 {
-    let b = argument(symbols, job, i);
     match units::first_idle(units, count) {
         Idle::Unit(v) => {
-            grant(operators, work, units, u, o, job, b, v);
+            grant(work, units, u, job, b, v);
             true
         }
         Idle::None => {
-            keep(operators, work, units, u, o, job, b);
+            keep(work, units, u, job, b);
             false
         }
     }

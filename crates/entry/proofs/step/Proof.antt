@@ -1,6 +1,7 @@
 -- `entry::step` meets its contract: the step that the table has says which order it is. Assumes nothing.
 use native.Mathlib.Omega.{arith}
 use borrow.Author.Needs.{needs}
+use Rattle.orders.proofs.Changes.{argument-asks}
 use Rattle.entry.proofs.Facts.{next-most, rowed, can-proceed, whole-there}
 use Rattle.entry.proofs.Orders.{visit-place, visit-argument-asks, visited-argument, joined}
 use Rattle.entry.proofs.Forking.{fork-place, fork-asks, fork-entered}
@@ -26,21 +27,29 @@ visit-argument-requires c κs =
     let q = k .before .before .before .before .before .before .pre in
     let t = q .1 .0 in
     let e = rw (m .i .given .1, t .3) at (k .step-at .ensures) in
-    rw (t .3)
-    ((rowed (q .0) (t .0) (t .1) (t .2), visit-place (q .0) (t .0) (t .1) (t .2) (q .1 .1) e), visit-argument-asks (q .0) (t .0) (t .1) (t .2) (q .1 .1) e)
+    (visit-place (q .0) (t .0) (t .1) (t .2) (q .1 .1) e, visit-argument-asks (q .0) (t .0) (t .1) (t .2) (q .1 .1) e)
 
 enum-known-i-2 : tie.Need-enum-known-i-2
 enum-known-i-2 c = search needs
 
-fork-requires : tie.Need-fork-requires
-fork-requires c κs =
-    let m = c .before .before .before .before in
+argument-requires : tie.Need-argument-requires
+argument-requires c κs =
+    let m = c .before .before in
     let k = m .before .before in
     let q = k .before .before .before .before .before .before .pre in
     let t = q .1 .0 in
     let e = rw (m .i2 .given .1, t .3) at (k .step-at .ensures) in
-    rw (t .3)
-    ((rowed (q .0) (t .0) (t .1) (t .2), fork-place (q .0) (t .0) (t .1) (t .2) (q .1 .1) e .place), fork-asks (q .0) (t .0) (t .1) (t .2) (q .1 .1) e)
+    argument-asks (fork-place (q .0) (t .0) (t .1) (t .2) (q .1 .1) e .place)
+
+fork-requires : tie.Need-fork-requires
+fork-requires c κs =
+    let b = c .before .before in
+    let m = b .before .before .before in
+    let k = m .before .before in
+    let q = k .before .before .before .before .before .before .pre in
+    let t = q .1 .0 in
+    let e = rw (m .i2 .given .1, t .3) at (k .step-at .ensures) in
+    fork-asks (q .0) (t .0) (t .1) (t .2) (q .1 .1) e (b .argument .ensures .0) (b .argument .ensures .1)
 
 forked-requires : tie.Need-forked-requires
 forked-requires c κs = search needs
@@ -75,7 +84,7 @@ returns c =
     let q = k .before .before .before .before .before .before .pre in
     let t = q .1 .0 in
     let e = rw (m .i .given .1, t .3) at (k .step-at .ensures) in
-    visited-argument (q .0) (t .0) (t .1) (t .2) (q .1 .1) e (rw (t .3) at (v .visit-argument .ensures))
+    visited-argument (q .0) (t .0) (t .1) (t .2) (q .1 .1) e (v .visit-argument .ensures)
 
 same-length-2 : tie.Need-same-length-2
 same-length-2 c = search needs
@@ -83,12 +92,13 @@ same-length-2 c = search needs
 returns-2 : tie.Need-returns-2
 returns-2 c =
     let v = c .before .before .before in
-    let m = v .before .before .before .before .before in
+    let b = v .before .before .before in
+    let m = b .before .before .before in
     let k = m .before .before in
     let q = k .before .before .before .before .before .before .pre in
     let t = q .1 .0 in
     let e = rw (m .i2 .given .1, t .3) at (k .step-at .ensures) in
-    fork-entered (q .0) (t .0) (t .1) (t .2) (q .1 .1) e (rw (t .3) at (v .fork .ensures)) _ (c .forked .ensures)
+    fork-entered (q .0) (t .0) (t .1) (t .2) (q .1 .1) e (b .argument .ensures .0) (v .fork .ensures) _ (c .forked .ensures)
 
 same-length-3 : tie.Need-same-length-3
 same-length-3 c = search needs
@@ -118,6 +128,7 @@ step-spec =
     enum-known-i
     visit-argument-requires
     enum-known-i-2
+    argument-requires
     fork-requires
     forked-requires
     enum-told

@@ -15,23 +15,18 @@ abbrev start : tie.After-is-marked-at → tie.Start
 start m = at m .before .before .before
 
 argument-requires : tie.Need-argument-requires
-argument-requires c κs = argument-asks (c .before .before .pre .0 .1 .place)
+argument-requires c κs = argument-asks (c .before .before .pre .0 .place)
 
 is-marked-at-requires : tie.Need-is-marked-at-requires
 is-marked-at-requires c κs = omega (arith, c .before .offset .ensures .0, c .before .before .argument .ensures .1)
-
-proceed-requires : tie.Need-proceed-requires
-proceed-requires c κs =
-    let q = start (c .before .before .before) .pre in
-    (q .0 .0, q .1 .job)
 
 returns : tie.Need-returns
 returns c =
     let v = c .before .before in
     let i = v .before .before .before in
     let m = i .before in
-    argument-dropped (start m .pre .0 .1 .place) (at m .argument .ensures .0) (m .before .before .offset .ensures .0)
-    (sym (m .is-marked-at .ensures) ∙ i .if1 .taken) (v .proceed .ensures)
+    argument-dropped (start m .pre .0 .place) (at m .argument .ensures .0) (m .before .before .offset .ensures .0)
+    (sym (m .is-marked-at .ensures) ∙ i .if1 .taken) (v .advance .ensures)
 
 operator-at-requires : tie.Need-operator-at-requires
 operator-at-requires c κs =
@@ -44,11 +39,12 @@ visit-argument-requires c κs =
     let i = o .before .before in
     let m = i .before in
     let q = start m .pre in
-    let p = q .0 .1 .place in
+    let p = q .0 .place in
     let eb = at m .argument .ensures in
     let ek = m .before .before .offset .ensures .0 in
     let e = o .operator-at .ensures in (
-      (q .0 .0, argument-row p (eb .0) ek e (q .0 .1 .rowed), eb .1),
+      argument-row p (eb .0) ek e (q .0 .rowed),
+      eb .1,
       can-visit p (eb .0) ek (sym (m .is-marked-at .ensures) ∙ i .if1 .left) e (q .1),
     )
 
@@ -57,10 +53,10 @@ mark-last-requires c κs =
     let o = c .before .before .before .before .before .before in
     let m = o .before .before .before in
     let q = start m .pre in
-    let p = q .0 .1 .place in
+    let p = q .0 .place in
     let eb = at m .argument .ensures in
     let ek = m .before .before .offset .ensures .0 in
-    (omega arith, argument-row p (eb .0) ek (o .operator-at .ensures) (q .0 .1 .rowed), argument-there p (eb .0) ek, p .sized .most)
+    (omega arith, argument-row p (eb .0) ek (o .operator-at .ensures) (q .0 .rowed), argument-there p (eb .0) ek, p .sized .most)
 
 returns-2 : tie.Need-returns-2
 returns-2 c =
@@ -68,11 +64,11 @@ returns-2 c =
     let o = v .before .before .before in
     let i = o .before .before in
     let m = i .before in
-    argument-entered (start m .pre .0 .1 .place) (at m .argument .ensures .0) (m .before .before .offset .ensures .0)
+    argument-entered (start m .pre .0 .place) (at m .argument .ensures .0) (m .before .before .offset .ensures .0)
     (sym (m .is-marked-at .ensures) ∙ i .if1 .left) (o .operator-at .ensures) (v .visit-argument .ensures) (c .mark-last .ensures)
 
 pub visit-argument-spec : {M : Type 1} → statement M
 visit-argument-spec =
     tie.close
-    (tie.spec argument-requires (λ c κs. search needs) is-marked-at-requires proceed-requires (λ c. search needs) returns operator-at-requires
+    (tie.spec argument-requires (λ c κs. search needs) is-marked-at-requires (λ c κs. search needs) (λ c. search needs) returns operator-at-requires
     visit-argument-requires mark-last-requires (λ c. search needs) returns-2)

@@ -9,13 +9,13 @@ give-requires : tie.Need-give-requires
 give-requires c κs =
     let p = c .before .before .before .before .before in
     let s = p .before .before .before .before .before .before in
-    (grant-room (p .proceed .ensures) (s .pre .1), omega (arith, c .byte .ensures, s .pre .1 .job .top .unit), s .pre .1 .offset)
+    (grant-room (p .advance .ensures) (s .pre), omega (arith, c .byte .ensures, s .pre .job .top .unit), s .pre .offset)
 
 returns : tie.Need-returns
 returns c =
     let g = c .before .before in
     let p = g .before .before .before .before .before .before in
-    granted (p .proceed .ensures) (g .before .byte .ensures) (p .before .before .before .top-index .ensures) (g .give .ensures)
+    granted (p .advance .ensures) (g .before .byte .ensures) (p .before .before .before .top-index .ensures) (g .give .ensures)
 
 pub grant-spec : {M : Type 1} → statement M
 grant-spec =

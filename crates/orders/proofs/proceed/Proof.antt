@@ -8,8 +8,8 @@ use Rattle.orders.proofs.proceed.Tie as tie
 returns : tie.Need-returns
 returns c =
     let t = c .before .before in
-    let i = t .before .before .before .before in
-    proceeds-some (i .before .has-step .ensures ∙ i .if1 .taken) (t .set-top .ensures)
+    let i = t .before .before .before in
+    proceeds-some (i .before .has-step .ensures ∙ i .if1 .taken) (t .advance .ensures)
 
 returns-2 : tie.Need-returns-2
 returns-2 c =
@@ -19,4 +19,4 @@ returns-2 c =
 
 pub proceed-spec : {M : Type 1} → statement M
 proceed-spec =
-    tie.close (tie.spec (λ c κs. search needs) (λ c. search needs) (λ c κs. search needs) (λ c κs. search needs) (λ c. search needs) returns returns-2)
+    tie.close (tie.spec (λ c κs. search needs) (λ c κs. search needs) (λ c κs. search needs) (λ c. search needs) returns returns-2)
