@@ -6,6 +6,7 @@
 use std::collections::{HashMap, VecDeque};
 use std::{io, mem};
 
+use crate::draft::Fees;
 use crate::model::{
     self, Answer, Book, Filling, Form, Item, Lengths, Machine, Operator, Order, Pattern, Rule,
     Term, Unit, GAP,
@@ -13,10 +14,10 @@ use crate::model::{
 use crate::nets::Walker;
 use crate::program::Pages;
 use crate::subject::{
-    hand_over, hand_over_records, Done, Lent, ModelSubject, Question, Subject, Told, Written,
-    MODEL_PUBLISHED,
+    hand_over, hand_over_charge, hand_over_records, hand_over_settled, Charged, Done, Lent,
+    ModelSubject, Parts, Question, Settled, Subject, Told, Written, MODEL_PUBLISHED,
 };
-use crate::{broken_lines, broken_marks};
+use crate::{broken_fees, broken_lines, broken_marks};
 
 #[derive(Clone, Copy, Debug, PartialEq, Eq)]
 pub enum Slip {
@@ -145,9 +146,41 @@ pub enum Slip {
     Reversed,
     /// The net's last byte is not left zero after many lines.
     Rest,
+    /// A fee's half cent goes to the even neighbour.
+    Even,
+    /// A fee's half cent goes up, also where the fee is below zero.
+    Upward,
+    /// The cents left are left out.
+    Dropped,
+    /// The cents left go to the first owners.
+    First,
+    /// Remainders are compared with their sign.
+    Signed,
+    /// Of equal remainders the higher owner's goes first.
+    Higher,
+    /// The fee isn't taken off before the rest is split.
+    Gross,
+    /// 23 is told before 22.
+    Hasty,
+    /// The smallest amount is refused.
+    Limit,
+    /// A rate has its low byte first.
+    Inverted,
+    /// A rate of which one byte is there is taken.
+    Severed,
+    /// Shares are added up in 16 bits.
+    Wrapped,
+    /// The parts of absent owners are zeroed.
+    Cleared,
+    /// The rate is that of the line's root.
+    Source,
+    /// A run that didn't finish is charged too.
+    Eager,
+    /// 22 and 23 are told before the run's refusals.
+    Sooner,
 }
 
-pub const SLIPS: [(&str, Slip); 62] = [
+pub const SLIPS: [(&str, Slip); 78] = [
     ("join", Slip::Join),
     ("list", Slip::List),
     ("zeros", Slip::Zeros),
@@ -210,6 +243,22 @@ pub const SLIPS: [(&str, Slip); 62] = [
     ("whole", Slip::Whole),
     ("reversed", Slip::Reversed),
     ("rest", Slip::Rest),
+    ("even", Slip::Even),
+    ("upward", Slip::Upward),
+    ("dropped", Slip::Dropped),
+    ("first", Slip::First),
+    ("signed", Slip::Signed),
+    ("higher", Slip::Higher),
+    ("gross", Slip::Gross),
+    ("hasty", Slip::Hasty),
+    ("limit", Slip::Limit),
+    ("inverted", Slip::Inverted),
+    ("severed", Slip::Severed),
+    ("wrapped", Slip::Wrapped),
+    ("cleared", Slip::Cleared),
+    ("source", Slip::Source),
+    ("eager", Slip::Eager),
+    ("sooner", Slip::Sooner),
 ];
 
 impl Slip {
@@ -225,6 +274,22 @@ impl Slip {
             self,
             Purse | Onwards | Halt | Tight | Whole | Reversed | Rest
         )
+    }
+
+    /// Does it show in charges only? The others don't show there.
+    pub fn is_of_fees(self) -> bool {
+        use Slip::*;
+        self.is_of_settling()
+            || matches!(
+                self,
+                Even | Upward | Dropped | First | Signed | Higher | Gross | Hasty | Limit
+            )
+            || matches!(self, Inverted | Severed | Wrapped | Cleared)
+    }
+
+    /// Does it show only where a line is reduced before it is charged?
+    pub fn is_of_settling(self) -> bool {
+        matches!(self, Slip::Source | Slip::Eager | Slip::Sooner)
     }
 }
 
@@ -266,6 +331,25 @@ impl Subject for BrokenModel {
             (Slip::Days, Ok(book)) => write_undated(book, output),
             _ => ModelSubject.written(book, output),
         }
+    }
+
+    fn charge(&mut self, fees: &Fees, parts: &mut Parts) -> Charged {
+        let charge = broken_fees::charge(self.slip, &fees.term, fees);
+        if charge.is_ok() {
+            broken_fees::slip_in_parts(self.slip, fees.shares.len(), parts);
+        }
+        hand_over_charge(&charge, parts)
+    }
+
+    fn settle(
+        &mut self,
+        question: &Question,
+        fees: &Fees,
+        output: &mut [u8],
+        parts: &mut Parts,
+    ) -> Settled {
+        let settled = broken_fees::settle(self.slip, question, fees, output.len());
+        hand_over_settled(&settled, output, parts)
     }
 }
 

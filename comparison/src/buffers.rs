@@ -1,7 +1,8 @@
 //! Buffers that are lent to a subject, full of junk, and what became of them.
 
+use crate::fees::MOST_OWNERS;
 use crate::model::Lengths;
-use crate::subject::Lent;
+use crate::subject::{Lent, Parts};
 
 /// The three buffers that are lent together.
 #[derive(Default)]
@@ -65,6 +66,36 @@ impl Lender {
         let due = [front, &self.junk[front.len()..]].concat();
         let found = &self.bytes[..due.len()];
         (found != due).then(|| buffer_difference(name, &due, found))
+    }
+}
+
+/// Room for the owners' parts, full of junk, and some behind it, where a write
+/// past the end shows.
+pub struct PartsLender {
+    room: [i64; ROOM],
+    junk: [i64; ROOM],
+}
+
+const ROOM: usize = MOST_OWNERS + 4;
+
+impl PartsLender {
+    pub fn new(seed: u64) -> PartsLender {
+        let factor = seed as i64 | 1;
+        let junk: [i64; ROOM] = std::array::from_fn(|place| factor.wrapping_mul(place as i64 + 1));
+        PartsLender { room: junk, junk }
+    }
+
+    pub fn lent(&mut self) -> &mut Parts {
+        self.room.first_chunk_mut().expect("room for all owners")
+    }
+
+    /// What stands there if these parts are in front and the rest is as it was.
+    pub fn due(&self, front: &[i64]) -> Vec<i64> {
+        [front, &self.junk[front.len()..]].concat()
+    }
+
+    pub fn found(&self) -> Vec<i64> {
+        self.room.to_vec()
     }
 }
 

@@ -4,9 +4,11 @@ use std::fmt::{self, Debug, Display, Formatter};
 use std::ops::Range;
 
 use crate::batches::{self, Batches};
-use crate::buffers::{hexadecimal, Lenders};
+use crate::buffers::{hexadecimal, Lenders, PartsLender};
+use crate::charges::{self, Charges};
 use crate::days::{self, Days};
-use crate::draft::{Batch, Case};
+use crate::draft::{Batch, Case, Fees};
+use crate::fees;
 use crate::marks::{self, Marks};
 use crate::model::refusal::OF_BOOKS;
 use crate::model::{self, Answer, Form, Lengths};
@@ -15,7 +17,7 @@ use crate::random;
 use crate::records;
 use crate::repeats::{self, Repeats};
 use crate::shrink::shrink;
-use crate::subject::{Done, Question, Subject, Told, Written};
+use crate::subject::{Charged, Done, Question, Settled, Subject, Told, Written};
 
 /// Those of a run that are not its book's. Refusal 17 is about the program's
 /// input, which a subject never sees.
@@ -38,6 +40,7 @@ pub struct Tally {
     pub nets: Nets,
     pub marks: Marks,
     pub batches: Batches,
+    pub charges: Charges,
 }
 
 impl Tally {
@@ -70,6 +73,7 @@ impl Tally {
             unmet_kinds("searches", &nets::KINDS, &self.nets.counts),
             unmet_kinds("orders", &marks::KINDS, &self.marks.counts),
             unmet_kinds("batches", &batches::KINDS, &self.batches.counts),
+            unmet_kinds("charges", &charges::KINDS, &self.charges.counts),
         ]
         .concat()
     }
@@ -166,7 +170,10 @@ impl<'a> Comparison<'a> {
         let writer = self.check_writer(case, &book);
         let batch = case.batch.as_ref();
         let batch = batch.and_then(|batch| self.check_batch(case, batch, &book));
-        run.or(writer).or(batch)
+        let fees = case.fees.as_ref();
+        let charge = fees.and_then(|fees| self.check_charge(case, fees));
+        let settled = fees.and_then(|fees| self.check_settled(case, fees, &book));
+        run.or(writer).or(batch).or(charge).or(settled)
     }
 
     fn check_run(&mut self, case: &Case, book: &[u8]) -> Option<String> {
@@ -210,6 +217,37 @@ impl<'a> Comparison<'a> {
         let records = expected.ok().map(|answered| answered.records.concat());
         compare_values("many lines' values", &due, &found)
             .or_else(|| self.lent.difference("records", records.as_deref()))
+    }
+
+    fn check_charge(&mut self, case: &Case, fees: &Fees) -> Option<String> {
+        let expected = fees::charge(&fees.term, fees);
+        self.tally.charges.count(fees, &expected);
+        let mut parts = PartsLender::new(case.junk);
+        let found = self.subject.charge(fees, parts.lent());
+        let due = Charged::of(&expected);
+        let own = expected.map_or(Vec::new(), |charge| charge.parts);
+        compare_values("charge", &due, &found)
+            .or_else(|| compare_values("charged parts", &parts.due(&own), &parts.found()))
+    }
+
+    fn check_settled(&mut self, case: &Case, fees: &Fees, book: &[u8]) -> Option<String> {
+        let question = Question::of(case, book);
+        let expected = fees::settle(&question, fees, case.output_len);
+        self.tally.charges.count_settled(&question, fees, &expected);
+        let mut parts = PartsLender::new(case.junk);
+        let output = self.lent.output.lend(case.output_len, !case.junk);
+        let found = self.subject.settle(&question, fees, output, parts.lent());
+        let due = Settled::of(&expected);
+        let (term, own) = match expected {
+            Ok((answer, charge)) => (
+                answer.term,
+                charge.map_or(Vec::new(), |charge| charge.parts),
+            ),
+            Err(_) => (Vec::new(), Vec::new()),
+        };
+        compare_values("settled values", &due, &found)
+            .or_else(|| compare_values("settled parts", &parts.due(&own), &parts.found()))
+            .or_else(|| self.lent.output.difference("settled output", &term))
     }
 
     fn check_writer(&mut self, case: &Case, book: &[u8]) -> Option<String> {
@@ -287,6 +325,9 @@ fn write_case(text: &mut Formatter, case: &Case) -> fmt::Result {
     if let Some(batch) = &case.batch {
         write_batch(text, batch)?;
     }
+    if let Some(fees) = &case.fees {
+        write_fees(text, fees)?;
+    }
     if let Some(input) = case.input() {
         writeln!(text, "input    {}", hexadecimal(&input))?;
     }
@@ -299,6 +340,13 @@ fn write_batch(text: &mut Formatter, batch: &Batch) -> fmt::Result {
         writeln!(text, "  line   {}", hexadecimal(line))?;
     }
     writeln!(text, "records  {} bytes lent", batch.room)
+}
+
+fn write_fees(text: &mut Formatter, fees: &Fees) -> fmt::Result {
+    writeln!(text, "charged  {}", hexadecimal(&fees.term))?;
+    writeln!(text, "amount   {}", fees.amount)?;
+    writeln!(text, "rates    {}", hexadecimal(&fees.rates))?;
+    writeln!(text, "shares   {:?}", fees.shares)
 }
 
 impl Display for Tally {
@@ -321,8 +369,8 @@ impl Display for Tally {
         }
         write!(
             text,
-            "{}{}{}{}{}",
-            self.repeats, self.days, self.nets, self.marks, self.batches
+            "{}{}{}{}{}{}",
+            self.repeats, self.days, self.nets, self.marks, self.batches, self.charges
         )
     }
 }

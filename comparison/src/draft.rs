@@ -184,6 +184,17 @@ impl Batch {
     }
 }
 
+/// What a posting is charged, and who shares the rest.
+#[derive(Clone, Debug, Default, PartialEq, Eq)]
+pub struct Fees {
+    /// A posting to be charged by itself; the case's line is settled besides.
+    pub term: Vec<u8>,
+    /// The fee table: two bytes for each operator.
+    pub rates: Vec<u8>,
+    pub amount: i64,
+    pub shares: Vec<u16>,
+}
+
 /// One question to an implementation.
 #[derive(Clone, Debug, PartialEq, Eq)]
 pub struct Case {
@@ -210,6 +221,8 @@ pub struct Case {
     pub cut: usize,
     /// Asked besides, if there is one.
     pub batch: Option<Batch>,
+    /// Charged besides, if there are any.
+    pub fees: Option<Fees>,
 }
 
 impl Case {
@@ -231,6 +244,7 @@ impl Case {
             junk: 0,
             cut: 0,
             batch: None,
+            fees: None,
         }
     }
 

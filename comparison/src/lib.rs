@@ -3,6 +3,7 @@
 //!
 //! - `model`: the definitions, written for reading.
 //! - `records`: the same for many lines by one book.
+//! - `fees`: the same for fees and owners' shares.
 //! - `draft`: books and cases as fields that may break any rule.
 //! - `random`, `books`, `branching`, `dates`, `texts`, `grow`, `faults`: random
 //!   cases.
@@ -14,8 +15,9 @@
 //! - `nets`: what they try of a net over the left sides.
 //! - `marks`: what they try of marks.
 //! - `batches`: random lines for one book, and what they try.
-//! - `broken`, `broken_lines`, `broken_marks`: the model with one slip, to show
-//!   that slips are found.
+//! - `charges`: random amounts, rates and shares, and what they try.
+//! - `broken`, `broken_lines`, `broken_marks`, `broken_fees`: the model with one
+//!   slip, to show that slips are found.
 //! - `library`: the static library as a subject, under the feature `library`.
 //! - `program`: the pages of the programs `reduce` and `payee`.
 //! - `vectors`: pages and written books from outside.
@@ -24,14 +26,17 @@ pub mod batches;
 pub mod books;
 pub mod branching;
 pub mod broken;
+pub mod broken_fees;
 pub mod broken_lines;
 pub mod broken_marks;
 pub mod buffers;
+pub mod charges;
 pub mod compare;
 pub mod dates;
 pub mod days;
 pub mod draft;
 pub mod faults;
+pub mod fees;
 pub mod grow;
 #[cfg(feature = "library")]
 pub mod library;

@@ -2,13 +2,39 @@
 
 use kurvneist::{raw, Batch, Request};
 
+use crate::draft::Fees;
 use crate::model::{Form, Lengths};
-use crate::subject::{Done, Lent, Question, Subject, Told, Written};
+use crate::subject::{Charged, Done, Lent, Parts, Question, Settled, Subject, Told, Written};
 
 /// What a value holds before the call, so that a zero that is due must be written.
 const JUNK: u64 = 0x5A5A_5A5A_5A5A_5A5A;
 
 pub struct Library;
+
+fn request<'a>(question: &Question<'a>) -> Request<'a> {
+    Request::new(question.book, question.line)
+        .units(question.units)
+        .budget(question.budget)
+        .day(question.day)
+        .schedule(question.schedule)
+}
+
+fn told(refusal: u8, values: [u64; raw::ANSWER_LENGTH]) -> Told {
+    let [ending, rewrites, entries, granted, kept, length] = values;
+    Told {
+        refusal,
+        ending,
+        rewrites,
+        entries,
+        granted,
+        kept,
+        length,
+    }
+}
+
+fn lent_fees(fees: &Fees) -> kurvneist::Fees<'_> {
+    kurvneist::Fees::new(&fees.rates, &fees.shares)
+}
 
 impl Subject for Library {
     fn published(&self) -> Lengths {
@@ -16,27 +42,14 @@ impl Subject for Library {
     }
 
     fn answer(&mut self, question: &Question, lent: &mut Lent) -> Told {
-        let request = Request::new(question.book, question.line)
-            .units(question.units)
-            .budget(question.budget)
-            .day(question.day)
-            .schedule(question.schedule);
+        let request = request(question);
         let call = match question.form {
             Form::Line => raw::reduce,
             Form::Text => raw::payee,
         };
         let mut values = [JUNK; raw::ANSWER_LENGTH];
         let refusal = call(&request, lent.work, lent.net, lent.output, &mut values);
-        let [ending, rewrites, entries, granted, kept, length] = values;
-        Told {
-            refusal,
-            ending,
-            rewrites,
-            entries,
-            granted,
-            kept,
-            length,
-        }
+        told(refusal, values)
     }
 
     fn answer_lines(&mut self, question: &Question, lent: &mut Lent) -> Done {
@@ -72,5 +85,38 @@ impl Subject for Library {
         let mut length = JUNK;
         let refusal = raw::write_book(book, output, &mut length);
         Written { refusal, length }
+    }
+
+    fn charge(&mut self, fees: &Fees, parts: &mut Parts) -> Charged {
+        let mut fee = JUNK as i64;
+        let refusal = raw::charge(&fees.term, &lent_fees(fees), fees.amount, parts, &mut fee);
+        Charged { refusal, fee }
+    }
+
+    fn settle(
+        &mut self,
+        question: &Question,
+        fees: &Fees,
+        output: &mut [u8],
+        parts: &mut Parts,
+    ) -> Settled {
+        let call = match question.form {
+            Form::Line => raw::settle,
+            Form::Text => raw::settle_payee,
+        };
+        let mut values = raw::Settled {
+            answer: [JUNK; raw::ANSWER_LENGTH],
+            charged: JUNK,
+            fee: JUNK as i64,
+            parts: *parts,
+        };
+        let (request, lent) = (request(question), lent_fees(fees));
+        let refusal = call(&request, &lent, fees.amount, output, &mut values);
+        *parts = values.parts;
+        Settled {
+            told: told(refusal, values.answer),
+            charged: values.charged,
+            fee: values.fee,
+        }
     }
 }

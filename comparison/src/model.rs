@@ -38,6 +38,8 @@ pub mod refusal {
     pub const INPUT: u8 = 17;
     pub const TEXT_TOO_LONG: u8 = 18;
     pub const CLASS_OPERATORS: u8 = 19;
+    pub const AMOUNT: u8 = 22;
+    pub const RATE_OR_SHARES: u8 = 23;
 }
 
 /// The four endings of a run.

@@ -6,6 +6,7 @@
 use crate::batches;
 use crate::books::draft;
 use crate::branching;
+use crate::charges;
 use crate::dates;
 use crate::draft::{Case, Draft};
 use crate::faults::spoil;
@@ -78,6 +79,9 @@ impl Random {
 /// One case in so many has a batch.
 const BATCH_EVERY: u64 = 8;
 
+/// One case in so many has fees.
+const FEES_EVERY: u64 = 3;
+
 /// The numbered case of a seed. Every third one is a text.
 pub fn numbered(seed: u64, number: u64) -> Case {
     let mut random = Random::for_case(seed, number);
@@ -91,6 +95,9 @@ pub fn numbered(seed: u64, number: u64) -> Case {
     }
     if number % BATCH_EVERY == 0 {
         case.batch = Some(batches::batch(&mut random, &case));
+    }
+    if number / 3 % FEES_EVERY == 0 {
+        case.fees = Some(charges::fees(&mut random, &case));
     }
     case
 }

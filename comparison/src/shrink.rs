@@ -1,8 +1,9 @@
 //! Makes a case small while it still shows a difference.
 
-use crate::draft::{Batch, Case, Draft, RuleDraft, Symbol};
+use crate::draft::{Batch, Case, Draft, Fees, RuleDraft, Symbol};
 use crate::model::{squeezed, Form, END, OUTPUT_LEN};
 use crate::records::{LONGEST, LONGEST_LINE};
+use crate::subject::Question;
 
 /// Enough for any case met so far, and an end for the slowest subject.
 const MOST_TRIES: usize = 200_000;
@@ -29,6 +30,8 @@ impl Shrinker<'_> {
     fn pass(&mut self) -> bool {
         let before = self.case.clone();
         self.fewer_lines();
+        // A difference that is none of fees shows without them.
+        self.try_change(|case| case.fees = None);
         self.thin(|case| &mut case.damage);
         self.thin(|case| &mut case.schedule);
         self.fewer_units();
@@ -44,6 +47,9 @@ impl Shrinker<'_> {
         self.smaller_budget();
         self.smaller_cut(|case| &mut case.cut);
         self.smaller_batch();
+        if self.case.fees.is_some() {
+            self.smaller_fees();
+        }
         self.case != before && self.tries > 0
     }
 
@@ -288,6 +294,61 @@ impl Shrinker<'_> {
         }
         self.smaller_cut(|case| &mut batch(case).cut);
     }
+
+    fn smaller_fees(&mut self) {
+        self.posting_alone();
+        self.thin(|case| &mut fees(case).term);
+        // The root becomes operator 0, and the rates before its own go.
+        self.try_change(|case| {
+            let Fees { term, rates, .. } = fees(case);
+            if let Some(root) = term.first_mut() {
+                rates.drain(..rates.len().min(2 * usize::from(*root)));
+                *root = 0;
+            }
+        });
+        self.thin(|case| &mut fees(case).rates);
+        for place in 0..fees(&mut self.case).rates.len() {
+            self.try_change(|case| fees(case).rates[place] = 0);
+        }
+        self.fewer_owners();
+        self.smaller_amount();
+    }
+
+    /// What a settled line shows, its posting often shows by itself.
+    fn posting_alone(&mut self) {
+        let book = self.case.book();
+        if let Ok(answer) = Question::of(&self.case, &book).answer_in_full() {
+            self.try_change(|case| {
+                case.line.clear();
+                fees(case).term = answer.term;
+            });
+        }
+    }
+
+    /// An owner's share goes to the first one, or is left out.
+    fn fewer_owners(&mut self) {
+        for owner in (1..fees(&mut self.case).shares.len()).rev() {
+            self.try_change(|case| {
+                let shares = &mut fees(case).shares;
+                let share = shares.remove(owner);
+                shares[0] = shares[0].wrapping_add(share);
+            });
+        }
+        self.thin(|case| &mut fees(case).shares);
+    }
+
+    fn smaller_amount(&mut self) {
+        self.try_change(|case| fees(case).amount = 0);
+        self.try_change(|case| fees(case).amount = fees(case).amount.saturating_abs());
+        // Half a cent stays half a cent, and an odd number of them odd.
+        self.try_change(|case| fees(case).amount %= 20_000);
+        while self.try_change(|case| fees(case).amount /= 2) {}
+        while self.try_change(|case| fees(case).amount -= fees(case).amount.signum()) {}
+    }
+}
+
+fn fees(case: &mut Case) -> &mut Fees {
+    case.fees.get_or_insert_with(Fees::default)
 }
 
 fn batch(case: &mut Case) -> &mut Batch {

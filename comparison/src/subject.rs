@@ -1,6 +1,7 @@
 //! What an implementation under comparison offers.
 
-use crate::draft::Case;
+use crate::draft::{Case, Fees};
+use crate::fees::{self, Charge, MOST_OWNERS};
 use crate::model::{self, Answer, Form, Lengths};
 use crate::records::{self, Answered};
 
@@ -141,6 +142,56 @@ impl Done {
     }
 }
 
+/// Where the owners' parts are written.
+pub type Parts = [i64; MOST_OWNERS];
+
+/// The values that a posting is charged. After a refusal the fee is 0.
+#[derive(Clone, Copy, Debug, Default, PartialEq, Eq)]
+pub struct Charged {
+    pub refusal: u8,
+    pub fee: i64,
+}
+
+impl Charged {
+    pub fn of(charge: &Result<Charge, u8>) -> Charged {
+        match charge {
+            Err(refusal) => Charged {
+                refusal: *refusal,
+                fee: 0,
+            },
+            Ok(charge) => Charged {
+                refusal: 0,
+                fee: charge.fee,
+            },
+        }
+    }
+}
+
+/// The values that a line is settled as.
+#[derive(Clone, Copy, Debug, Default, PartialEq, Eq)]
+pub struct Settled {
+    pub told: Told,
+    /// 1 if the posting was charged.
+    pub charged: u64,
+    pub fee: i64,
+}
+
+impl Settled {
+    pub fn of(settled: &Result<(Answer, Option<Charge>), u8>) -> Settled {
+        match settled {
+            Err(number) => Settled {
+                told: Told::refused(*number),
+                ..Settled::default()
+            },
+            Ok((answer, charge)) => Settled {
+                told: Told::answered(answer),
+                charged: charge.is_some().into(),
+                fee: charge.as_ref().map_or(0, |charge| charge.fee),
+            },
+        }
+    }
+}
+
 /// Buffers are lent by the comparison, which also looks at what became of
 /// them; an implementation hands its values over as they come.
 pub trait Subject {
@@ -156,6 +207,20 @@ pub trait Subject {
     fn answer_lines(&mut self, question: &Question, lent: &mut Lent) -> Done;
 
     fn written(&mut self, book: &[u8], output: &mut [u8]) -> Written;
+
+    /// Charges the posting of the fees, and writes the parts in front unless it
+    /// refuses.
+    fn charge(&mut self, fees: &Fees, parts: &mut Parts) -> Charged;
+
+    /// Reduces the question's line in areas of its own, and charges its posting
+    /// where the run finished.
+    fn settle(
+        &mut self,
+        question: &Question,
+        fees: &Fees,
+        output: &mut [u8],
+        parts: &mut Parts,
+    ) -> Settled;
 }
 
 /// The model needs no areas; it asks for the longest allowed so that the
@@ -192,6 +257,43 @@ impl Subject for ModelSubject {
             }
         }
     }
+
+    fn charge(&mut self, fees: &Fees, parts: &mut Parts) -> Charged {
+        hand_over_charge(&fees::charge(&fees.term, fees), parts)
+    }
+
+    fn settle(
+        &mut self,
+        question: &Question,
+        fees: &Fees,
+        output: &mut [u8],
+        parts: &mut Parts,
+    ) -> Settled {
+        let settled = fees::settle(question, fees, output.len());
+        hand_over_settled(&settled, output, parts)
+    }
+}
+
+/// Writes the owners' parts in front and answers the values.
+pub fn hand_over_charge(charge: &Result<Charge, u8>, parts: &mut Parts) -> Charged {
+    if let Ok(charge) = charge {
+        front(parts, &charge.parts);
+    }
+    Charged::of(charge)
+}
+
+/// Writes the term and the owners' parts in front and answers the values.
+pub fn hand_over_settled(
+    settled: &Result<(Answer, Option<Charge>), u8>,
+    output: &mut [u8],
+    parts: &mut Parts,
+) -> Settled {
+    if let Ok((answer, charge)) = settled {
+        front(output, &answer.term);
+        let own = charge.as_ref().map_or(&[][..], |charge| &charge.parts);
+        front(parts, own);
+    }
+    Settled::of(settled)
 }
 
 /// Clears both areas, writes the term at the output's front and answers the
@@ -214,11 +316,15 @@ pub fn hand_over_records(answered: &Result<Answered, u8>, lent: &mut Lent) -> Do
     Done::of(answered)
 }
 
-/// Only a broken model's bytes can be more than the output has.
-fn fill(lent: &mut Lent, front: &[u8]) {
+fn fill(lent: &mut Lent, bytes: &[u8]) {
     lent.work.fill(0);
     lent.net.fill(0);
-    for (place, byte) in lent.output.iter_mut().zip(front) {
-        *place = *byte;
+    front(lent.output, bytes);
+}
+
+/// Only a broken model's elements can be more than there is room for.
+fn front<T: Copy>(room: &mut [T], elements: &[T]) {
+    for (place, element) in room.iter_mut().zip(elements) {
+        *place = *element;
     }
 }

@@ -3,6 +3,7 @@
 use comparison::broken::{BrokenModel, Slip, SLIPS};
 use comparison::compare::{compare, Comparison, Difference};
 use comparison::draft::Case;
+use comparison::fees::{LARGEST, WHOLE};
 use comparison::model::Form;
 use comparison::program::{compare_pages, Pages};
 use comparison::subject::ModelSubject;
@@ -23,6 +24,7 @@ fn every_slip_is_found_and_made_small() {
         let small = &difference.small;
         assert!(shows(slip, small), "{name}");
         check_batch(slip, small, name);
+        check_fees(slip, small, name);
         // What isn't about texts is shown by a line, also where a text met it.
         assert_eq!(small.form, form_of(slip), "{name}: {difference}");
         let operator_limit = match small.form {
@@ -53,6 +55,24 @@ fn check_batch(slip: Slip, small: &Case, name: &str) {
         assert!(batch.lines.len() <= 3, "{name}: {batch:?}");
         assert!(batch.bytes().len() <= 20, "{name}: {batch:?}");
         assert!(small.line.is_empty(), "{name}: {:?}", small.line);
+    }
+}
+
+/// What isn't about fees is shown without.
+fn check_fees(slip: Slip, small: &Case, name: &str) {
+    assert_eq!(small.fees.is_some(), slip.is_of_fees(), "{name}");
+    if let Some(fees) = &small.fees {
+        assert!(fees.term.len() <= 1, "{name}: {fees:?}");
+        assert!(fees.rates.len() <= 6, "{name}: {fees:?}");
+        assert!(fees.shares.len() <= 3, "{name}: {fees:?}");
+        let most = match slip {
+            Slip::Hasty | Slip::Limit | Slip::Sooner => 2 * LARGEST,
+            _ => 2 * i64::from(WHOLE),
+        };
+        assert!(fees.amount.abs() <= most, "{name}: {fees:?}");
+        // What a posting by itself shows needs no line.
+        let line = if slip.is_of_settling() { 5 } else { 0 };
+        assert!(small.line.len() <= line, "{name}: {:?}", small.line);
     }
 }
 
@@ -95,7 +115,7 @@ fn what_was_not_met_is_named() {
     let (tally, _) = compare(&mut ModelSubject, 31, 0..0);
     assert_eq!(
         tally.missing().len(),
-        4 + 17 + 4 + 14 + 9 + 7 + 8 + 8 + 6 + 10
+        4 + 17 + 4 + 14 + 9 + 7 + 8 + 8 + 6 + 10 + 28
     );
     assert_eq!(
         tally.missing()[..5].join(", "),
@@ -113,6 +133,7 @@ fn what_was_not_met_is_named() {
     );
     assert_eq!(tally.missing()[71], "orders that visit a marked part");
     assert_eq!(tally.missing()[77], "batches done to the end");
+    assert_eq!(tally.missing()[87], "charges of payments");
     let (tally, _) = compare(&mut ModelSubject, 31, 0..2000);
     assert!(tally.missing().is_empty(), "{tally}");
 }

@@ -5,7 +5,8 @@ mod common;
 
 use common::*;
 use comparison::compare::{compare, Comparison};
-use comparison::draft::{Batch, Case, Damage, Draft, OperatorDraft, Symbol};
+use comparison::draft::{Batch, Case, Damage, Draft, Fees, OperatorDraft, Symbol};
+use comparison::fees::{LARGEST, WHOLE};
 use comparison::library::Library;
 use comparison::model::Form;
 use comparison::records::{LONGEST, LONGEST_LINE};
@@ -250,5 +251,78 @@ fn many_lines_by_bytes_that_are_too_many_for_any_book() {
         case.batch = batch(vec![LINE_P.to_vec(); 3]);
         case.damage = vec![Damage::Add(0); further];
         assert_eq!(refusal(&case), Some(9));
+    }
+}
+
+/// Extreme amounts, rates and shares together, of a posting by itself and of one
+/// that the page's line is reduced to.
+#[test]
+fn charges_at_every_limit() {
+    let sizes = [
+        0,
+        1,
+        2,
+        3,
+        5000,
+        9999,
+        LARGEST - 1,
+        LARGEST,
+        LARGEST + 1,
+        i64::MAX,
+    ];
+    let rates = [0, 1, 4999, 5000, 5001, 9999, WHOLE, WHOLE + 1, u16::MAX];
+    let shares: [&[u16]; 12] = [
+        &[],
+        &[WHOLE],
+        &[0, WHOLE],
+        &[5000, 5000],
+        &[3333, 3333, 3334],
+        &[1, 9998, 1],
+        &[625; 16],
+        &[
+            666, 666, 666, 666, 666, 667, 667, 667, 667, 667, 667, 667, 667, 667, 667, 0,
+        ],
+        &[9999],
+        &[5000, 5001],
+        &[32_768, 32_768, WHOLE],
+        &[588; 17],
+    ];
+    let mut library = Library;
+    let mut comparison = Comparison::new(&mut library);
+    let mut case = page(book_p());
+    for size in sizes {
+        for amount in [size, size.wrapping_neg(), !size] {
+            for rate in rates {
+                for shares in shares {
+                    case.fees = Some(Fees {
+                        term: vec![1, 9],
+                        // Of end, of tick and, with one byte, of both.
+                        rates: [&[0, 0], &rate.to_be_bytes()[..], &[0]].concat(),
+                        amount,
+                        shares: shares.to_vec(),
+                    });
+                    assert_eq!(comparison.check(&case), None);
+                }
+            }
+        }
+    }
+    assert_eq!(comparison.tally.charges.charges, 10 * 3 * 9 * 12);
+}
+
+/// The table's bytes about the root's own, for every root.
+#[test]
+fn rates_that_end_anywhere() {
+    for root in [0, 1, 127, 254, 255] {
+        let mut case = page(book_p());
+        let place = 2 * usize::from(root);
+        for length in (0..4).chain(place..place + 4).chain([513, 70_000]) {
+            case.fees = Some(Fees {
+                term: vec![root],
+                rates: vec![0x12; length],
+                amount: -LARGEST,
+                shares: vec![4000, 6000],
+            });
+            assert_eq!(refusal(&case), None);
+        }
     }
 }

@@ -2,11 +2,12 @@
  * Kurvneist: reduces lines by rule books on one to eight simulated units.
  *
  * The functions of libkurvneist.a (x86-64), which `rt staticlib kurvneist` writes. docs/FORMAT.md says what the bytes of
- * a book, a line, a text and a page are, bit by bit, and in which order faults are refused.
+ * a book, a line, a text and a page are, bit by bit, how fees are charged, and in which order faults are refused.
  *
- * Buffers. Each is lent as a pointer and its length in bytes. A null pointer is taken where the length is 0; answer, done
- * and length are never null. What is written to (work, net, output, answers, answer, done, length) overlaps nothing else
- * that is lent. Any bytes, lengths and numbers are fine: what can't be used is refused by number.
+ * Buffers. Each is lent as a pointer and its length in bytes; shares as a pointer and how many there are. A null pointer is
+ * taken where the length is 0; answer, done, length, parts, fee and charged are never null. What is written to (work, net,
+ * output, answers, answer, done, length, parts, fee, charged) overlaps nothing else that is lent. Any bytes, lengths and
+ * numbers are fine: what can't be used is refused by number.
  *
  * The functions keep nothing between calls, so several threads may call them, each with buffers of its own.
  */
@@ -30,6 +31,15 @@ extern "C" {
 
 /* No record of a line among many is longer: 32 bytes and 1,024 symbols. */
 #define KURVNEIST_LONGEST_RECORD 1056
+
+/* The most owners, and the elements of their parts. */
+#define KURVNEIST_MOST_OWNERS 16
+
+/* The largest amount, and with a minus the smallest, in cents. */
+#define KURVNEIST_LARGEST_AMOUNT INT64_C(1000000000000)
+
+/* The highest rate, and the total of the owners' shares, in ten-thousandths. */
+#define KURVNEIST_WHOLE 10000
 
 /*
  * The elements of an answer. They are told by name, since a later version may add some. In a finished run granted and kept
@@ -71,9 +81,9 @@ enum kurvneist_stop {
 
 /*
  * The refusals. Places are checked in this order: 13; 15, for the work area, then for the net's; 16; the book, 1 to 9; the
- * line, 12, 11, 10, or the text, 19, 18; the schedule, 14. Only the programs tell 17. 6 is given no longer, since a
- * variable that stands again in a left side matches equal parts; it keeps its name for what an earlier version told, and is
- * used for nothing else. A later version may add numbers.
+ * line, 12, 11, 10, or the text, 19, 18; the schedule, 14; of a posting that is charged, 22, then 23. Only the programs tell
+ * 17. 6 is given no longer, since a variable that stands again in a left side matches equal parts; it keeps its name for
+ * what an earlier version told, and is used for nothing else. 20 and 21 are not given. A later version may add numbers.
  */
 enum kurvneist_refusal {
     KURVNEIST_ACCEPTED = 0,
@@ -115,7 +125,11 @@ enum kurvneist_refusal {
     /* the text's term would have over 1,024 symbols */
     KURVNEIST_TEXT_TOO_LONG = 18,
     /* the book lacks the operators of texts: 0 without arguments, and 1 to 42 with one argument each */
-    KURVNEIST_NO_LETTERS = 19
+    KURVNEIST_NO_LETTERS = 19,
+    /* the amount is not from -1,000,000,000,000 to 1,000,000,000,000 cents */
+    KURVNEIST_AMOUNT_OUT_OF_RANGE = 22,
+    /* the root's rate is missing or above 10,000, the owners are not 1 to 16, or their shares do not total 10,000 */
+    KURVNEIST_BAD_RATE_OR_SHARES = 23
 };
 
 /* KURVNEIST_WORK_LENGTH. */
@@ -222,6 +236,60 @@ uint8_t kurvneist_payee_lines(const uint8_t *book, size_t book_length,
                               uint8_t *net, size_t net_length,
                               uint8_t *answers, size_t answers_length,
                               uint64_t *done);
+
+/*
+ * Charges a posting, one byte a symbol, of which the first, its root, counts.
+ *
+ * In `rates` each operator has its rate from 0 to KURVNEIST_WHOLE, from operator 0 up, in two bytes, the high byte first. The
+ * fee is amount * rate / 10,000 in whole cents, halves away from zero. The amount less the fee is split among 1 to
+ * KURVNEIST_MOST_OWNERS owners, whose `shares` total KURVNEIST_WHOLE: each part is cut toward zero, and the cents left go one
+ * each, with the amount's sign, to the remainders largest in size, the lower owner first where equal. So fee and parts add up
+ * to the amount, and what is charged to a refund is what is charged to the payment, with the sign turned.
+ *
+ * The result is 0, 22 or 23. There are as many `owners` as shares. `parts` has KURVNEIST_MOST_OWNERS elements, `fee` has one.
+ *
+ * After 0 the owners' parts stand at the front of `parts`, in the order of their shares, and its other elements are as they
+ * were. After a refusal `fee` is 0, and `parts` is as it was.
+ */
+uint8_t kurvneist_charge(const uint8_t *term, size_t term_length,
+                         const uint8_t *rates, size_t rates_length,
+                         int64_t amount,
+                         const uint16_t *shares, size_t owners,
+                         int64_t *parts, int64_t *fee);
+
+/*
+ * Reduces a line as kurvneist_reduce does, in areas of its own on the stack, and charges its posting as kurvneist_charge does.
+ *
+ * The result is 0, or the number of a refusal: the run's own, but never 15; then, if the run finished, 22 or 23. A run that
+ * doesn't finish is answered as kurvneist_reduce answers it: it has no posting, and amount, rates and shares are not looked
+ * at. `charged`, one element, is 1 if the posting was charged and otherwise 0.
+ *
+ * After 0 the present term stands at the front of `output`, and if the posting was charged, the owners' parts at the front of
+ * `parts`; all else of both is as it was. `fee` is 0 where nothing was charged. After a refusal `answer`, `fee` and `charged`
+ * are all zero, and `output` and `parts` are as they were.
+ */
+uint8_t kurvneist_settle(const uint8_t *book, size_t book_length,
+                         const uint8_t *line, size_t line_length,
+                         uint8_t units, uint32_t budget, uint16_t day,
+                         const uint8_t *schedule, size_t schedule_length,
+                         const uint8_t *rates, size_t rates_length,
+                         int64_t amount,
+                         const uint16_t *shares, size_t owners,
+                         uint8_t *output, size_t output_length,
+                         int64_t *parts, uint64_t *answer,
+                         int64_t *fee, uint64_t *charged);
+
+/* Reduces a payee's text, as kurvneist_payee does, where kurvneist_settle takes a term; all else is the same. */
+uint8_t kurvneist_settle_payee(const uint8_t *book, size_t book_length,
+                               const uint8_t *text, size_t text_length,
+                               uint8_t units, uint32_t budget, uint16_t day,
+                               const uint8_t *schedule, size_t schedule_length,
+                               const uint8_t *rates, size_t rates_length,
+                               int64_t amount,
+                               const uint16_t *shares, size_t owners,
+                               uint8_t *output, size_t output_length,
+                               int64_t *parts, uint64_t *answer,
+                               int64_t *fee, uint64_t *charged);
 
 /*
  * Writes a book with its strategies settled to the front of `output`; the output's other bytes are as they were. A dated

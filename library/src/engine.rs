@@ -1,8 +1,9 @@
 //! An engine with buffers of its own.
 
 use crate::{
-    payee, payee_lines, reduce, reduce_lines, Answer, Batch, Done, Lines, Postings, Refusal,
-    Request, Stop, NET_LENGTH, OUTPUT_LENGTH, WORK_LENGTH,
+    payee, payee_lines, reduce, reduce_lines, settle, settle_payee, Answer, Batch, Charge, Done,
+    Fees, Lines, Postings, Refusal, Request, Settlement, Stop, NET_LENGTH, OUTPUT_LENGTH,
+    WORK_LENGTH,
 };
 
 /// Owns one work area, one area for the net and one output and lends them to every run, so that posting a line allocates
@@ -52,6 +53,44 @@ impl Engine {
     pub fn post_payee(&mut self, request: &Request) -> Result<Posting<'_>, Refusal> {
         let answer = payee(request, &mut self.work, &mut self.net, &mut self.output)?;
         Ok(self.posting(answer))
+    }
+
+    /// Carries out one run whose line is a term and, if it finishes, charges its posting as [`charge`](crate::charge) does.
+    /// The refusals 15 and 16 can't come, nor 22 and 23 where the run doesn't finish.
+    ///
+    /// ```
+    /// use kurvneist::{Engine, FeeTable, Fees, Refusal, Request};
+    ///
+    /// let table: FeeTable = [350].into_iter().collect();
+    /// let fees = Fees::new(table.as_bytes(), &[6000, 4000]);
+    /// let request = Request::new(&[1, 0, 0], &[0]).schedule(&[0; 5]); // one constant, no rules
+    /// let mut engine = Engine::new();
+    /// let settled = engine.settle(&request, &fees, -18_000)?;
+    /// assert_eq!(settled.posting.term, [0]);
+    /// let charge = settled.charge.unwrap();
+    /// assert_eq!((charge.fee, charge.parts()), (-630, &[-10_422, -6948][..]));
+    /// # Ok::<(), Refusal>(())
+    /// ```
+    pub fn settle(
+        &mut self,
+        request: &Request,
+        fees: &Fees,
+        amount: i64,
+    ) -> Result<Settlement<'_>, Refusal> {
+        let settled = settle(request, fees, amount, &mut self.output)?;
+        Ok(self.settlement(settled))
+    }
+
+    /// Carries out one run whose line is a payee's text and, if it finishes, charges its posting, as
+    /// [`settle`](Engine::settle) does.
+    pub fn settle_payee(
+        &mut self,
+        request: &Request,
+        fees: &Fees,
+        amount: i64,
+    ) -> Result<Settlement<'_>, Refusal> {
+        let settled = settle_payee(request, fees, amount, &mut self.output)?;
+        Ok(self.settlement(settled))
     }
 
     /// Posts all lines, which are terms, by one book, each as [`post`](Engine::post) posts it by itself. The refusals of the
@@ -110,6 +149,11 @@ impl Engine {
     fn posting(&self, answer: Answer) -> Posting<'_> {
         let term = &self.output[..answer.length];
         Posting { answer, term }
+    }
+
+    fn settlement(&self, (answer, charge): (Answer, Option<Charge>)) -> Settlement<'_> {
+        let posting = self.posting(answer);
+        Settlement { posting, charge }
     }
 }
 

@@ -12,6 +12,12 @@
 //! let batch = kurvneist::Batch { book: &[], units: 1, budget: 0, day: 0, schedule: &[] };
 //! ```
 //!
+//! Nor fees:
+//!
+//! ```compile_fail,E0639
+//! let fees = kurvneist::Fees { rates: &[], shares: &[] };
+//! ```
+//!
 //! An answer, a posting or what is done is not taken apart into all its fields; with `..` it is:
 //!
 //! ```compile_fail,E0638
@@ -32,6 +38,13 @@
 //! fn lines(done: kurvneist::Done) -> usize {
 //!     let kurvneist::Done { lines, read: _, written: _, stop: _ } = done;
 //!     lines
+//! }
+//! ```
+//!
+//! ```compile_fail,E0638
+//! fn is_charged(settlement: kurvneist::Settlement) -> bool {
+//!     let kurvneist::Settlement { posting: _, charge } = settlement;
+//!     charge.is_some()
 //! }
 //! ```
 //!
@@ -84,7 +97,7 @@
 //!         BookRunsOut | NoOperator | BadStrategy | UnknownOperatorInRule | LeftSideIsVariable
 //!         | LeftSideRepeatsVariable | RightSideAddsVariable | SideTooLong | BookLeftOver | LineIsNoTerm
 //!         | UnknownOperatorInLine | LineTooLong | BadUnits | UnknownUnitInSchedule | WorkTooShort
-//!         | OutputTooShort | BadInput | TextTooLong | NoLetters => (),
+//!         | OutputTooShort | BadInput | TextTooLong | NoLetters | AmountOutOfRange | BadRateOrShares => (),
 //!     }
 //! }
 //! ```

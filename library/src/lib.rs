@@ -44,6 +44,9 @@
 //! Many lines by one book are posted together, by [`Engine::post_lines`] and [`Engine::post_payees`], so that the book is
 //! read once.
 //!
+//! A posting has an amount too: [`charge`] takes the fee off it, at the rate of the posting's root, and splits the rest among
+//! owners to the cent; [`Engine::settle`] posts a line and charges it.
+//!
 //! A refusal has a name, a number and a condition, and leaves every buffer as it was:
 //!
 //! ```
@@ -54,15 +57,16 @@
 //! assert_eq!(refusal.to_string(), "refused 11: the line names an operator that the book does not have");
 //! ```
 //!
-//! [`Request`], [`Batch`], [`Answer`], [`Done`], [`Posting`], [`Ending`], [`Stop`] and [`Refusal`] grow as the engine does: a
-//! request is made by [`Request::new`], a batch by [`Batch::new`], and a `match` on an ending, a stop or a refusal has an arm
-//! for what it doesn't know.
+//! [`Request`], [`Batch`], [`Fees`], [`Answer`], [`Done`], [`Posting`], [`Charge`], [`Settlement`], [`Ending`], [`Stop`] and
+//! [`Refusal`] grow as the engine does: a request is made by [`Request::new`], a batch by [`Batch::new`], fees by [`Fees::new`],
+//! and a `match` on an ending, a stop or a refusal has an arm for what it doesn't know.
 #![deny(unsafe_code)]
 #![warn(missing_docs)]
 
 mod answer;
 mod batch;
 mod engine;
+mod fees;
 #[cfg(doctest)]
 mod growth;
 mod lines;
@@ -74,6 +78,10 @@ mod request;
 pub use answer::{Answer, Ending};
 pub use batch::{payee_lines, reduce_lines, Batch, Done, Stop};
 pub use engine::{Engine, Posting};
+pub use fees::{
+    charge, settle, settle_payee, Charge, FeeTable, Fees, Settlement, LARGEST_AMOUNT, MOST_OWNERS,
+    WHOLE,
+};
 pub use lines::{LineTooLong, Lines};
 pub use postings::Postings;
 pub use refusal::Refusal;

@@ -1,15 +1,16 @@
 //! The C functions, with slices in the place of pointers. Their values come back as they are; [`crate::reduce`],
-//! [`crate::payee`], [`crate::reduce_lines`], [`crate::payee_lines`] and [`crate::write_book`] give them names.
+//! [`crate::payee`], [`crate::reduce_lines`], [`crate::payee_lines`], [`crate::charge`], [`crate::settle`],
+//! [`crate::settle_payee`] and [`crate::write_book`] give them names.
 //!
 //! This is the only module with `unsafe`. For each call it suffices that
-//! - the functions are proved safe for any bytes, lengths and numbers, and use a pointer only for the bytes that they
+//! - the functions are proved safe for any bytes, lengths and numbers, and use a pointer only for the elements that they
 //!   are lent with it,
 //! - a slice's pointer is never null and is good for the slice's length, also where that is 0,
 //! - `&mut` is exclusive, so what is written to overlaps nothing else,
 //! - nothing is kept after the call returns.
 #![allow(unsafe_code)]
 
-use crate::{Batch, Request};
+use crate::{Batch, Fees, Request, MOST_OWNERS};
 
 /// Declared as in `include/kurvneist.h`.
 mod c {
@@ -90,6 +91,61 @@ mod c {
             answers_length: usize,
             done: *mut u64,
         ) -> u8;
+        pub fn kurvneist_charge(
+            term: *const u8,
+            term_length: usize,
+            rates: *const u8,
+            rates_length: usize,
+            amount: i64,
+            shares: *const u16,
+            owners: usize,
+            parts: *mut i64,
+            fee: *mut i64,
+        ) -> u8;
+        pub fn kurvneist_settle(
+            book: *const u8,
+            book_length: usize,
+            line: *const u8,
+            line_length: usize,
+            units: u8,
+            budget: u32,
+            day: u16,
+            schedule: *const u8,
+            schedule_length: usize,
+            rates: *const u8,
+            rates_length: usize,
+            amount: i64,
+            shares: *const u16,
+            owners: usize,
+            output: *mut u8,
+            output_length: usize,
+            parts: *mut i64,
+            answer: *mut u64,
+            fee: *mut i64,
+            charged: *mut u64,
+        ) -> u8;
+        pub fn kurvneist_settle_payee(
+            book: *const u8,
+            book_length: usize,
+            text: *const u8,
+            text_length: usize,
+            units: u8,
+            budget: u32,
+            day: u16,
+            schedule: *const u8,
+            schedule_length: usize,
+            rates: *const u8,
+            rates_length: usize,
+            amount: i64,
+            shares: *const u16,
+            owners: usize,
+            output: *mut u8,
+            output_length: usize,
+            parts: *mut i64,
+            answer: *mut u64,
+            fee: *mut i64,
+            charged: *mut u64,
+        ) -> u8;
         pub fn kurvneist_write_book(
             book: *const u8,
             book_length: usize,
@@ -105,6 +161,19 @@ pub const ANSWER_LENGTH: usize = 6;
 
 /// The numbers that many lines are answered: lines done, bytes of them read, bytes of records written, and the stop.
 pub const DONE_LENGTH: usize = 4;
+
+/// What a settled line is answered.
+#[derive(Clone, Copy, Debug, Default, PartialEq, Eq)]
+pub struct Settled {
+    /// The run's numbers; all zeros after a refusal.
+    pub answer: [u64; ANSWER_LENGTH],
+    /// 1 if the run finished, so that its posting was charged; otherwise 0.
+    pub charged: u64,
+    /// The fee, and 0 where none was charged.
+    pub fee: i64,
+    /// The owners' parts at the front, if the posting was charged. The other elements stay.
+    pub parts: [i64; MOST_OWNERS],
+}
 
 /// The bytes of work area that a run asks for, by the linked library.
 pub fn work_length() -> usize {
@@ -252,6 +321,103 @@ pub fn payee_lines(
             answers.as_mut_ptr(),
             answers.len(),
             done.as_mut_ptr(),
+        )
+    }
+}
+
+/// A refusal's number, or 0. The fee is 0 after a refusal, and the parts stay; otherwise the owners' parts are written at
+/// the front, and the other elements stay.
+pub fn charge(
+    term: &[u8],
+    fees: &Fees,
+    amount: i64,
+    parts: &mut [i64; MOST_OWNERS],
+    fee: &mut i64,
+) -> u8 {
+    // SAFETY: every pointer and length are those of one slice, `parts` has the sixteen elements of which those in front are
+    // written, and `fee` is the one element that is written.
+    unsafe {
+        c::kurvneist_charge(
+            term.as_ptr(),
+            term.len(),
+            fees.rates.as_ptr(),
+            fees.rates.len(),
+            amount,
+            fees.shares.as_ptr(),
+            fees.shares.len(),
+            parts.as_mut_ptr(),
+            fee,
+        )
+    }
+}
+
+/// A refusal's number, or 0.
+pub fn settle(
+    request: &Request,
+    fees: &Fees,
+    amount: i64,
+    output: &mut [u8],
+    settled: &mut Settled,
+) -> u8 {
+    // SAFETY: every pointer and length are those of one slice, and what is settled has the six, the one, the one and the
+    // sixteen elements that are written.
+    unsafe {
+        c::kurvneist_settle(
+            request.book.as_ptr(),
+            request.book.len(),
+            request.line.as_ptr(),
+            request.line.len(),
+            request.units,
+            request.budget,
+            request.day,
+            request.schedule.as_ptr(),
+            request.schedule.len(),
+            fees.rates.as_ptr(),
+            fees.rates.len(),
+            amount,
+            fees.shares.as_ptr(),
+            fees.shares.len(),
+            output.as_mut_ptr(),
+            output.len(),
+            settled.parts.as_mut_ptr(),
+            settled.answer.as_mut_ptr(),
+            &mut settled.fee,
+            &mut settled.charged,
+        )
+    }
+}
+
+/// The same where the request's line is a text.
+pub fn settle_payee(
+    request: &Request,
+    fees: &Fees,
+    amount: i64,
+    output: &mut [u8],
+    settled: &mut Settled,
+) -> u8 {
+    // SAFETY: as for `settle`, whose parameters these are.
+    unsafe {
+        c::kurvneist_settle_payee(
+            request.book.as_ptr(),
+            request.book.len(),
+            request.line.as_ptr(),
+            request.line.len(),
+            request.units,
+            request.budget,
+            request.day,
+            request.schedule.as_ptr(),
+            request.schedule.len(),
+            fees.rates.as_ptr(),
+            fees.rates.len(),
+            amount,
+            fees.shares.as_ptr(),
+            fees.shares.len(),
+            output.as_mut_ptr(),
+            output.len(),
+            settled.parts.as_mut_ptr(),
+            settled.answer.as_mut_ptr(),
+            &mut settled.fee,
+            &mut settled.charged,
         )
     }
 }

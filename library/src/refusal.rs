@@ -72,6 +72,9 @@ refusals! {
     17 BadInput "the program's input is cut short, or over 32,768 schedule bytes follow"
     18 TextTooLong "the text's term would have over 1,024 symbols"
     19 NoLetters "the book lacks the operators of texts: 0 without arguments, and 1 to 42 with one argument each"
+    22 AmountOutOfRange "the amount is not from -1,000,000,000,000 to 1,000,000,000,000 cents"
+    23 BadRateOrShares "the root's rate is missing or above 10,000, the owners are not 1 to 16, or their shares do not \
+        total 10,000"
 }
 
 impl Refusal {
@@ -81,11 +84,11 @@ impl Refusal {
         self as u8
     }
 
-    /// `Ok` for 0. The library is proved to answer 0 or one of its refusals, which are 1 to 5, 7 to 16, 18 and 19.
+    /// `Ok` for 0. The library is proved to answer 0 or one of its refusals, which are 1 to 5, 7 to 16, 18, 19, 22 and 23.
     pub(crate) fn check(number: u8) -> Result<(), Refusal> {
         match number {
             0 => Ok(()),
-            _ => Err(Refusal::new(number).expect("a refusal is 1 to 19")),
+            _ => Err(Refusal::new(number).expect("a refusal has a name")),
         }
     }
 }

@@ -5,8 +5,8 @@ use std::path::{Path, PathBuf};
 use std::process::Command;
 
 use kurvneist::{
-    raw, Ending, Refusal, Stop, LONGEST_BOOK, LONGEST_RECORD, NET_LENGTH, OUTPUT_LENGTH,
-    WORK_LENGTH,
+    raw, Ending, Refusal, Stop, LARGEST_AMOUNT, LONGEST_BOOK, LONGEST_RECORD, MOST_OWNERS,
+    NET_LENGTH, OUTPUT_LENGTH, WHOLE, WORK_LENGTH,
 };
 
 const STRICT: [&str; 5] = ["-std=c99", "-O2", "-Wall", "-Wextra", "-Werror"];
@@ -67,6 +67,9 @@ fn names_of_the_header_have_the_numbers_of_the_crate() {
         ("LongestRecord", LONGEST_RECORD),
         ("AnswerLength", raw::ANSWER_LENGTH),
         ("DoneLength", raw::DONE_LENGTH),
+        ("MostOwners", MOST_OWNERS),
+        ("LargestAmount", LARGEST_AMOUNT as usize),
+        ("Whole", WHOLE.into()),
     ];
     let lengths = lengths.map(|(name, value)| (name.to_owned(), value));
     let names = refusals.chain(endings).chain(stops).chain(lengths);
@@ -110,4 +113,7 @@ fn examples_post_what_they_say() {
     assert_eq!(run("examples/payee.c"), "CAFEETOILE\n".repeat(4));
     let lines = "1 1 0\nrefused 11\n1 1 1 0\nrefused 10\n0\n";
     assert_eq!(run("examples/lines.c"), lines);
+    let fees = "10100: fee 354, parts 3249 3248 3249\n-10100: fee -354, parts -3249 -3248 -3249\n\
+        2000000000000: refused 22\n";
+    assert_eq!(run("examples/fees.c"), fees);
 }

@@ -6,8 +6,9 @@ use std::fs;
 
 use common::*;
 use kurvneist::{
-    reduce_lines, written_book, Batch, Ending, Engine, Posting, Refusal, Request, Stop,
-    LONGEST_BOOK, LONGEST_RECORD, NET_LENGTH, OUTPUT_LENGTH, WORK_LENGTH,
+    charge, reduce_lines, written_book, Batch, Ending, Engine, Fees, Posting, Refusal, Request,
+    Stop, LARGEST_AMOUNT, LONGEST_BOOK, LONGEST_RECORD, MOST_OWNERS, NET_LENGTH, OUTPUT_LENGTH,
+    WHOLE, WORK_LENGTH,
 };
 
 fn format() -> String {
@@ -200,6 +201,46 @@ fn the_lines_have_their_records() {
     assert!(format.contains("the numbers 3, 12, 69 and 0"));
 }
 
+/// What the rows say of a posting by itself is charged to the posting of the page's line too.
+#[test]
+fn amounts_have_their_fees_and_parts() {
+    let format = format();
+    let rates = bytes(block(&format, "rates"));
+    let fees = Fees::new(&rates, &[3333, 3333, 3334]);
+    assert!(format.contains("owners of the shares 3333, 3333 and 3334"));
+    let rows = table(&format, "| Amount | Fee | Parts | Since |");
+    assert_eq!(rows.len(), 6);
+    let book = bytes(block(&format, "book"));
+    let request = page(&book, &[0; 29]);
+    for row in rows {
+        let amount = row[0].parse().unwrap();
+        let charged = charge(&[1, 1, 0], &fees, amount).unwrap();
+        assert_eq!(charged.fee.to_string(), row[1], "{row:?}");
+        let parts: Vec<String> = charged.parts().iter().map(i64::to_string).collect();
+        assert_eq!(parts.join(" "), row[2], "{row:?}");
+        let mut engine = Engine::new();
+        let settled = engine.settle(&request, &fees, amount).unwrap();
+        assert_eq!(settled.posting.term, [1, 1, 0]);
+        assert_eq!(settled.charge, Some(charged));
+    }
+}
+
+/// What the page says of faults of a charge that are near each other.
+#[test]
+fn which_fault_of_a_charge_is_told() {
+    let told = |posting: &[u8], rates: &[u8], shares: &[u16], amount| {
+        charge(posting, &Fees::new(rates, shares), amount).unwrap_err()
+    };
+    let far = LARGEST_AMOUNT + 1;
+    assert_eq!(told(&[], &[], &[], far), Refusal::AmountOutOfRange);
+    assert_eq!(told(&[], &[0, 0], &[WHOLE], 1), Refusal::BadRateOrShares);
+    assert_eq!(told(&[0], &[0], &[WHOLE], 1), Refusal::BadRateOrShares);
+    assert_eq!(
+        told(&[0], &[0, 0], &[65_535, 10_001], 1),
+        Refusal::BadRateOrShares
+    );
+}
+
 /// The widths of a run's record, which its rows say, and its longest.
 #[test]
 fn the_record_field_by_field() {
@@ -304,6 +345,17 @@ fn lengths() {
     ] {
         let shown = format!("{},{:03}", length / 1000, length % 1000);
         assert!(format.contains(&shown), "{shown}");
+    }
+    assert_eq!(
+        (LARGEST_AMOUNT, WHOLE, MOST_OWNERS),
+        (1_000_000_000_000, 10_000, 16)
+    );
+    for shown in [
+        "from -1,000,000,000,000 to 1,000,000,000,000",
+        "The shares total 10,000",
+        "1 to 16 owners",
+    ] {
+        assert!(format.contains(shown), "{shown}");
     }
 }
 

@@ -202,8 +202,8 @@ fn places_from_top_to_bottom() {
 
 #[test]
 fn refusals_in_words() {
-    assert_eq!(Refusal::ALL.len(), 19);
-    for (number, &refusal) in (1..).zip(Refusal::ALL) {
+    assert_eq!(Refusal::ALL.len(), 21);
+    for (number, &refusal) in (1..=19).chain([22, 23]).zip(Refusal::ALL) {
         assert_eq!(refusal.number(), number);
         assert_eq!(Refusal::new(number), Some(refusal));
         assert_eq!(
@@ -216,8 +216,8 @@ fn refusals_in_words() {
         }
     }
     assert_eq!(
-        [0, 20, 255].map(Refusal::new),
-        [None; 3],
+        [0, 20, 21, 24, 255].map(Refusal::new),
+        [None; 5],
         "other numbers are none"
     );
     let error: Box<dyn std::error::Error> = Refusal::LineTooLong.into();

@@ -11,15 +11,18 @@ use std::time::{Duration, Instant};
 use kurvneist::{Answer, Batch, Ending, Engine, Refusal};
 
 use crate::blocks::{paced, Block, Blocks};
+use crate::fees::{Charging, Sums};
 use crate::items::{BadHeader, Content, Item, Place, Reading};
 use crate::jobs;
 use crate::json::{Fields, Json};
 use crate::lines::Lines;
+use crate::names::Names;
 use crate::outcome::Outcome;
 use crate::posting::{Posted, Schedules};
 use crate::profile::Profile;
 use crate::progress::Progress;
 use crate::text::check::Named;
+use crate::text::printer;
 use crate::told::counted;
 use crate::trace::Told;
 
@@ -38,6 +41,8 @@ pub struct Settings<'a> {
     pub json: bool,
     /// Counts each rule's rewrites.
     pub profile: Option<&'a Profile>,
+    /// Charges each posting by the amount of its item.
+    pub charging: Option<&'a Charging>,
 }
 
 impl Settings<'_> {
@@ -64,6 +69,14 @@ impl Settings<'_> {
             (Some(_), Outcome::Empty(_), _) => told,
             (Some(line), _, Some(reason)) => format!("! line {line}: {reason}"),
             _ => told,
+        }
+    }
+
+    /// What was charged to all, as the last line.
+    fn told_sums(&self, sums: &Sums) -> String {
+        match self.json {
+            true => sums.json().to_string(),
+            false => sums.text(),
         }
     }
 }
@@ -124,11 +137,16 @@ impl Summary {
             Outcome::Empty(_) => self.empty += 1,
             Outcome::Mistyped(_) => self.mistaken += 1,
             Outcome::Refused(_) => self.refused += 1,
+            Outcome::Uncharged { answer, .. } => {
+                self.refused += 1;
+                self.count_run(answer);
+            }
             Outcome::Ran {
                 answer, instead_of, ..
             } => {
                 self.alone += usize::from(instead_of.is_some());
                 self.count_run(answer);
+                self.count_ending(answer.ending);
             }
         }
     }
@@ -138,7 +156,10 @@ impl Summary {
         self.entries += answer.entries;
         self.granted += answer.granted;
         self.kept += answer.kept;
-        match answer.ending {
+    }
+
+    fn count_ending(&mut self, ending: Ending) {
+        match ending {
             Ending::Finished => self.posted += 1,
             Ending::Spent => self.unfinished[0] += 1,
             Ending::Full => self.unfinished[1] += 1,
@@ -223,9 +244,15 @@ fn post_all(
     };
     let mut blocks = Blocks::new(lines, settings.reading);
     let most = Cell::new(1);
+    let mut sums = settings.charging.map(Charging::sums);
+    let mut ending = "\n";
     let mut put = |lot: Lot| {
         most.set(paced(most.get(), lot.summary.lines, lot.summary.time));
         sum.add(&lot.summary);
+        if let (Some(sums), Some(more)) = (&mut sums, &lot.sums) {
+            sums.add(more);
+        }
+        ending = lot.ending;
         let note = format!(", {} not posted", sum.not_posted());
         let unit = if is_export { "records" } else { "lines" };
         progress.tell(sum.lines, unit, &note, lot.end);
@@ -247,6 +274,10 @@ fn post_all(
             put,
         )?;
     }
+    if let Some(sums) = &sums {
+        let written = write!(output, "{}{ending}", settings.told_sums(sums));
+        written.map_err(Failure::Write)?;
+    }
     Ok(sum)
 }
 
@@ -254,22 +285,33 @@ fn post_all(
 struct Lot {
     text: String,
     summary: Summary,
+    /// What was charged, where fees are.
+    sums: Option<Sums>,
+    /// How the last line ends.
+    ending: &'static str,
     end: u64,
 }
 
 fn all_told(block: Block, settings: &Settings, engine: &mut Engine) -> Lot {
     let started = Instant::now();
     let mut summary = Summary::default();
-    let mut text = String::new();
+    let mut sums = settings.charging.map(Charging::sums);
+    let (mut text, mut ending) = (String::new(), "\n");
     for (place, outcome) in outcomes(block.items, settings, engine) {
         summary.count(&outcome);
+        if let (Some(sums), Some(charged)) = (&mut sums, outcome.charge()) {
+            sums.count(charged);
+        }
         text.push_str(&settings.told(&place, &outcome));
         text.push_str(place.ending);
+        ending = place.ending;
     }
     summary.time = started.elapsed();
     Lot {
         text,
         summary,
+        sums,
+        ending,
         end: block.end,
     }
 }
@@ -283,9 +325,9 @@ fn outcomes<'s>(
     let read = items
         .into_iter()
         .map(|item| (item.place, line(item, settings)));
-    let read: Vec<(Place, Result<Vec<u8>, Outcome>)> = read.collect();
-    let lines = read.iter().filter_map(|(_, line)| line.as_deref().ok());
-    let lines: Vec<&[u8]> = lines.collect();
+    let read: Vec<(Place, Result<Line, Outcome>)> = read.collect();
+    let lines = read.iter().filter_map(|(_, line)| line.as_ref().ok());
+    let lines: Vec<&[u8]> = lines.map(|line| &line.bytes[..]).collect();
     let (form, batch) = (settings.reading.form, settings.batch());
     let posted = settings.schedules.post_all(engine, form, &batch, &lines);
     let mut posted = posted.into_iter();
@@ -298,19 +340,28 @@ fn outcomes<'s>(
     })
 }
 
+/// What is to be posted, with its amount if it has one.
+struct Line {
+    bytes: Vec<u8>,
+    amount: Option<i64>,
+}
+
 /// What is to be posted of an item, or what becomes of it without.
-fn line(item: Item, settings: &Settings) -> Result<Vec<u8>, Outcome> {
+fn line(item: Item, settings: &Settings) -> Result<Line, Outcome> {
     match settings.reading.content(item) {
         Content::Kept(text) => Err(Outcome::Empty(text)),
         Content::Bad(reason) => Err(Outcome::Mistyped(reason)),
-        Content::Texts(texts) => {
-            let line = settings.reading.line(&texts, &settings.named.names);
-            line.map_err(Outcome::Mistyped)
+        Content::Texts(mut texts) => {
+            let reading = settings.reading;
+            let amount = reading.amount(&mut texts).map_err(Outcome::Mistyped)?;
+            let bytes = reading.line(&texts, &settings.named.names);
+            let bytes = bytes.map_err(Outcome::Mistyped)?;
+            Ok(Line { bytes, amount })
         }
     }
 }
 
-fn ran(line: &[u8], posted: Result<Posted, Refusal>, settings: &Settings) -> Outcome {
+fn ran(line: &Line, posted: Result<Posted, Refusal>, settings: &Settings) -> Outcome {
     let posted = match posted {
         Ok(posted) => posted,
         Err(refusal) => return Outcome::Refused(refusal),
@@ -319,7 +370,25 @@ fn ran(line: &[u8], posted: Result<Posted, Refusal>, settings: &Settings) -> Out
         let (units, schedule) = settings.schedules.used(&posted);
         let batch = settings.batch().units(units).schedule(schedule);
         let told = Told::of(&posted.answer, &posted.term);
-        profile.add(settings.reading.form, &batch.line(line), &told);
+        profile.add(settings.reading.form, &batch.line(&line.bytes), &told);
     }
-    Outcome::ran(&posted, &settings.named.names)
+    match (settings.charging, line.amount, posted.answer.ending) {
+        (Some(charging), Some(amount), Ending::Finished) => {
+            charged(&posted, charging, amount, &settings.named.names)
+        }
+        _ => Outcome::ran(&posted, &settings.named.names),
+    }
+}
+
+/// Only what is a posting is charged.
+fn charged(posted: &Posted, charging: &Charging, amount: i64, names: &Names) -> Outcome {
+    match charging.charge(&posted.term, amount) {
+        Ok(charged) => Outcome::ran(posted, names).charged(charged),
+        Err(refusal) => Outcome::Uncharged {
+            refusal,
+            told: charging.told(refusal, &posted.term, names),
+            answer: posted.answer,
+            term: printer::term(&posted.term, names),
+        },
+    }
 }

@@ -7,8 +7,9 @@ use comparison::model::Form;
 use crate::compose::composed;
 use crate::csv::{Line, Record, Records};
 use crate::encoding::Encoding;
+use crate::fees::amount;
 use crate::line;
-use crate::mistake::Mistake;
+use crate::mistake::{place_of, Mistake, Span};
 use crate::names::{nearest, Names};
 use crate::template::Template;
 use crate::text::lexer::is_blank;
@@ -21,6 +22,8 @@ pub struct Reading {
     /// Of a bank export; `None` for a file of lines.
     pub columns: Option<Columns>,
     pub template: Option<Template>,
+    /// Each item has an amount: before its line, or as the last of the columns.
+    pub has_amounts: bool,
 }
 
 /// The columns that lines are made of.
@@ -117,6 +120,7 @@ impl Reading {
             encoding: Encoding::Utf8,
             columns: None,
             template: None,
+            has_amounts: false,
         }
     }
 
@@ -157,6 +161,50 @@ impl Reading {
             Form::Text => line::read_payee(text),
         };
         read.map_err(|mistake| self.told(0, mistake.place(text).1, &mistake))
+    }
+
+    /// The amount of an item, if it has one, taken out of its texts.
+    pub fn amount(&self, texts: &mut Vec<String>) -> Result<Option<i64>, Reason> {
+        if !self.has_amounts {
+            return Ok(None);
+        }
+        match self.columns {
+            Some(_) => self.amount_in_column(texts).map(Some),
+            None => self.amount_in_front(&mut texts[0]).map(Some),
+        }
+    }
+
+    fn amount_in_column(&self, texts: &mut Vec<String>) -> Result<i64, Reason> {
+        let text = texts.pop().expect("a column for the amount");
+        let start = text.len() - text.trim_start().len();
+        let read = amount::read(text.trim());
+        read.map_err(|mistake| {
+            let character = place_of(&text, start + mistake.span.start).1;
+            self.told(texts.len(), character, &mistake)
+        })
+    }
+
+    /// The first word, in whose place spaces stay, so that the others stand
+    /// where they stood.
+    fn amount_in_front(&self, text: &mut String) -> Result<i64, Reason> {
+        let start = text.len() - text.trim_start().len();
+        let length = text[start..].find(char::is_whitespace);
+        let end = length.map_or(text.len(), |length| start + length);
+        let word = &text[start..end];
+        let told = |place: usize, mistake: &Mistake| {
+            let character = place_of(text, place).1;
+            self.told(0, character, mistake)
+        };
+        let read = amount::read(word);
+        let amount = read.map_err(|mistake| told(start + mistake.span.start, &mistake))?;
+        if text[end..].trim().is_empty() {
+            let span = Span::new(end, end);
+            let mistake = Mistake::new(span, "nothing stands behind the amount", "a line there");
+            return Err(told(end, &mistake));
+        }
+        let spaces = " ".repeat(word.chars().count());
+        text.replace_range(start..end, &spaces);
+        Ok(amount)
     }
 
     fn told(&self, column: usize, character: usize, mistake: &Mistake) -> Reason {

@@ -6,7 +6,7 @@ use std::fmt::{self, Display, Formatter, Write};
 pub enum Json {
     Null,
     Bool(bool),
-    Number(u64),
+    Number(i128),
     Text(String),
     List(Vec<Json>),
     Object(Fields),
@@ -97,13 +97,19 @@ impl From<u32> for Json {
 
 impl From<u64> for Json {
     fn from(value: u64) -> Json {
+        Json::Number(value.into())
+    }
+}
+
+impl From<i128> for Json {
+    fn from(value: i128) -> Json {
         Json::Number(value)
     }
 }
 
 impl From<usize> for Json {
     fn from(value: usize) -> Json {
-        Json::Number(value as u64)
+        Json::Number(value as i128)
     }
 }
 

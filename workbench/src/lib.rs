@@ -13,6 +13,8 @@
 //! - `posting`: a line's run, by a given schedule or by longer and longer ones.
 //! - `batch`, `lines`, `blocks`, `jobs`, `outcome`, `profile`, `progress`: many
 //!   lines against one book.
+//! - `fees`: fee tables, owners' shares and amounts as text, and what is charged
+//!   to postings.
 //! - `output`: files that are whole or not there.
 //! - `json`: JSON, written.
 //! - `cli`: the commands, their options and help.
@@ -25,6 +27,7 @@ pub mod csv;
 pub mod day;
 pub mod encoding;
 pub mod explain;
+pub mod fees;
 pub mod items;
 pub mod jobs;
 pub mod json;

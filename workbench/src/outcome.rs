@@ -2,6 +2,7 @@
 
 use kurvneist::{Answer, Ending, Refusal};
 
+use crate::fees::Charged;
 use crate::items::Reason;
 use crate::json::{Fields, Json};
 use crate::letters;
@@ -17,6 +18,13 @@ pub enum Outcome {
     Empty(String),
     Mistyped(Reason),
     Refused(Refusal),
+    /// A posting that can't be charged, and why.
+    Uncharged {
+        refusal: Refusal,
+        told: String,
+        answer: Answer,
+        term: String,
+    },
     /// A run, and its term by names. It is a posting if the run finished.
     Ran {
         answer: Answer,
@@ -24,6 +32,8 @@ pub enum Outcome {
         /// How the run by several units ended, if one unit made this one in
         /// its place.
         instead_of: Option<Ending>,
+        /// What was charged to a posting, where fees are.
+        charged: Option<Charged>,
     },
 }
 
@@ -38,6 +48,33 @@ impl Outcome {
             answer: posted.answer,
             term: printer::term(&posted.term, names),
             instead_of: posted.instead_of,
+            charged: None,
+        }
+    }
+
+    /// The same with what was charged.
+    pub fn charged(self, more: Charged) -> Outcome {
+        match self {
+            Outcome::Ran {
+                answer,
+                term,
+                instead_of,
+                ..
+            } => Outcome::Ran {
+                answer,
+                term,
+                instead_of,
+                charged: Some(more),
+            },
+            other => other,
+        }
+    }
+
+    /// What was charged, if anything was.
+    pub fn charge(&self) -> Option<&Charged> {
+        match self {
+            Outcome::Ran { charged, .. } => charged.as_ref(),
+            _ => None,
         }
     }
 
@@ -47,8 +84,17 @@ impl Outcome {
             Outcome::Empty(text) => text.clone(),
             Outcome::Mistyped(reason) => format!("! {reason}"),
             Outcome::Refused(refusal) => format!("! {}", letters::told(refusal)),
-            Outcome::Ran { answer, term, .. } => {
-                let told = ran(answer, term, advice);
+            Outcome::Uncharged { told, term, .. } => format!("! {told}, at {term}"),
+            Outcome::Ran {
+                answer,
+                term,
+                charged,
+                ..
+            } => {
+                let mut told = ran(answer, term, advice);
+                if let Some(charged) = charged {
+                    told = format!("{told}: {}", charged.text());
+                }
                 match with_counts {
                     true => format!("{told}  # {}", counts(answer)),
                     false => told,
@@ -75,10 +121,22 @@ impl Outcome {
                 ("refusal", refusal.number().into()),
                 ("message", letters::told(refusal).into()),
             ])],
+            Outcome::Uncharged {
+                refusal,
+                told,
+                term,
+                ..
+            } => vec![error(vec![
+                ("kind", "refused".into()),
+                ("refusal", refusal.number().into()),
+                ("message", told.as_str().into()),
+                ("term", term.as_str().into()),
+            ])],
             Outcome::Ran {
                 answer,
                 term,
                 instead_of,
+                charged,
             } => {
                 let mut fields: Fields = vec![
                     ("end", answer.ending.to_string().into()),
@@ -90,6 +148,9 @@ impl Outcome {
                 ];
                 if let Some(ending) = instead_of {
                     fields.push(("instead_of", ending.to_string().into()));
+                }
+                if let Some(charged) = charged {
+                    fields.extend(charged.fields());
                 }
                 fields
             }

@@ -50,6 +50,7 @@ fn batch(input: &mut dyn Read, jobs: usize) -> (Result<Summary, Failure>, String
         reading: &Reading::lines(),
         json: false,
         profile: None,
+        charging: None,
         jobs,
     };
     let mut output = Vec::new();

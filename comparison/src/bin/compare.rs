@@ -1,6 +1,6 @@
 //! Compares the static library, or the programs, with the model on random
 //! cases: lines and, every third one, texts. Some have many lines for their book
-//! besides, which only the library is asked.
+//! besides, some have fees; only the library is asked those.
 
 use std::ops::Range;
 use std::path::PathBuf;
@@ -14,7 +14,7 @@ use comparison::program::{compare_pages, Pages, Programs};
 use comparison::subject::Subject;
 
 /// So many cases meet every ending and every refusal, of lines and of texts, and
-/// every kind of batch.
+/// every kind of batch and of charge.
 const ENOUGH: u64 = 10_000;
 
 struct Options {

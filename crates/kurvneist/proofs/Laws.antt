@@ -2,9 +2,10 @@
 use mathlib.Core.List.{List, [], _∷_, _++_, append-nil}
 use mathlib.Core.Logic.{_≢_}
 use mathlib.Core.Option.{Option, none, some}
-use mathlib.Core.Path.{_≡_, refl, sym, ap, _∙_}
+use mathlib.Core.Path.{_≡_, refl, sym, ap, _∙_, subst}
 use Prim.Native.Nat.{ℕ, _+_}
 use native.Mathlib.Omega.{arith}
+use lib.IntN.{ℤ}
 use lib.ListN.{length, set, drop-of-length-le}
 use lib.Seq.{sets, sets-eq}
 use Rattle.paper.specs.Result.{Result, refused, accepted, then}
@@ -19,16 +20,21 @@ use Rattle.engine.specs.declared.Answer as A
 use Rattle.batch.specs.Spec as B
 use Rattle.batch.specs.Spec.{doneBy}
 use Rattle.batch.specs.declared.Batch as D
+use Rattle.fees.specs.Spec as F
+use Rattle.fees.specs.declared.Charged as G
+use Rattle.settlement.specs.Spec as S
+use Rattle.settlement.specs.declared.Settled as T
 use Rattle.writer.specs.Spec.{Answers}
 use Rattle.writer.specs.declared.Written as W
 use Rattle.writer.proofs.Laws.{write-not-six}
+use Rattle.settlement.proofs.Laws.{line-not-six, payee-settled-not-six as payee-not-six-settled}
 use Rattle.kurvneist.specs.Spec as X
 
 -- an array of just as many numbers, stored one after another
-pub whole : (l vs : List ℕ) → length l ≡ length vs → sets l 0 vs ≡ vs
+pub whole : {A : Type 0} (l vs : List A) → length l ≡ length vs → sets l 0 vs ≡ vs
 whole l vs h =
     sets-eq vs l 0 (omega arith)
-    ∙ ap (λ (r : List ℕ). vs ++ r) (drop-of-length-le l {i = 0 + length vs} (omega arith))
+    ∙ ap (λ r. vs ++ r) (drop-of-length-le l {i = 0 + length vs} (omega arith))
     ∙ append-nil vs
 
 -- a run's answer as numbers
@@ -53,6 +59,22 @@ lines-told {r = r} q e =
 pub wrote : {book output output′ : List ℕ} (r : W.Written) (l : List ℕ) → Answers book output output′ r → length l ≡ 1 →
     X.Wrote-in-numbers book output output′ (set l 0 (X.written-length r)) (X.written-refusal r)
 wrote r l q h = record { answer = r; is = q; number = refl; length = whole l (X.written-length r ∷ []) h }
+
+-- a charge as numbers
+pub charged-told : {term table : List ℕ} {amount : ℤ} {ss : List ℕ} {parts parts′ fee′ : List ℤ} {n : ℕ} (r : G.Charged) →
+    F.ChargedBy term table amount ss parts parts′ r → n ≡ X.refusal (F.told r) → fee′ ≡ X.fee-number (F.told r) ∷ [] →
+    X.Charged-in-numbers term table amount ss parts parts′ fee′ n
+charged-told r q e f =
+    record { number = e ∙ ap X.refusal (q .answer); fee = f ∙ ap (λ (x : Result ℤ). X.fee-number x ∷ []) (q .answer); answer = r; buffers = q }
+
+-- a run and its charge as numbers
+pub settled-told : {read : LineReader} {book line : List ℕ} {units budget day : ℕ} {schedule rates : List ℕ} {amount : ℤ} {ss output : List ℕ} {parts : List ℤ}
+    {output′ : List ℕ} {parts′ : List ℤ} {answer′ : List ℕ} {fee′ : List ℤ} {charged′ : List ℕ} {n : ℕ} {r : T.Settled} →
+    S.SettledBy read book line units budget day schedule rates amount ss output parts output′ parts′ r →
+    X.Settled-numbers (S.values r) answer′ fee′ charged′ n →
+    X.Settled-in-numbers-by read book line units budget day schedule rates amount ss output parts output′ parts′ answer′ fee′ charged′ n
+settled-told {answer′ = answer′} {fee′ = fee′} {charged′ = charged′} {n = n} {r = r} q s =
+    record { numbers = subst (λ (t : Result S.Told). X.Settled-numbers t answer′ fee′ charged′ n) (q .answer) s; answer = r; buffers = q }
 
 -- NEVER 6
 
@@ -108,3 +130,15 @@ wrote-not-six {r = r} h e = go (h .answer) refl
     go (W.Written.Length n) f =
         let i : r ≡ 0 = h .number ∙ ap X.written-refusal f in
         omega arith
+
+module _ {book line : List ℕ} {units budget day : ℕ} {schedule rates : List ℕ} {amount : ℤ} {ss output : List ℕ} {parts : List ℤ} {output′ : List ℕ}
+    {parts′ : List ℤ} {answer′ : List ℕ} {fee′ : List ℤ} {charged′ : List ℕ} {r : ℕ} where
+  settle-not-six : (read : LineReader) → S.answered read book line units budget day schedule rates amount ss output parts ≢ refused 6 →
+      X.Settled-in-numbers-by read book line units budget day schedule rates amount ss output parts output′ parts′ answer′ fee′ charged′ r → r ≢ 6
+  settle-not-six read n h e = never (λ (x : Result S.Settlement). X.refusal (S.values-of x)) (λ k. refl) (λ a. refl) _ n (sym (h .numbers .number) ∙ e)
+
+  pub settled-not-six : X.Line-settled book line units budget day schedule rates amount ss output parts output′ parts′ answer′ fee′ charged′ r → r ≢ 6
+  settled-not-six = settle-not-six readLine (line-not-six book line units budget day schedule output rates amount ss)
+
+  pub payee-settled-not-six : X.Payee-settled book line units budget day schedule rates amount ss output parts output′ parts′ answer′ fee′ charged′ r → r ≢ 6
+  payee-settled-not-six = settle-not-six readText (payee-not-six-settled book line units budget day schedule output rates amount ss)

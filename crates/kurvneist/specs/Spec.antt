@@ -1,8 +1,10 @@
 -- The exported functions: a refusal's number or 0, and the values of an answer as numbers in an array (document 01, 'What is checked where': a
--- refusal answers its number with zeros for all else). Assumes nothing.
+-- refusal answers its number with zeros for all else; document 02, Change 12). Assumes nothing.
 use mathlib.Core.List.{List, [], _∷_}
+use mathlib.Core.Option.{Option, none, some}
 use mathlib.Core.Path.{_≡_}
 use Prim.Native.Nat.{ℕ}
+use lib.IntN.{ℤ, pos}
 use lib.ListN.{length}
 use Rattle.paper.specs.Result.{Result, refused, accepted}
 use Rattle.paper.specs.Line.{readLine}
@@ -13,6 +15,11 @@ use Rattle.engine.specs.declared.Answer as A
 use Rattle.batch.specs.Lines.{stop-number}
 use Rattle.batch.specs.Spec as B
 use Rattle.batch.specs.declared.Batch as D
+use Rattle.fees.specs.Fees.{charge}
+use Rattle.fees.specs.Spec as F
+use Rattle.fees.specs.declared.Charged as G
+use Rattle.settlement.specs.Spec as S
+use Rattle.settlement.specs.declared.Settled as T
 use Rattle.writer.specs.Spec.{Answers}
 use Rattle.writer.specs.declared.Written as W
 
@@ -84,3 +91,54 @@ pub record Wrote-in-numbers (book output output′ length′ : List ℕ) (r : �
   pub is : Answers book output output′ answer
   pub number : r ≡ written-refusal answer
   pub length : length′ ≡ written-length answer ∷ []
+
+-- THE CHARGE: the fee, 0 if there is none
+abbrev pub fee-number : Result ℤ → ℤ
+fee-number (refused k) = pos 0
+fee-number (accepted f) = f
+
+pub record Charged-in-numbers (term table : List ℕ) (amount : ℤ) (shares : List ℕ) (parts parts′ fee′ : List ℤ) (r : ℕ) : Type 0 where
+  -- the definition's number and fee
+  pub number : r ≡ refusal (F.fee-of (charge term table amount shares))
+  pub fee : fee′ ≡ fee-number (F.fee-of (charge term table amount shares)) ∷ []
+  -- what becomes of the lent array, clause by clause
+  pub answer : G.Charged
+  pub buffers : F.ChargedBy term table amount shares parts parts′ answer
+
+-- A RUN AND ITS CHARGE: the run's numbers, the fee, and 1 if there is one
+abbrev pub run-numbers : Result S.Told → List ℕ
+run-numbers (refused k) = value-numbers (refused k)
+run-numbers (accepted t) = value-numbers (accepted (t .run))
+
+abbrev pub posted-fee : Result S.Told → Option ℤ
+posted-fee (refused k) = none
+posted-fee (accepted t) = t .fee
+
+abbrev pub fee-or-zero : Option ℤ → ℤ
+fee-or-zero none = pos 0
+fee-or-zero (some f) = f
+
+abbrev pub one-if-some : Option ℤ → ℕ
+one-if-some none = 0
+one-if-some (some f) = 1
+
+pub record Settled-numbers (t : Result S.Told) (answer′ : List ℕ) (fee′ : List ℤ) (charged′ : List ℕ) (r : ℕ) : Type 0 where
+  pub number : r ≡ refusal t
+  pub values : answer′ ≡ run-numbers t
+  pub fee : fee′ ≡ fee-or-zero (posted-fee t) ∷ []
+  pub charged : charged′ ≡ one-if-some (posted-fee t) ∷ []
+
+-- by either reader
+module _ (read : LineReader) (book line : List ℕ) (units budget day : ℕ) (schedule rates : List ℕ) (amount : ℤ) (shares output : List ℕ) (parts : List ℤ) where
+  pub record Settled-in-numbers-by (output′ : List ℕ) (parts′ : List ℤ) (answer′ : List ℕ) (fee′ : List ℤ) (charged′ : List ℕ) (r : ℕ) : Type 0 where
+    -- the definition's numbers
+    pub numbers : Settled-numbers (S.values-of (S.answered read book line units budget day schedule rates amount shares output parts)) answer′ fee′ charged′ r
+    -- what becomes of the lent buffers, clause by clause
+    pub answer : T.Settled
+    pub buffers : S.SettledBy read book line units budget day schedule rates amount shares output parts output′ parts′ answer
+
+abbrev pub Line-settled : List ℕ → List ℕ → ℕ → ℕ → ℕ → List ℕ → List ℕ → ℤ → List ℕ → List ℕ → List ℤ → List ℕ → List ℤ → List ℕ → List ℤ → List ℕ → ℕ → Type 0
+Line-settled = Settled-in-numbers-by readLine
+
+abbrev pub Payee-settled : List ℕ → List ℕ → ℕ → ℕ → ℕ → List ℕ → List ℕ → ℤ → List ℕ → List ℕ → List ℤ → List ℕ → List ℤ → List ℕ → List ℤ → List ℕ → ℕ → Type 0
+Payee-settled = Settled-in-numbers-by readText

@@ -1,9 +1,12 @@
-// The library for C and Rust: a run, runs of many lines by one book, the book's writer, and the published lengths, on numbers and byte slices. A slice
-// is passed as a pointer and a length, an array as a pointer.
+// The library for C and Rust: a run, runs of many lines by one book, the book's writer, the charge of what was posted, and the published lengths, on numbers
+// and slices of them. A slice is passed as a pointer and a length, an array as a pointer.
 use batch::Batch;
 use batch::Stop;
 use engine::Answer;
+use engine::Form;
+use fees::Charged;
 use run::Run;
+use settlement::Settled;
 use writer::Written;
 ghost use mathlib.Core.Path.{_≡_};
 ghost use mathlib.Core.List.{_∷_, []};
@@ -12,6 +15,7 @@ ghost use Rattle.engine.specs.Spec.{published, values};
 ghost use Rattle.records.specs.Record.{longest};
 ghost use Rattle.batch.specs.Lines.{stop-number};
 ghost use Rattle.batch.specs.Spec as B;
+ghost use Rattle.settlement.specs.Spec as S;
 ghost use Rattle.kurvneist.specs.Spec as X;
 
 // The bytes of a work area.
@@ -260,4 +264,149 @@ pub extern "C" fn kurvneist_write_book(book: &[u8], output: &mut [u8], size: &mu
             0
         }
     }
+}
+
+fn put_fee(fee: &mut [i64; 1], f: i64)
+    requires { ⌜ length (now fee) ≡ 1 ⌝ }
+    ensures { λ _. ⌜ now (fee .exit) ≡ f ∷ [] ⌝ }
+{
+    fee[0] = f;
+}
+
+// The charge of an amount, by the rate of the root of a term that was posted: the refusal's number, or 0, and the fee, or 0. The parts stand in front of
+// the array; a refusal leaves it as it was.
+#[no_mangle]
+pub extern "C" fn kurvneist_charge(
+    term: &[u8],
+    rates: &[u8],
+    amount: i64,
+    shares: &[u16],
+    parts: &mut [i64; 16],
+    fee: &mut [i64; 1],
+) -> u8
+    requires { ⌜ (length (now parts) ≡ 16) × (length (now fee) ≡ 1) ⌝ }
+    ensures { λ r. ⌜ X.Charged-in-numbers (now (term .entry)) (now (rates .entry)) amount (now (shares .entry)) (now (parts .entry)) (now (parts .exit))
+        (now (fee .exit)) r ⌝ }
+{
+    match fees::charge(term, rates, amount, shares, parts) {
+        Charged::Refused(k) => {
+            put_fee(fee, 0);
+            k
+        }
+        Charged::Fee(f) => {
+            put_fee(fee, f);
+            0
+        }
+    }
+}
+
+fn put_charged(charged: &mut [u64; 1], n: u64)
+    requires { ⌜ length (now charged) ≡ 1 ⌝ }
+    ensures { λ _. ⌜ now (charged .exit) ≡ n ∷ [] ⌝ }
+{
+    charged[0] = n;
+}
+
+// The refusal's number, or 0; the run's numbers; the fee, and 1 if there is one.
+fn put_settled(s: Settled, answer: &mut [u64; 6], fee: &mut [i64; 1], charged: &mut [u64; 1]) -> u8
+    requires { ⌜ (length (now answer) ≡ 6) × (length (now fee) ≡ 1) × (length (now charged) ≡ 1) ⌝ }
+    ensures { λ r. ⌜ X.Settled-numbers (S.values s) (now (answer .exit)) (now (fee .exit)) (now (charged .exit)) r ⌝ }
+{
+    match s {
+        Settled::Refused(k) => {
+            put_fee(fee, 0);
+            put_charged(charged, 0);
+            put_answer(Answer::Refused(k), answer)
+        }
+        Settled::Ended(run) => {
+            put_fee(fee, 0);
+            put_charged(charged, 0);
+            put_answer(Answer::Ran(run), answer)
+        }
+        Settled::Posted(run, f) => {
+            put_fee(fee, f);
+            put_charged(charged, 1);
+            put_answer(Answer::Ran(run), answer)
+        }
+    }
+}
+
+// A run of a line, and the charge of what it posts: the refusal's number, or 0.
+#[no_mangle]
+pub extern "C" fn kurvneist_settle(
+    book: &[u8],
+    line: &[u8],
+    units: u8,
+    budget: u32,
+    day: u16,
+    schedule: &[u8],
+    rates: &[u8],
+    amount: i64,
+    shares: &[u16],
+    output: &mut [u8],
+    parts: &mut [i64; 16],
+    answer: &mut [u64; 6],
+    fee: &mut [i64; 1],
+    charged: &mut [u64; 1],
+) -> u8
+    requires { ⌜ (length (now parts) ≡ 16) × (length (now answer) ≡ 6) × (length (now fee) ≡ 1) × (length (now charged) ≡ 1) ⌝ }
+    ensures { λ r. ⌜ X.Line-settled (now (book .entry)) (now (line .entry)) units budget day (now (schedule .entry)) (now (rates .entry)) amount
+        (now (shares .entry)) (now (output .entry)) (now (parts .entry)) (now (output .exit)) (now (parts .exit)) (now (answer .exit)) (now (fee .exit))
+        (now (charged .exit)) r ⌝ }
+{
+    let s = settlement::settle(
+        Form::Term,
+        book,
+        line,
+        units,
+        budget,
+        day,
+        schedule,
+        rates,
+        amount,
+        shares,
+        output,
+        parts,
+    );
+    put_settled(s, answer, fee, charged)
+}
+
+// A run of a payee's text, and the charge of what it posts.
+#[no_mangle]
+pub extern "C" fn kurvneist_settle_payee(
+    book: &[u8],
+    text: &[u8],
+    units: u8,
+    budget: u32,
+    day: u16,
+    schedule: &[u8],
+    rates: &[u8],
+    amount: i64,
+    shares: &[u16],
+    output: &mut [u8],
+    parts: &mut [i64; 16],
+    answer: &mut [u64; 6],
+    fee: &mut [i64; 1],
+    charged: &mut [u64; 1],
+) -> u8
+    requires { ⌜ (length (now parts) ≡ 16) × (length (now answer) ≡ 6) × (length (now fee) ≡ 1) × (length (now charged) ≡ 1) ⌝ }
+    ensures { λ r. ⌜ X.Payee-settled (now (book .entry)) (now (text .entry)) units budget day (now (schedule .entry)) (now (rates .entry)) amount
+        (now (shares .entry)) (now (output .entry)) (now (parts .entry)) (now (output .exit)) (now (parts .exit)) (now (answer .exit)) (now (fee .exit))
+        (now (charged .exit)) r ⌝ }
+{
+    let s = settlement::settle(
+        Form::Text,
+        book,
+        text,
+        units,
+        budget,
+        day,
+        schedule,
+        rates,
+        amount,
+        shares,
+        output,
+        parts,
+    );
+    put_settled(s, answer, fee, charged)
 }

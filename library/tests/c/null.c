@@ -16,6 +16,9 @@ static uint8_t output[KURVNEIST_OUTPUT_LENGTH];
 static uint8_t answers[KURVNEIST_LONGEST_RECORD];
 static uint64_t answer[KURVNEIST_ANSWER_LENGTH];
 static uint64_t done[KURVNEIST_DONE_LENGTH];
+static int64_t parts[KURVNEIST_MOST_OWNERS];
+static int64_t fee;
+static uint64_t charged;
 static int wrong = 0;
 
 static void due(const char *what, uint8_t expected, uint8_t told) {
@@ -87,6 +90,34 @@ static void many(void) {
         kurvneist_payee_lines(NOTHING, NOTHING, 0, 0, 0, NOTHING, NOTHING, NOTHING, NOTHING, done));
 }
 
+static void fees(void) {
+    static const uint8_t rates[] = {0x01, 0x5e};
+    static const uint16_t shares[] = {10000};
+    due("no posting to charge", KURVNEIST_BAD_RATE_OR_SHARES,
+        kurvneist_charge(NOTHING, rates, sizeof rates, 100, shares, 1, parts, &fee));
+    due("no rates", KURVNEIST_BAD_RATE_OR_SHARES,
+        kurvneist_charge(line, sizeof line, NOTHING, 100, shares, 1, parts, &fee));
+    due("no owners", KURVNEIST_BAD_RATE_OR_SHARES,
+        kurvneist_charge(line, sizeof line, rates, sizeof rates, 100, NOTHING, parts, &fee));
+    due("nothing to charge", KURVNEIST_AMOUNT_OUT_OF_RANGE,
+        kurvneist_charge(NOTHING, NOTHING, INT64_MIN, NOTHING, parts, &fee));
+    due("no output to settle in", KURVNEIST_OUTPUT_TOO_SHORT,
+        kurvneist_settle(constant, sizeof constant, line, sizeof line, 1, 9, 0, NOTHING, rates, sizeof rates, 100,
+                         shares, 1, NOTHING, parts, answer, &fee, &charged));
+    charged = 7;
+    due("no schedule, no rates, no owners", KURVNEIST_ACCEPTED,
+        kurvneist_settle(constant, sizeof constant, line, sizeof line, 1, 9, 0, NOTHING, NOTHING, 100, NOTHING, OUTPUT,
+                         parts, answer, &fee, &charged));
+    due("the ending of what is not charged", KURVNEIST_CUT, (uint8_t)answer[KURVNEIST_ENDING]);
+    due("what is not charged", 0, (uint8_t)charged);
+    due("no text to settle, no rates, no owners", KURVNEIST_ACCEPTED,
+        kurvneist_settle_payee(letters, sizeof letters, NOTHING, 1, 9, 0, NOTHING, NOTHING, 100, NOTHING, OUTPUT, parts,
+                               answer, &fee, &charged));
+    due("nothing to settle", KURVNEIST_BAD_UNITS,
+        kurvneist_settle_payee(NOTHING, NOTHING, 0, 0, 0, NOTHING, NOTHING, 0, NOTHING, NOTHING, parts, answer, &fee,
+                               &charged));
+}
+
 static void books(void) {
     due("nothing to write", KURVNEIST_BOOK_RUNS_OUT, kurvneist_write_book(NULL, 0, NULL, 0, answer));
     due("nowhere to write", KURVNEIST_OUTPUT_TOO_SHORT, kurvneist_write_book(constant, sizeof constant, NULL, 0, answer));
@@ -96,6 +127,7 @@ int main(void) {
     lines();
     texts();
     many();
+    fees();
     books();
     return wrong != 0;
 }

@@ -1,27 +1,21 @@
 //! What each command does.
 
-use std::ffi::OsStr;
-use std::io;
 use std::path::Path;
 
 use comparison::model::{self, Form};
 use kurvneist::{Ending, Engine, Refusal, Request};
 
-use crate::batch;
 use crate::cli::files;
 use crate::cli::options::Parsed;
-use crate::cli::reading;
 use crate::cli::{say, Status, Stop};
 use crate::compose::composed;
-use crate::items::{BadHeader, Reason};
+use crate::items::Reason;
 use crate::json::Json;
 use crate::letters;
 use crate::line;
 use crate::names::Names;
 use crate::outcome::Outcome;
-use crate::output::Output;
 use crate::posting::{Posted, Schedules};
-use crate::profile::Profile;
 use crate::progress::Progress;
 use crate::text::check::{self, Named};
 use crate::text::printer;
@@ -261,94 +255,4 @@ pub fn trace(parsed: &Parsed) -> Result<Status, Stop> {
         say_shown_cut(parsed, schedule.len() as u64, schedules);
     }
     Ok(status(traced.ending))
-}
-
-pub fn batch(parsed: &Parsed) -> Result<Status, Stop> {
-    let units = parsed.units().map_err(usage)?;
-    let budget = parsed.number("--budget", 0, 1_000_000).map_err(usage)?;
-    let jobs = parsed.jobs().map_err(usage)?;
-    let reading = reading::of(parsed)?;
-    let schedules = files::schedules(parsed, units)?;
-    profile_apart(parsed)?;
-    let named = files::named(parsed, "--book-encoding")?;
-    let day = files::day(parsed, &named)?;
-    reading::check_template(parsed, &reading, &named.names)?;
-    let name = &parsed.arguments[1];
-    let (mut input, length) = files::input(name)?;
-    let profile = parsed
-        .has("--profile")
-        .then(|| Profile::new(&named.book, day));
-    let settings = batch::Settings {
-        named: &named,
-        budget,
-        day,
-        schedules: &schedules,
-        counts: parsed.has("--counts"),
-        reading: &reading,
-        jobs,
-        json: parsed.has("--json"),
-        profile: profile.as_ref(),
-    };
-    let quiet = parsed.has("--quiet");
-    let mut progress = match quiet {
-        true => Progress::hidden(),
-        false => Progress::new(),
-    };
-    progress.expect(length);
-    let postings = files::output_name(parsed);
-    let unwritten = |error| files::unusable(postings, error);
-    let mut output = Output::create(postings).map_err(unwritten)?;
-    let run = batch::run(&mut input, &settings, &mut output, &mut progress);
-    let done = run.and_then(|summary| match output.finish() {
-        Ok(()) => Ok(summary),
-        Err(error) => Err(batch::Failure::Write(error)),
-    });
-    let summary = match done {
-        Ok(summary) => summary,
-        // Who reads the postings, as `head` does, has all that was wanted.
-        Err(batch::Failure::Write(error)) if is_gone(&error) => return Ok(Status::Done),
-        Err(batch::Failure::Write(error)) => return Err(unwritten(error)),
-        Err(batch::Failure::Read(error)) => return Err(files::unusable(name, error)),
-        Err(batch::Failure::Header(BadHeader(wrong))) => {
-            let message = format!("{}: {wrong}", Path::new(name).display());
-            return Err(Stop::new(Status::Input, message));
-        }
-    };
-    if let Some(profile) = &profile {
-        write_profile(parsed, profile, &named)?;
-    }
-    if !quiet {
-        say(&summary.to_string());
-    }
-    Ok(match summary.not_posted() {
-        0 => Status::Done,
-        _ => Status::NotPosted,
-    })
-}
-
-fn is_gone(error: &io::Error) -> bool {
-    error.kind() == io::ErrorKind::BrokenPipe
-}
-
-/// Postings and profile don't both go to standard output.
-fn profile_apart(parsed: &Parsed) -> Result<(), Stop> {
-    match parsed.name("--profile") {
-        Some(name) if name == "-" && files::output_name(parsed) == "-" => {
-            let wrong = "the postings and the profile both go to standard output; expected -o FILE";
-            Err(usage(wrong.to_owned()))
-        }
-        _ => Ok(()),
-    }
-}
-
-fn write_profile(parsed: &Parsed, profile: &Profile, named: &Named) -> Result<(), Stop> {
-    if let Some(difference) = profile.difference() {
-        return Err(Stop::new(Status::Difference, difference.to_string()));
-    }
-    let text = match parsed.has("--json") {
-        true => format!("{}\n", profile.json(named)),
-        false => profile.text(named),
-    };
-    let name = parsed.name("--profile").unwrap_or(OsStr::new("-"));
-    files::write(name, text.as_bytes())
 }

@@ -122,15 +122,37 @@ pub fn read_text(
     name: &OsStr,
     encoding: Encoding,
 ) -> Result<(String, Result<Named, Vec<Mistake>>), Stop> {
+    let more = "; a packed book is read with --packed or 'kurvneist text'";
+    read_source(name, encoding, more, check::read)
+}
+
+/// What a table in text form says, or all its mistakes.
+pub fn table<Table>(
+    name: &OsStr,
+    encoding: Encoding,
+    read: impl FnOnce(&str) -> Result<Table, Vec<Mistake>>,
+) -> Result<Table, Stop> {
+    let (source, read) = read_source(name, encoding, "", read)?;
+    read.map_err(|mistakes| mistaken(name, &source, &mistakes))
+}
+
+/// A text and what is read of it, or all its mistakes. Of a byte that it can't
+/// have, `more` says what else it may be.
+fn read_source<Read>(
+    name: &OsStr,
+    encoding: Encoding,
+    more: &str,
+    read: impl FnOnce(&str) -> Result<Read, Vec<Mistake>>,
+) -> Result<(String, Result<Read, Vec<Mistake>>), Stop> {
     let bytes = bytes(name)?;
     Ok(match encoding.decode(&bytes) {
         Ok(source) => {
             let source = composed(&source).into_owned();
-            let read = check::read(&source);
+            let read = read(&source);
             (source, read)
         }
         Err(bad) => {
-            let mistake = bad_byte(&bad, encoding);
+            let mistake = bad_byte(&bad, encoding, more);
             (encoding.lossy(&bytes), Err(vec![mistake]))
         }
     })
@@ -142,12 +164,9 @@ pub fn mistaken(name: &OsStr, source: &str, mistakes: &[Mistake]) -> Stop {
 }
 
 /// The bad byte became a character of three bytes in the shown source.
-fn bad_byte(bad: &BadByte, encoding: Encoding) -> Mistake {
+fn bad_byte(bad: &BadByte, encoding: Encoding, more: &str) -> Mistake {
     let at = bad.before.len();
-    let expected = format!(
-        "a text in {encoding}, or its encoding by an option; a packed book is read with --packed \
-         or 'kurvneist text'"
-    );
+    let expected = format!("a text in {encoding}, or its encoding by an option{more}");
     Mistake::new(Span::new(at, at + 3), bad.to_string(), expected)
 }
 

@@ -7,12 +7,12 @@ use crate::schedule;
 
 pub const STATUS: &str = "\
 Exit status
-  0  done; in post, explain, trace and batch: every run finished, or the reader of
-     the postings went away, as head does
+  0  done; in post, explain, trace, batch and fees: every run finished, or the
+     reader of the postings went away, as head does
   1  a line was refused, mistyped, or its run didn't finish
   2  the command line is wrong
   3  a book is mistaken or refused, has a warning in check --strict, or a file
-     can't be used
+     can't be used; so is a fee table, or owners' shares
   4  a trace, explanation or profile differs from the engine, or a text from its
      book
 ";
@@ -244,6 +244,42 @@ in which it rewrote, and the rule. With --json it is an object with rules, a lis
 of objects with rule, rule_line, in a dated book rule_day, sides, rewrites and
 lines. The engine counts no rules, so each run is made again by the plain model
 and compared at its end.
+";
+
+pub const FEES: &str = "\
+Posts each line as batch does, takes the fee off its amount, at the rate of the
+posting's root, and splits the rest among the owners:
+  8400-Weiß-2.OG: 940.00 = fee 47.00 + Renée Weiß 558.13 + Erben Blüm 334.87
+The engine works in whole cents: a fee's half cent goes away from zero, parts are
+cut toward zero, and the cents left go one each to the parts that lost most, the
+first of them where they lost as much. A refund's fee and parts are the payment's
+with the sign turned. The last line of the output is the sum of what was charged.
+
+TABLE has operators and their rate on each line, in any order; * is every operator
+that no line names. A posting whose root has no rate is not charged. OWNERS has a
+name and a share on each line, 1 to 16 of them, 100% in all. # begins a comment.
+  8400-Weiß-2.OG 8401-Núñez-1.OG  5%            Renée Weiß   62.5%
+  70010-König-caretaker           3.50%         Erben Blüm   375/1000
+  *                               0%
+A rate or a share is a percentage with at most two decimals, or a fraction that is
+a whole number of ten-thousandths. Mistakes are told with line and column.
+
+Each line of LINES has an amount and, behind a space, a term or, with --payee, a
+payee; the rest is as in batch, also of a bank export, whose amounts stand in the
+column --amount. An amount has two decimals, behind a point or a comma. The other
+of both may stand between thousands:
+  1234.56   1,234.56   1234,56   1.234,56   -180.00   +12,50
+So 1,234 and 1.234 are told as mistakes, since each may mean two things, and 180,
+which may be cents. An amount has no sign of a currency, and a minus in front only.
+What can't be posted or charged is told as in batch, and is in no sum:
+  ! column 1: the mark of '1,234' may part thousands or decimals; expected ..
+  ! refused 22: the amount is not from -1,000,000,000,000 to 1,000,000,000,000 ..
+  ! refused 23: the table has no rate for 'line', at line(payee(Weiß), invoice)
+
+With --json, a posting's object has besides the fields of post: amount and fee, and
+parts, a list of objects with owner and part, all in cents. The last line is an
+object with sums: postings, amount, fee and parts. An error that is refused by 22
+or 23 has term, the posting.
 ";
 
 pub fn general() -> String {

@@ -1,5 +1,6 @@
 //! The program: commands, their options and help from one table.
 
+mod batching;
 mod checking;
 mod commands;
 mod explaining;
@@ -23,7 +24,8 @@ pub enum Status {
     NotPosted = 1,
     /// The command line is wrong.
     Usage = 2,
-    /// A book is mistaken or refused, or a file can't be used.
+    /// A book, a fee table or shares are mistaken or refused, or a file can't be
+    /// used.
     Input = 3,
     /// A trace, explanation or profile differs from the engine, or a text from
     /// its book.
@@ -98,7 +100,8 @@ fn run_command(command: &Command, rest: &[OsString]) -> Result<Status, Stop> {
         "post" => commands::post,
         "explain" => explaining::explain,
         "trace" => commands::trace,
-        _ => commands::batch,
+        "batch" => batching::batch,
+        _ => batching::fees,
     };
     run(&parsed)
 }

@@ -64,6 +64,49 @@ const SCHEDULE: Flag = flag(
     Some("FORM"),
     "which unit acts when (default: in turn, as long as needed)",
 );
+const LINES_PAYEE: Flag = flag(
+    "--payee",
+    None,
+    "each line is a payee's text, as it is typed, and no term",
+);
+const COUNTS: Flag = flag(
+    "--counts",
+    None,
+    "say each run's counts, as a comment behind the posting",
+);
+const LINES_JSON: Flag = flag("--json", None, "write an object in JSON for each line");
+const COLUMN: Flag = flag(
+    "--column",
+    Some("C"),
+    "LINES is a bank export; take this column, by name or number",
+);
+const SEPARATOR: Flag = flag(
+    "--separator",
+    Some("S"),
+    "what stands between its columns: , (default) ; | or tab",
+);
+const HEADER: Flag = flag(
+    "--header",
+    None,
+    "it has a header, though its columns are given by number",
+);
+const TEMPLATE: Flag = flag(
+    "--template",
+    Some("T"),
+    "make a line of each text, as in 'line(payee(\"{}\"), rent)'",
+);
+const LINES_ENCODING: Flag = flag(
+    "--encoding",
+    Some("E"),
+    "LINES': utf-8 (default), latin-1 or windows-1252",
+);
+const LATIN1: Flag = flag("--latin1", None, "the same as --encoding latin-1");
+const QUIET: Flag = flag("--quiet", None, "no progress bar and no summary");
+const JOBS: Flag = flag(
+    "--jobs",
+    Some("N"),
+    "post on so many threads, 1 to 256 (default 1)",
+);
 const OUTPUT: Flag = flag(
     "-o",
     Some("FILE"),
@@ -218,57 +261,25 @@ pub const COMMANDS: &[Command] = &[
             ),
         ],
         flags: &[
-            flag(
-                "--payee",
-                None,
-                "each line is a payee's text, as it is typed, and no term",
-            ),
+            LINES_PAYEE,
             DAY,
             OUTPUT,
-            flag(
-                "--counts",
-                None,
-                "say each run's counts, as a comment behind the posting",
-            ),
-            flag("--json", None, "write an object in JSON for each line"),
+            COUNTS,
+            LINES_JSON,
             flag(
                 "--profile",
                 Some("FILE"),
                 "write to this file how often each rule rewrote",
             ),
-            flag(
-                "--column",
-                Some("C"),
-                "LINES is a bank export; take this column, by name or number",
-            ),
-            flag(
-                "--separator",
-                Some("S"),
-                "what stands between its columns: , (default) ; | or tab",
-            ),
-            flag(
-                "--header",
-                None,
-                "it has a header, though its columns are given by number",
-            ),
-            flag(
-                "--template",
-                Some("T"),
-                "make a line of each text, as in 'line(payee(\"{}\"), rent)'",
-            ),
-            flag(
-                "--encoding",
-                Some("E"),
-                "LINES': utf-8 (default), latin-1 or windows-1252",
-            ),
-            flag("--latin1", None, "the same as --encoding latin-1"),
+            COLUMN,
+            SEPARATOR,
+            HEADER,
+            TEMPLATE,
+            LINES_ENCODING,
+            LATIN1,
             flag("--book-encoding", Some("E"), "the book text's"),
-            flag("--quiet", None, "no progress bar and no summary"),
-            flag(
-                "--jobs",
-                Some("N"),
-                "post on so many threads, 1 to 256 (default 1)",
-            ),
+            QUIET,
+            JOBS,
             UNITS,
             BUDGET,
             SCHEDULE,
@@ -276,6 +287,50 @@ pub const COMMANDS: &[Command] = &[
             NAMES,
         ],
         more: super::help::BATCH,
+    },
+    Command {
+        name: "fees",
+        about: "reduce lines with amounts, take fees off and split the rest",
+        arguments: &[
+            BOOK,
+            ("TABLE", "the operators' rates in text form"),
+            ("OWNERS", "the owners' shares in text form"),
+            (
+                "LINES",
+                "a file with an amount and a line on each line; - is standard input",
+            ),
+        ],
+        flags: &[
+            LINES_PAYEE,
+            DAY,
+            OUTPUT,
+            COUNTS,
+            LINES_JSON,
+            COLUMN,
+            flag(
+                "--amount",
+                Some("C"),
+                "the column of the amounts, by name or number (with --column)",
+            ),
+            SEPARATOR,
+            HEADER,
+            TEMPLATE,
+            LINES_ENCODING,
+            LATIN1,
+            flag(
+                "--book-encoding",
+                Some("E"),
+                "that of the book's, the table's and the owners' texts",
+            ),
+            QUIET,
+            JOBS,
+            UNITS,
+            BUDGET,
+            SCHEDULE,
+            PACKED,
+            NAMES,
+        ],
+        more: super::help::FEES,
     },
 ];
 

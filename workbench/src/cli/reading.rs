@@ -1,4 +1,4 @@
-//! How a batch reads its lines, as the command line says.
+//! How a batch reads its lines and amounts, as the command line says.
 
 use comparison::model::Form;
 
@@ -13,14 +13,21 @@ use crate::line;
 use crate::names::Names;
 use crate::template::Template;
 
-pub fn of(parsed: &Parsed) -> Result<Reading, Stop> {
+pub fn of(parsed: &Parsed, has_amounts: bool) -> Result<Reading, Stop> {
     let form = form(parsed);
     let template = template(parsed, form)?;
+    let encoding = encoding(parsed).map_err(usage)?;
+    let columns = columns(parsed, template.as_ref()).map_err(usage)?;
+    let columns = match has_amounts {
+        true => with_amount(parsed, columns).map_err(usage)?,
+        false => columns,
+    };
     Ok(Reading {
         form,
-        encoding: encoding(parsed).map_err(usage)?,
-        columns: columns(parsed, template.as_ref()).map_err(usage)?,
+        encoding,
+        columns,
         template,
+        has_amounts,
     })
 }
 
@@ -71,9 +78,7 @@ fn columns(parsed: &Parsed, template: Option<&Template>) -> Result<Option<Column
             };
         }
     };
-    if let Some(zero) = asked.iter().find(|column| column.parse() == Ok(0)) {
-        return Err(format!("there is no column {zero}; columns count from 1"));
-    }
+    asked.iter().try_for_each(|column| check_column(column))?;
     let separator = parsed.value("--separator").unwrap_or(",");
     Ok(Some(Columns {
         separator: csv::separator(separator)
@@ -81,6 +86,30 @@ fn columns(parsed: &Parsed, template: Option<&Template>) -> Result<Option<Column
         header: parsed.has("--header") || asked.iter().any(|column| number(column).is_none()),
         asked,
     }))
+}
+
+/// The same with the column of the amounts behind the others. In a file of
+/// lines an amount stands before each.
+fn with_amount(parsed: &Parsed, columns: Option<Columns>) -> Result<Option<Columns>, String> {
+    let amount = parsed.value("--amount").map(composed);
+    match (columns, amount) {
+        (None, None) => Ok(None),
+        (None, Some(_)) => Err("--amount goes with --column".into()),
+        (Some(_), None) => Err("a bank export needs --amount, the column of its amounts".into()),
+        (Some(mut columns), Some(amount)) => {
+            check_column(&amount)?;
+            columns.header |= number(&amount).is_none();
+            columns.asked.push(amount.into_owned());
+            Ok(Some(columns))
+        }
+    }
+}
+
+fn check_column(column: &str) -> Result<(), String> {
+    match column.parse() == Ok(0) {
+        true => Err(format!("there is no column {column}; columns count from 1")),
+        false => Ok(()),
+    }
 }
 
 /// The template's columns, with that of the command line for `{}`.

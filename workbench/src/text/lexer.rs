@@ -38,7 +38,7 @@ pub fn is_name_character(character: char) -> bool {
 }
 
 /// Editors on Windows begin a file with the mark U+FEFF.
-fn is_space(character: char) -> bool {
+pub fn is_space(character: char) -> bool {
     character.is_whitespace() || character == '\u{feff}'
 }
 

@@ -7,7 +7,7 @@ use std::str::Chars;
 pub enum Value {
     Null,
     Bool(bool),
-    Number(u64),
+    Number(i128),
     Text(String),
     List(Vec<Value>),
     Object(Vec<(String, Value)>),
@@ -47,6 +47,10 @@ impl Value {
     }
 
     pub fn number(&self) -> u64 {
+        u64::try_from(self.signed()).unwrap()
+    }
+
+    pub fn signed(&self) -> i128 {
         match self {
             Value::Number(number) => *number,
             _ => panic!("{self:?} is no number"),
@@ -109,12 +113,17 @@ fn word(rest: &mut Rest, word: &str, value: Value) -> Value {
 }
 
 fn number(rest: &mut Rest) -> Value {
+    let sign = if rest.next_if_eq(&'-').is_some() {
+        -1
+    } else {
+        1
+    };
     let mut digits = String::new();
     while let Some(digit) = rest.next_if(char::is_ascii_digit) {
         digits.push(digit);
     }
     assert!(digits == "0" || !digits.starts_with('0'), "{digits}");
-    Value::Number(digits.parse().unwrap())
+    Value::Number(sign * digits.parse::<i128>().unwrap())
 }
 
 fn string(rest: &mut Rest) -> String {

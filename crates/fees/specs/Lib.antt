@@ -1,0 +1,3 @@
+pub mod Fees
+pub mod Spec
+pub mod Contracts
