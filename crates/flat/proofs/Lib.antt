@@ -25,3 +25,11 @@ pub mod Inside
 pub mod Tallies
 pub mod Tops
 pub mod Idle
+pub mod Lenders
+pub mod Stamps
+pub mod Rebuilt
+pub mod Queued
+pub mod Sites
+pub mod Exits
+pub mod Held
+pub mod Kept

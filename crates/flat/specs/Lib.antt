@@ -4,3 +4,5 @@ pub mod Machine
 pub mod Run
 pub mod Rules
 pub mod Relation
+pub mod Meets
+pub mod Tables
