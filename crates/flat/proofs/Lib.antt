@@ -26,9 +26,10 @@ pub mod Tallies
 pub mod Tops
 pub mod Idle
 pub mod Lenders
-pub mod Stamps
+pub mod Tables
 pub mod Rebuilt
 pub mod Queued
+pub mod Invariant
 pub mod Sites
 pub mod Exits
 pub mod Held

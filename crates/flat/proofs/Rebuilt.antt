@@ -1,7 +1,7 @@
 -- A state that keeps the rules of its tables stands for a ghost term: each symbol's entry says whether it is at rest, to be visited or in work, and whether it is
 -- lent. So the paper's invariant holds of it. Assumes nothing.
 use mathlib.Core.Bool.{Bool, true, false, true≢false}
-use mathlib.Core.List.{List, [], _∷_, _++_, append-assoc, append-nil}
+use mathlib.Core.List.{List, [], _∷_, _++_, map, append-assoc, append-nil}
 use mathlib.Core.Logic.{inl, inr, _≢_}
 use mathlib.Core.Option.{Option, none, some, Option·none-ne-some}
 use mathlib.Core.Path.{_≡_, refl, sym, _∙_, ap, ap₂, subst}
@@ -20,13 +20,13 @@ use Rattle.paper.proofs.Ghost.{Label, Holder, own, lent, Ghost, rest, todo, wor
 use Rattle.paper.proofs.Moves.{steps-counted}
 use Rattle.paper.proofs.Invariant.{root-label, all}
 use Rattle.paper.proofs.Stack
-use Rattle.paper.proofs.Stack.{bottom, list-same, list-other, list-none, Labels, Under, Owned, Sorted, Same}
+use Rattle.paper.proofs.Stack.{bottom, list-same, list-other, list-none, Labels, Under, Owned, owners, Sorted, Same}
 use Rattle.paper.proofs.Tests.{eqb-cases, eqb-true, eqb-false, eqb-equal, ltb-cases, ltb-true, ltb-false}
 use Rattle.paper.proofs.Trees.{subterm-append}
 use Rattle.paper.proofs.View.{Block, block, list, lists, parts, all-parts, sum, sum-append, Counted, lents, width, Well, w-rest, w-todo, w-work, Wells, w-nil, w-still, w-active, w-lent, quiet-list}
 use Rattle.flat.specs.Rules.{InGroup, forks-left}
 use Rattle.flat.specs.Relation.{Valid, offset, offsets, Rooted, recount, Placed, list-of, GoodFrames}
-use Rattle.flat.specs.Tables.{Kind, Tables, Pending, pending, one, lent-in, Argument, ArgumentAt, SymbolOf, SymbolAt, Links, Begins, Stands, Before, Ordered, listed, of-unit, exits-of}
+use Rattle.flat.proofs.Tables.{Kind, Tables, Pending, pending, one, lent-in, Argument, ArgumentAt, SymbolOf, SymbolAt, Links, Begins, Stands, Before, Ordered, listed, of-unit, exits-of}
 use Rattle.flat.proofs.Bounds.{offset-unique}
 use Rattle.flat.proofs.Offsets.{offset-inside, offset-append, valid-append, correct-subterm}
 use Rattle.flat.proofs.Steps.{Shape, Settled, shape-drop, within-drop, distinct-drop}
@@ -630,3 +630,9 @@ module _ (B : Book) (sound : Sound B) (settled : Settled B) (M : ℕ → Bool) (
       unfolding blocks block-of
       blocks-owned [] l o = (l, tt)
       blocks-owned (x ∷ xs) l o = (o .3, blocks-owned xs l (o .5))
+
+    -- the blocks' units are those of the parts, and last that of the main part
+    pub blocks-owners : (xs : List Pending) → owners (blocks xs) ≡ map (λ x. T .owner (offset (x .position) t)) xs ++ (0 ∷ [])
+    unfolding blocks block-of
+    blocks-owners [] = refl
+    blocks-owners (x ∷ xs) = ap (λ (z : List ℕ). T .owner (offset (x .position) t) ∷ z) (blocks-owners xs)

@@ -5,4 +5,3 @@ pub mod Run
 pub mod Rules
 pub mod Relation
 pub mod Meets
-pub mod Tables

@@ -1,6 +1,6 @@
--- The rules of a state as a table of its symbols shows them (Change 11 of document 02: 'The form's layout and rules are listed in docs/'). For each offset: the job
--- there, if there is one; which of its arguments the same unit has in work; when the part there was placed, if it is one. Each rule speaks of one symbol and its
--- arguments, of one frame and the frame above it, or of one pending part. Assumes nothing.
+-- Tables of a term's symbols: for each offset the job there, if there is one; which of its arguments the same unit has in work; when the part there was placed, if it
+-- is one. Each rule speaks of one symbol and its arguments, of one frame and the frame above it, or of one pending part: the step between stacks and a ghost
+-- term. Assumes nothing.
 use mathlib.Core.Bool.{Bool, true, false}
 use mathlib.Core.List.{List, [], _∷_, _++_, map}
 use mathlib.Core.Option.{Option, none, some}
@@ -8,14 +8,13 @@ use mathlib.Core.Path.{_≡_}
 use Prim.Native.Nat.{ℕ, zero, suc, _+_, _<_, _≤_}
 use lib.Dec.{eqb}
 use lib.ListN.{length, drop}
-use Rattle.paper.specs.Tree.{Forest, nil, cons, label, arguments, count, preorder, size, Correct, Position, subterm}
+use Rattle.paper.specs.Tree.{Forest, nil, cons, label, arguments, count, size, Position, subterm}
 use Rattle.paper.specs.Strategy.{Step}
-use Rattle.paper.specs.Book.{Term, Book, arity, steps}
-use Rattle.paper.specs.Machine.{Order, Limits, exceeds}
+use Rattle.paper.specs.Book.{Term, Book, steps}
+use Rattle.paper.specs.Machine.{Order}
 use Rattle.paper.specs.Sound.{Unnamed}
-use Rattle.flat.specs.Machine.{FlatState, unit}
-use Rattle.flat.specs.Rules.{InGroup, forks-left, jobs-at, upto, Waits, stack}
-use Rattle.flat.specs.Relation.{Valid, offset, Placed, PlacedUnit, at, list-of, unit-of, GoodFrames, Exits, Stacked}
+use Rattle.flat.specs.Rules.{InGroup, forks-left, upto}
+use Rattle.flat.specs.Relation.{Valid, offset, Placed, PlacedUnit, at, list-of}
 
 -- no job; a job whose next order is its VISIT; a job with k of its steps done, the count of its next JOIN, and that JOIN's number
 pub data Kind : Type 0 where
@@ -167,39 +166,21 @@ mentions-at k (Order.whole p n ∷ os) = mentions-at k os
 mentions-at k (Order.sleep ∷ os) = mentions-at k os
 mentions-at k (Order.bingo ∷ os) = mentions-at k os
 
--- THE RULES: a state that keeps them runs without fault (proofs/Meets)
-pub record Meets (B : Book) (L : Limits) (s : FlatState) : Type 0 where
-  pub term : Term
-  pub units : List PlacedUnit
+-- THE RULES of the tables for the units U, the parts of the order of placing being those of the units placed
+pub record Tabled (B : Book) (t : Term) (U : List PlacedUnit) (placed : List ℕ) : Type 0 where
   pub tables : Tables
   -- the pending parts in the order in which they were placed, the latest first
   pub order : List Pending
-  -- every symbol complete, the term within the limit, the rewrites within the budget
-  pub symbols : s .symbols ≡ preorder term
-  pub correct : Correct (arity B) term
-  pub short : exceeds (L .symbols) (length (s .symbols)) ≡ false
-  pub within : s .rewrites ≤ L .budget
-  -- the stacks, with positions for offsets; there is a unit
-  pub stacks : s .units ≡ map (unit-of term) units
-  pub some-unit : 1 ≤ length units
-  -- a job is inside the term, has a step left, and a count of at most what its next JOIN was laid out with; an EXIT names another unit's job whose next JOIN,
-  -- before any WHOLE, it is for, and whose argument its part is; a job stands on the job around it, on its part's EXIT or on BINGO, an EXIT on SLEEP or on a JOIN
-  pub jobs : (u : ℕ) → GoodFrames B term (at units u .frames)
-  pub exits : (u : ℕ) → Exits B units u (at units u .frames)
-  pub stacked : (u : ℕ) → Stacked B (at units u .frames)
-  -- no JOIN's number stands twice, and those from next on are new (a stack has no numbers, so this is a choice and no rule: proofs/Numbered)
+  -- no JOIN's number stands twice, and those from next on are new
   pub next : ℕ
-  pub once : (k : ℕ) → upto (λ v. joins-at k (list-of B (at units v .frames))) (length units) ≤ 1
-  pub fresh : (k : ℕ) → next ≤ k → upto (λ v. mentions-at k (list-of B (at units v .frames))) (length units) ≡ 0
-  -- no two jobs are at one offset
-  pub distinct : (x n : ℕ) → upto (λ v. jobs-at x (stack s v)) n ≤ 1
+  pub once : (k : ℕ) → upto (λ v. joins-at k (list-of B (at U v .frames))) (length U) ≤ 1
+  pub fresh : (k : ℕ) → next ≤ k → upto (λ v. mentions-at k (list-of B (at U v .frames))) (length U) ≡ 0
   -- the rule of each symbol, and the stacks as the tables say; the main part is nobody's
-  pub symbol : (p : Position) → Valid p term → SymbolAt B tables term p
-  pub stands : (v : ℕ) → Stands B tables term v none (at units v .frames)
+  pub symbol : (p : Position) → Valid p t → SymbolAt B tables t p
+  pub stands : (v : ℕ) → Stands B tables t v none (at U v .frames)
   pub main : (tables .stamp 0 ≡ 0) × (tables .part 0 ≡ 0)
   -- the order of placing is that of the tables, has each pending part once, and each stack's EXITs from the top
-  pub ordered : Ordered B tables term (length units) order
-  pub found : (b : ℕ) → listed B tables term b order ≡ one (tables .stamp b)
-  pub by-unit : (v : ℕ) → of-unit B tables term v order ≡ exits-of (at units v .frames)
-  -- an idle unit has SLEEP or a JOIN with a count above 0 on top
-  pub idle : (v : ℕ) → 1 ≤ unit (s .units) v .rank → Waits B (s .symbols) (stack s v)
+  pub ordered : Ordered B tables t (length U) order
+  pub found : (b : ℕ) → listed B tables t b order ≡ one (tables .stamp b)
+  pub by-unit : (v : ℕ) → of-unit B tables t v order ≡ exits-of (at U v .frames)
+  pub takers : map (λ x. tables .owner (offset (x .position) t)) order ≡ placed
