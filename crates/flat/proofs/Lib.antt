@@ -30,6 +30,9 @@ pub mod Tables
 pub mod Rebuilt
 pub mod Queued
 pub mod Invariant
+pub mod Numbered
+pub mod Stamps
+pub mod Tabled
 pub mod Sites
 pub mod Exits
 pub mod Held

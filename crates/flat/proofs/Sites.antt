@@ -11,11 +11,9 @@ use Rattle.paper.specs.Book.{Term, Book, steps}
 use Rattle.paper.specs.Sound.{In}
 use Rattle.paper.proofs.Numbers.{if-same, same-is, other-is}
 use Rattle.paper.proofs.Tests.{eqb-cases, ltb-cases}
-use Rattle.flat.specs.Rules.{InGroup, jobs-at, upto}
-use Rattle.flat.specs.Relation.{Valid, offset, Placed, PlacedUnit, at, frame-of, stack-of, Holds, JoinAt, GoodFrame, GoodFrames, Under, Stacked}
-use Rattle.flat.proofs.Bounds.{jobs-cons}
+use Rattle.flat.specs.Rules.{InGroup, upto}
+use Rattle.flat.specs.Relation.{Valid, Placed, PlacedUnit, at, Holds, JoinAt, GoodFrame, GoodFrames, Under, Stacked}
 use Rattle.flat.proofs.Counts.{FrameAt, frame-low}
-use Rattle.flat.proofs.Lists.{upto-one, upto-two}
 use Rattle.flat.proofs.Relation.{stacked-tail}
 
 -- in the frames gs, on which up₀ stands, g stands under up and over lo
@@ -140,98 +138,6 @@ holder-of B (g ∷ gs) i m q (inr h) = let (p, o, k, c, x, f, gr, eq) = holder-o
 
 -- TABLES BY OFFSET
 
-module _ (t : Term) where
-  unfoldable hit : ℕ → Placed → ℕ → ℕ
-  unfolding if-same
-  hit a (Placed.job p o k c j) y = if-same (offset p t) a y
-  hit a (Placed.exit w i q j) y = 0
-  hit a Placed.sleep y = 0
-  hit a Placed.bingo y = 0
-
-  unfoldable pub walk : (Option Placed → Placed → List Placed → ℕ) → ℕ → Option Placed → List Placed → ℕ
-  unfolding hit
-  walk ω a up [] = 0
-  walk ω a up (g ∷ gs) = hit a g (ω up g gs) + walk ω a (some g) gs
-
-  same-none : (x a y : ℕ) → if-same x a 1 ≡ 0 → if-same x a y ≡ 0
-  same-none x a y e = elim (eqb-cases x a) [ inl p ↦ absurd (let z = same-is x a 1 (p .1) in omega (arith, z, e)) | inr p ↦ other-is x a y (p .1) ]
-
-  hit-none : (a : ℕ) (g : Placed) (gs : List Placed) (y : ℕ) → jobs-at a (stack-of t (g ∷ gs)) ≡ jobs-at a (stack-of t gs) → hit a g y ≡ 0
-  unfolding hit frame-of jobs-at
-  hit-none a (Placed.job p o k c j) gs y e = same-none (offset p t) a y (let z = jobs-cons a (offset p t) k c (stack-of t gs) in omega (arith, z, e))
-  hit-none a (Placed.exit w i q j) gs y e = refl
-  hit-none a Placed.sleep gs y e = refl
-  hit-none a Placed.bingo gs y e = refl
-
-  jobs-more : (a : ℕ) (g : Placed) (gs : List Placed) → jobs-at a (stack-of t gs) ≤ jobs-at a (stack-of t (g ∷ gs))
-  unfolding frame-of jobs-at
-  jobs-more a (Placed.job p o k c j) gs = let z = jobs-cons a (offset p t) k c (stack-of t gs) in omega (arith, z)
-  jobs-more a (Placed.exit w i q j) gs = omega arith
-  jobs-more a Placed.sleep gs = omega arith
-  jobs-more a Placed.bingo gs = omega arith
-
-  module _ (ω : Option Placed → Placed → List Placed → ℕ) where
-    walk-none : (a : ℕ) (up : Option Placed) (gs : List Placed) → jobs-at a (stack-of t gs) ≡ 0 → walk ω a up gs ≡ 0
-    unfolding walk
-    walk-none a up [] e = refl
-    walk-none a up (g ∷ gs) e =
-        let m = jobs-more a g gs in
-        let z : jobs-at a (stack-of t gs) ≡ 0 = omega (arith, m, e) in
-        omega (arith, hit-none a g gs (ω up g gs) (e ∙ sym z), walk-none a (some g) gs z)
-
-    -- a job's weight
-    module _ (p : Position) (o k c j : ℕ) where
-      abbrev J : Placed
-      J = Placed.job p o k c j
-
-      pub site-jobs : (up₀ : Option Placed) (gs : List Placed) (up : Option Placed) (lo : List Placed) → Site up₀ gs up J lo → 1 ≤ jobs-at (offset p t) (stack-of t gs)
-      unfolding frame-of
-      site-jobs up₀ [] up lo s = absurd s
-      site-jobs up₀ (x ∷ gs) up lo (inl s) =
-          let a = jobs-cons (offset p t) (offset p t) k c (stack-of t gs) in
-          let b = same-is (offset p t) (offset p t) 1 refl in
-          subst (λ (z : Placed). 1 ≤ jobs-at (offset p t) (stack-of t (z ∷ gs))) (sym (s .1)) (omega (arith, a, b))
-      site-jobs up₀ (x ∷ gs) up lo (inr s) = omega (arith, site-jobs (some x) gs up lo s, jobs-more (offset p t) x gs)
-
-      pub walk-is : (up₀ : Option Placed) (gs : List Placed) (up : Option Placed) (lo : List Placed) → Site up₀ gs up J lo → jobs-at (offset p t) (stack-of t gs) ≤ 1 →
-          walk ω (offset p t) up₀ gs ≡ ω up J lo
-      unfolding walk hit frame-of
-      walk-is up₀ [] up lo s l = absurd s
-      walk-is up₀ (x ∷ gs) up lo (inl s) l =
-          let a = jobs-cons (offset p t) (offset p t) k c (stack-of t gs) in
-          let b = same-is (offset p t) (offset p t) 1 refl in
-          let l′ : jobs-at (offset p t) (stack-of t (J ∷ gs)) ≤ 1 = subst (λ (z : Placed). jobs-at (offset p t) (stack-of t (z ∷ gs)) ≤ 1) (s .1) l in
-          let w = walk-none (offset p t) (some J) gs (omega (arith, a, b, l′)) in
-          let h = same-is (offset p t) (offset p t) (ω up₀ J gs) refl in
-          let f : walk ω (offset p t) up₀ (J ∷ gs) ≡ ω up₀ J gs = omega (arith, w, h) in
-          ap (λ (z : Placed). walk ω (offset p t) up₀ (z ∷ gs)) (s .1) ∙ f ∙ ap₂ (λ (y : Option Placed) (z : List Placed). ω y J z) (s .0) (s .2)
-      walk-is up₀ (x ∷ gs) up lo (inr s) l =
-          let a = site-jobs (some x) gs up lo s in
-          let m = jobs-more (offset p t) x gs in
-          let e : jobs-at (offset p t) (stack-of t (x ∷ gs)) ≡ jobs-at (offset p t) (stack-of t gs) = omega (arith, a, m, l) in
-          omega (arith, hit-none (offset p t) x gs (ω up₀ x gs) e, walk-is (some x) gs up lo s (omega (arith, m, l)))
-
-    -- a weight comes from a job
-    abbrev pub JobSite : Option Placed → List Placed → ℕ → Type 0
-    JobSite up₀ gs a = (up : Option Placed) × (p : Position) × (o : ℕ) × (k : ℕ) × (c : ℕ) × (j : ℕ) × (lo : List Placed) × Site up₀ gs up (Placed.job p o k c j) lo × (offset p t ≡ a)
-
-    walk-some : (a : ℕ) (up₀ : Option Placed) (gs : List Placed) → 1 ≤ walk ω a up₀ gs → JobSite up₀ gs a
-    unfolding walk hit
-    walk-some a up₀ [] l = absurd (omega (arith, l))
-    walk-some a up₀ (Placed.job p o k c j ∷ gs) l =
-        elim (eqb-cases (offset p t) a) [
-          | inl q ↦ (up₀, p, o, k, c, j, gs, inl (refl, refl, refl), q .1)
-          | inr q ↦
-              (let z = other-is (offset p t) a (ω up₀ (Placed.job p o k c j) gs) (q .1) in
-              let (up, p′, o′, k′, c′, j′, lo, s, e) = walk-some a (some (Placed.job p o k c j)) gs (omega (arith, z, l)) in (up, p′, o′, k′, c′, j′, lo, inr s, e))
-        ]
-    walk-some a up₀ (Placed.exit w i q m ∷ gs) l =
-        let (up, p, o, k, c, j, lo, s, e) = walk-some a (some (Placed.exit w i q m)) gs (omega (arith, l)) in (up, p, o, k, c, j, lo, inr s, e)
-    walk-some a up₀ (Placed.sleep ∷ gs) l = let (up, p, o, k, c, j, lo, s, e) = walk-some a (some Placed.sleep) gs (omega (arith, l)) in (up, p, o, k, c, j, lo, inr s, e)
-    walk-some a up₀ (Placed.bingo ∷ gs) l = let (up, p, o, k, c, j, lo, s, e) = walk-some a (some Placed.bingo) gs (omega (arith, l)) in (up, p, o, k, c, j, lo, inr s, e)
-
--- OVER ALL UNITS
-
 pub upto-some : (f : ℕ → ℕ) (n : ℕ) → 1 ≤ upto f n → (v : ℕ) × (1 ≤ f v)
 unfolding upto
 upto-some f zero l = absurd (omega (arith, l))
@@ -252,39 +158,102 @@ upto-only f v (suc n) l h =
     before zero h = refl
     before (suc m) h = omega (arith, h m (omega arith), before m (λ w l. h w (omega (arith, l))))
 
-pub job-unit : (W : List PlacedUnit) (v : ℕ) (up : Option Placed) (p : Position) (o k c j : ℕ) (lo : List Placed) → Site none (at W v .frames) up (Placed.job p o k c j) lo → v < length W
-job-unit [] v up p o k c j lo (inl s) = absurd (let e = s .1 in let z : _≡_ {A = ℕ} 0 1 = cc in omega arith)
-job-unit [] v up p o k c j lo (inr s) = absurd s
-job-unit (x ∷ W) zero up p o k c j lo s = omega arith
-job-unit (x ∷ W) (suc v) up p o k c j lo s = omega (arith, job-unit W v up p o k c j lo s)
+-- what a frame with what is above and below it weighs
+abbrev pub Weight : Type 0
+Weight = Option Placed → Placed → List Placed → ℕ
 
-module _ (t : Term) (U : List PlacedUnit) (distinct : (x n : ℕ) → upto (λ v. jobs-at x (stack-of t (at U v .frames))) n ≤ 1) where
-  unfoldable pub table : (Option Placed → Placed → List Placed → ℕ) → ℕ → ℕ
+-- frames are entered at their keys
+module _ (key : Placed → Option ℕ) where
+  unfoldable pub at-key : ℕ → Option ℕ → ℕ → ℕ
+  unfolding if-same
+  at-key a none y = 0
+  at-key a (some b) y = if-same b a y
+
+  unfoldable pub walk : Weight → ℕ → Option Placed → List Placed → ℕ
+  unfolding at-key
+  walk ω a up [] = 0
+  walk ω a up (g ∷ gs) = at-key a (key g) (ω up g gs) + walk ω a (some g) gs
+
+  key-none : (a y : ℕ) (k : Option ℕ) → k ≢ some a → at-key a k y ≡ 0
+  unfolding at-key
+  key-none a y none ne = refl
+  key-none a y (some b) ne = other-is b a y (λ e. ne (ap some e))
+
+  key-some : (a y : ℕ) (k : Option ℕ) → k ≡ some a → at-key a k y ≡ y
+  unfolding at-key
+  key-some a y none e = absurd (Option·none-ne-some _ e)
+  key-some a y (some b) e = same-is b a y (Option·some-injective _ _ e)
+
+  walk-none : (ω : Weight) (a : ℕ) (up : Option Placed) (gs : List Placed) → ((i : ℕ) (g : Placed) → FrameAt gs i g → key g ≢ some a) → walk ω a up gs ≡ 0
   unfolding walk
-  table ω a = upto (λ v. walk t ω a none (at U v .frames)) (length U)
+  walk-none ω a up [] h = refl
+  walk-none ω a up (g ∷ gs) h =
+      omega (arith, key-none a (ω up g gs) (key g) (h (length gs) g (inl (refl, refl))), walk-none ω a (some g) gs (λ i x f. h i x (inr f)))
 
-  others-zero : (a v w : ℕ) → w ≢ v → 1 ≤ jobs-at a (stack-of t (at U v .frames)) → jobs-at a (stack-of t (at U w .frames)) ≡ 0
-  others-zero a v w ne l =
-      let x = upto-two (λ u. jobs-at a (stack-of t (at U u .frames))) w v (suc (w + v)) ne (omega arith) (omega arith) in
-      let y = distinct a (suc (w + v)) in omega (arith, x, y, l)
+  walk-is : (ω : Weight) (a : ℕ) (up₀ : Option Placed) (gs : List Placed) (up : Option Placed) (g : Placed) (lo : List Placed) → Site up₀ gs up g lo → key g ≡ some a →
+      ((i : ℕ) (x : Placed) → FrameAt gs i x → key x ≡ some a → i ≡ length lo) → walk ω a up₀ gs ≡ ω up g lo
+  unfolding walk
+  walk-is ω a up₀ [] up g lo s e h = absurd s
+  walk-is ω a up₀ (x ∷ gs) up g lo (inl s) e h =
+      let k : key x ≡ some a = ap key (s .1) ∙ e in
+      let z = walk-none ω a (some x) gs (λ i y f q. (let l = frame-low gs i y f in let r = h i y (inr f) q in let n = ap length (s .2) in omega (arith, l, r, n))) in
+      let y : at-key a (key x) (ω up₀ x gs) + walk ω a (some x) gs ≡ ω up₀ x gs = omega (arith, z, key-some a (ω up₀ x gs) (key x) k) in
+      y ∙ ap (λ (z : Option Placed). ω z x gs) (s .0) ∙ ap₂ (λ (z : Placed) (zs : List Placed). ω up z zs) (s .1) (s .2)
+  walk-is ω a up₀ (x ∷ gs) up g lo (inr s) e h =
+      let l = frame-low gs (length lo) g (site-frame (some x) gs up g lo s) in
+      let ne : key x ≢ some a = λ q. (let r = h (length gs) x (inl (refl, refl)) q in omega (arith, l, r)) in
+      omega (arith, key-none a (ω up₀ x gs) (key x) ne, walk-is ω a (some x) gs up g lo s e (λ i y f q. h i y (inr f) q))
 
-  one-here : (a v : ℕ) → jobs-at a (stack-of t (at U v .frames)) ≤ 1
-  one-here a v =
-      let x = upto-one (λ u. jobs-at a (stack-of t (at U u .frames))) v (suc v) (omega arith) in let y = distinct a (suc v) in omega (arith, x, y)
+  walk-some : (ω : Weight) (a : ℕ) (up₀ : Option Placed) (gs : List Placed) → 1 ≤ walk ω a up₀ gs →
+      (up : Option Placed) × (g : Placed) × (lo : List Placed) × Site up₀ gs up g lo × (key g ≡ some a)
+  unfolding walk at-key
+  walk-some ω a up₀ [] l = absurd (omega (arith, l))
+  walk-some ω a up₀ (g ∷ gs) l = go (key g) refl (walk-some ω a (some g) gs)
+    where
+      rest : (up : Option Placed) × (x : Placed) × (lo : List Placed) × Site (some g) gs up x lo × (key x ≡ some a) →
+          (up : Option Placed) × (x : Placed) × (lo : List Placed) × Site up₀ (g ∷ gs) up x lo × (key x ≡ some a)
+      rest (up, x, lo, s, e) = (up, x, lo, inr s, e)
 
-  module _ (ω : Option Placed → Placed → List Placed → ℕ) where
-    -- the table at a job's offset
-    pub table-is : (v : ℕ) (up : Option Placed) (p : Position) (o k c j : ℕ) (lo : List Placed) → Site none (at U v .frames) up (Placed.job p o k c j) lo →
-        table ω (offset p t) ≡ ω up (Placed.job p o k c j) lo
+      more : (k : Option ℕ) → key g ≡ k → at-key a k (ω up₀ g gs) ≡ 0 → 1 ≤ walk ω a (some g) gs
+      more k e z = let y = ap (λ (q : Option ℕ). at-key a q (ω up₀ g gs)) e in omega (arith, l, y, z)
+
+      go : (k : Option ℕ) → key g ≡ k →
+          (1 ≤ walk ω a (some g) gs → (up : Option Placed) × (x : Placed) × (lo : List Placed) × Site (some g) gs up x lo × (key x ≡ some a)) →
+          (up : Option Placed) × (x : Placed) × (lo : List Placed) × Site up₀ (g ∷ gs) up x lo × (key x ≡ some a)
+      go none e ih = rest (ih (more none e refl))
+      go (some b) e ih =
+          elim (eqb-cases b a) [
+            | inl q ↦ (up₀, g, gs, inl (refl, refl, refl), e ∙ ap some (q .1))
+            | inr q ↦ rest (ih (more (some b) e (other-is b a (ω up₀ g gs) (q .1))))
+          ]
+
+  -- over all units
+  module _ (U : List PlacedUnit) (none-asleep : key Placed.sleep ≡ none)
+      (once : (a v i v′ i′ : ℕ) (g g′ : Placed) → FrameAt (at U v .frames) i g → FrameAt (at U v′ .frames) i′ g′ → key g ≡ some a → key g′ ≡ some a → (v ≡ v′) × (i ≡ i′)) where
+    key-unit : (W : List PlacedUnit) (v i a : ℕ) (g : Placed) → FrameAt (at W v .frames) i g → key g ≡ some a → v < length W
+    key-unit [] v i a g (inl f) e = absurd (Option·none-ne-some _ (sym none-asleep ∙ ap key (f .1) ∙ e))
+    key-unit [] v i a g (inr f) e = absurd f
+    key-unit (x ∷ W) zero i a g f e = omega arith
+    key-unit (x ∷ W) (suc v) i a g f e = omega (arith, key-unit W v i a g f e)
+
+    unfoldable pub table : (ℕ → Weight) → ℕ → ℕ
+    unfolding walk
+    table ω a = upto (λ v. walk (ω v) a none (at U v .frames)) (length U)
+
+    -- the table at a frame's key
+    pub table-is : (ω : ℕ → Weight) (a v : ℕ) (up : Option Placed) (g : Placed) (lo : List Placed) → Site none (at U v .frames) up g lo → key g ≡ some a → table ω a ≡ ω v up g lo
     unfolding table
-    table-is v up p o k c j lo s =
-        upto-only (λ w. walk t ω (offset p t) none (at U w .frames)) v (length U) (job-unit U v up p o k c j lo s)
-        (λ w ne. walk-none t ω (offset p t) none (at U w .frames) (others-zero (offset p t) v w ne (site-jobs t ω p o k c j none (at U v .frames) up lo s)))
-        ∙ walk-is t ω p o k c j none (at U v .frames) up lo s (one-here (offset p t) v)
+    table-is ω a v up g lo s e =
+        let f = site-frame none (at U v .frames) up g lo s in
+        upto-only (λ w. walk (ω w) a none (at U w .frames)) v (length U) (key-unit U v (length lo) a g f e)
+        (λ w ne. walk-none (ω w) a none (at U w .frames) (λ i x h q. ne (once a w i v (length lo) x g h f q e .0)))
+        ∙ walk-is (ω v) a none (at U v .frames) up g lo s e (λ i x h q. once a v i v (length lo) x g h f q e .1)
 
-    pub table-some : (a : ℕ) → 1 ≤ table ω a → (v : ℕ) × JobSite t ω none (at U v .frames) a
+    pub table-some : (ω : ℕ → Weight) (a : ℕ) → 1 ≤ table ω a → (v : ℕ) × (up : Option Placed) × (g : Placed) × (lo : List Placed) × Site none (at U v .frames) up g lo × (key g ≡ some a)
     unfolding table
-    table-some a l = let (v, m) = upto-some (λ w. walk t ω a none (at U w .frames)) (length U) l in (v, walk-some t ω a none (at U v .frames) m)
+    table-some ω a l =
+        let (v, m) = upto-some (λ w. walk (ω w) a none (at U w .frames)) (length U) l in
+        let (up, g, lo, s, e) = walk-some (ω v) a none (at U v .frames) m in (v, up, g, lo, s, e)
 
 -- AN EXIT is on top, or the job of its part is on it
 abbrev pub OnExit : List Placed → ℕ → ℕ → Position → ℕ → Type 0
