@@ -33,6 +33,9 @@ pub mod Invariant
 pub mod Numbered
 pub mod Stamps
 pub mod Tabled
+pub mod Spelt
+pub mod Chosen
+pub mod Seated
 pub mod Sites
 pub mod Exits
 pub mod Held
