@@ -35,7 +35,7 @@ use Rattle.flat.proofs.Offsets.{symbol-at}
 use Rattle.flat.proofs.Queued.{queue-of, queue-ranked, queue-right}
 use Rattle.flat.proofs.Rebuilt.{dress, dresses, ghost, erase-ghost, well-tree, blocks, chain, under, unit-list, blocks-list, blocks-same, blocks-sorted, blocks-owned, blocks-owners}
 use Rattle.flat.proofs.Relation.{Tally, paper-state, flat-of, flat-state, Good}
-use Rattle.flat.proofs.Run.{FlatInv, flat-inv}
+use Rattle.flat.proofs.Course.{FlatInv, flat-inv}
 use Rattle.flat.proofs.Sizes.{term-sizes}
 use Rattle.flat.proofs.Stacks.{map-length, unit-state-at, unit-at}
 use Rattle.flat.proofs.Steps.{Settled}

@@ -34,7 +34,7 @@ use Rattle.flat.proofs.Lists.{upto-same}
 use Rattle.flat.proofs.Offsets.{symbol-at, offset-inside, argument-offset, correct-arguments, correct-subterm}
 use Rattle.flat.proofs.Relation.{Tally, paper-state, flat-state, Good}
 use Rattle.flat.proofs.Rules.{JobOf, job-of, job-in, placed-frame, rules-here}
-use Rattle.flat.proofs.Run.{FlatInv, flat-inv}
+use Rattle.flat.proofs.Course.{FlatInv, flat-inv}
 use Rattle.flat.proofs.Sites.{in-frame, frame-unique, good-frame, valid-last, Holder, holder-of}
 use Rattle.flat.proofs.Stacks.{map-length, stack-length, list-at, unit-at}
 use Rattle.flat.proofs.Steps.{Settled}

@@ -1,7 +1,7 @@
 pub mod Symbols
 pub mod Sizes
 pub mod Machine
-pub mod Run
 pub mod Rules
 pub mod Relation
 pub mod Meets
+pub mod Run
