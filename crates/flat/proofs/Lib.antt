@@ -42,3 +42,4 @@ pub mod Lenders
 pub mod Exits
 pub mod Held
 pub mod Kept
+pub mod Parts

@@ -5,3 +5,4 @@ pub mod Rules
 pub mod Relation
 pub mod Meets
 pub mod Run
+pub mod Parts
