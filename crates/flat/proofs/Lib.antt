@@ -43,3 +43,4 @@ pub mod Exits
 pub mod Held
 pub mod Kept
 pub mod Parts
+pub mod Points
