@@ -108,15 +108,15 @@ next-inv (n-going D′ bs′ inv hn sh c m l w) = (D′, bs′, inv)
 module _ (B : Book) (L : Limits) (sound : Sound B) (settled : Settled B) where
   module _ (w : Marked) (U : List PlacedUnit) (n : Tally) (j : ℕ) (D : Ghost) (bs : List Block) (good : Good B (plain w) U) (inv : Inv B L (paper-state B w U n j) D bs)
       (ranked : Ranked U (n .queue)) (queued : Queued (paper-state B w U n j)) (u : ℕ) where
-    both : Both B (flat-entry B L u (flat-state w U n)) (Machine.entry B L u (paper-state B w U n j))
+    pub both : Both B (flat-entry B L u (flat-state w U n)) (Machine.entry B L u (paper-state B w U n j))
     both = entry-both B L sound settled good n j u D bs inv ranked queued
 
-    next : {ev : Event} {s′ : State} → Machine.entry B L u (paper-state B w U n j) ≡ Machine.going ev s′ →
+    pub next : {ev : Event} {s′ : State} → Machine.entry B L u (paper-state B w U n j) ≡ Machine.going ev s′ →
         (D′ : Ghost) × (bs′ : List Block) × Inv B L s′ D′ bs′
     next e =
         next-inv (subst (λ (z : Outcome). Next B L u (paper-state B w U n j) D bs z) e (entry-next B L sound (paper-state B w U n j) queued u D bs inv))
 
-    still-queued : {ev : Event} {s′ : State} → Machine.entry B L u (paper-state B w U n j) ≡ Machine.going ev s′ → Queued s′
+    pub still-queued : {ev : Event} {s′ : State} → Machine.entry B L u (paper-state B w U n j) ≡ Machine.going ev s′ → Queued s′
     still-queued e = subst QueuedAfter e (unfold Machine.entry in entry-queued in-force B L u (paper-state B w U n j) queued)
 
   -- after an entry
@@ -210,7 +210,7 @@ asleep-rank k (suc m) (suc v) l =
     (a ∙ sym e, place-past (k + suc v) k (numbers-from (suc k) m) (λ z. omega arith) ∙ ap behind (ap (λ (w : ℕ). place w (numbers-from (suc k) m)) e ∙ b))
 
 module _ (B : Book) (units : ℕ) (t : Term) where
-  start-flat : Correct (arity B) t → flat-start (arity B) units (preorder t) ≡ flat-state (bare t) (first-units units t) (nothing-yet units)
+  pub start-flat : Correct (arity B) t → flat-start (arity B) units (preorder t) ≡ flat-state (bare t) (first-units units t) (nothing-yet units)
   unfolding flat-start frame-of offset
   start-flat c =
       ap₂ (λ (zs : List ℕ) (us : List FlatUnit).
@@ -218,13 +218,13 @@ module _ (B : Book) (units : ℕ) (t : Term) where
       (term-sizes (arity B) t c) (asleep-flat t (numbers-from 1 (units - 1)))
       ∙ ap₂ (λ (x : Term) (ms : List Bool). flat-of x ms (first-units units t) (nothing-yet units)) (sym (plain-bare t)) (marks-none t)
 
-  start-paper : start units t ≡ paper-state B (bare t) (first-units units t) (nothing-yet units) 0
+  pub start-paper : start units t ≡ paper-state B (bare t) (first-units units t) (nothing-yet units) 0
   unfolding start list-of
   start-paper =
       ap (λ (z : List UnitState). Machine.with-units (start units t) (unit-state true (Order.visit [] ∷ Order.bingo ∷ []) ∷ z) (numbers-from 1 (units - 1)))
       (asleep-paper B 0 (units - 1))
 
-  start-ranked : Ranked (first-units units t) (numbers-from 1 (units - 1))
+  pub start-ranked : Ranked (first-units units t) (numbers-from 1 (units - 1))
   unfolding once-if-idle
   start-ranked zero l = sym (place-none 0 (numbers-from 1 (units - 1)) (unfold start in start-queued units t 0))
   start-ranked (suc v) l =
@@ -232,7 +232,7 @@ module _ (B : Book) (units : ℕ) (t : Term) where
       let e : 1 + v ≡ suc v = omega arith in
       a ∙ e ∙ sym b ∙ ap (λ (w : ℕ). place w (numbers-from 1 (units - 1))) e
 
-  start-good : Correct (arity B) t → Good B (plain (bare t)) (first-units units t)
+  pub start-good : Correct (arity B) t → Good B (plain (bare t)) (first-units units t)
   unfolding subterm
   start-good c = subst (λ (x : Term). Good B x (first-units units t)) (sym (plain-bare t)) (record { correct = c; jobs = jobs; exits = λ v w i p j m. absurd (none-yet v w i p j m); stacked = stacked })
     where
@@ -255,10 +255,10 @@ module _ (B : Book) (units : ℕ) (t : Term) where
       none-yet (suc v) w i p j m = only-sleep (subst (In (Placed.exit w i p j)) (asleep-at (numbers-from 1 (units - 1)) v) m)
 
 module _ (B : Book) (L : Limits) (units : ℕ) (t : Term) (c : Correct (arity B) t) where
-  first-inv : Inv B L (paper-state B (bare t) (first-units units t) (nothing-yet units) 0) (todo (bare t)) first
+  pub first-inv : Inv B L (paper-state B (bare t) (first-units units t) (nothing-yet units) 0) (todo (bare t)) first
   first-inv = subst (λ (z : State). Inv B L z (todo (bare t)) first) (start-paper B units t) (start-inv B L units t c)
 
-  first-queued : Queued (paper-state B (bare t) (first-units units t) (nothing-yet units) 0)
+  pub first-queued : Queued (paper-state B (bare t) (first-units units t) (nothing-yet units) 0)
   first-queued = subst Queued (start-paper B units t) (start-queued units t)
 
   pub related-start : Related B (start units t) (flat-start (arity B) units (preorder t))

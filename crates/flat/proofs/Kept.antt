@@ -249,8 +249,12 @@ module _ (B : Book) (sound : Sound B) (settled : Settled B) (L : Limits) (w : Ma
       upto-same (λ v. exits-to u i (stack-of t (fr v))) (λ v. exits-to u i (stack S v)) (length U) (λ v. ap (exits-to u i) (sym (stack-is v)))
       ∙ ap (upto (λ v. exits-to u i (stack S v))) (sym (map-length (unit-of t) U))
 
-  room-at : (u i a k c : ℕ) (g : Placed) → FrameAt (fr u) i g → frame-of t g ≡ Frame.job a (suc k) c →
-      named (drop k (steps B (getD (preorder t) a 0))) + jobs (frame S u (suc i) ∷ []) + upto (λ v. exits-to u i (stack S v)) (length (S .units)) ≤ arity B (getD (preorder t) a 0)
+  abbrev Roomy : ℕ → ℕ → ℕ → ℕ → Type 0
+  Roomy u i a k =
+      named (drop k (steps B (getD (preorder t) a 0))) + jobs (frame S u (suc i) ∷ []) + upto (λ v. exits-to u i (stack S v)) (length (S .units))
+      ≤ arity B (getD (preorder t) a 0)
+
+  room-at : (u i a k c : ℕ) (g : Placed) → FrameAt (fr u) i g → frame-of t g ≡ Frame.job a (suc k) c → Roomy u i a k
   unfolding frame-of
   room-at u i a k c (Placed.job p o zero c′ m) h e = absurd (let z : _≡_ {A = ℕ} 0 1 = cc in omega arith)
   room-at u i a k c (Placed.job p o (suc k′) c′ m) h e =
@@ -267,8 +271,7 @@ module _ (B : Book) (sound : Sound B) (settled : Settled B) (L : Limits) (w : Ma
   room-at u i a k c Placed.sleep h e = absurd (let z : _≡_ {A = ℕ} 0 1 = cc in omega arith)
   room-at u i a k c Placed.bingo h e = absurd (let z : _≡_ {A = ℕ} 0 1 = cc in omega arith)
 
-  room-here : (u i a k c : ℕ) → i < length (stack S u) → frame S u i ≡ Frame.job a (suc k) c →
-      named (drop k (steps B (getD (preorder t) a 0))) + jobs (frame S u (suc i) ∷ []) + upto (λ v. exits-to u i (stack S v)) (length (S .units)) ≤ arity B (getD (preorder t) a 0)
+  room-here : (u i a k c : ℕ) → i < length (stack S u) → frame S u i ≡ Frame.job a (suc k) c → Roomy u i a k
   room-here u i a k c l e =
       let (g, h, r) = placed-frame t (fr u) i (omega (arith, l, ap length (stack-is u), stack-length t (fr u))) in
       room-at u i a k c g h (sym r ∙ ap (frame-at i) (sym (stack-is u)) ∙ e)

@@ -12,15 +12,25 @@ use lib.ListN.{length, length-append, drop, getD}
 use Rattle.paper.specs.Tree.{preorder, Correct}
 use Rattle.paper.specs.Strategy.{Step}
 use Rattle.paper.specs.Book.{Symbol, Term, Book, arity, steps}
-use Rattle.paper.specs.Machine.{Ending, Limits, exceeds}
+use Rattle.paper.specs.Marks.{Marked, plain, bare}
+use Rattle.paper.specs.Machine
+use Rattle.paper.specs.Machine.{Ending, State, Limits, exceeds}
+use Rattle.paper.specs.Parts as Paper
+use Rattle.paper.specs.Idle.{Queued}
 use Rattle.paper.specs.Run.{run}
 use Rattle.paper.specs.Sound.{Sound}
+use Rattle.paper.proofs.Demand3.{first}
+use Rattle.paper.proofs.Ghost.{Ghost, todo}
+use Rattle.paper.proofs.Invariant.{Inv}
 use Rattle.paper.proofs.Tests.{ltb-cases}
+use Rattle.paper.proofs.View.{Block}
 use Rattle.flat.specs.Symbols.{Binding, Hit, rewrite, argument, fill}
 use Rattle.flat.specs.Machine.{Frame, FlatUnit, FlatState, FlatOutcome, going, ended, first-idle, unit, do-visit, do-fork, do-join, do-rewrite, do-whole, do-step, carry-out, turn, flat-entry, flat-start}
 use Rattle.flat.specs.Run.{FlatAnswer, flat-answer, after, flat-run-from, flat-run, flatten}
 use Rattle.flat.specs.Parts.{unless-over, flat-parked, highest, kept-count, kept-state, kept-answer, Parked, again, part, from, parts, resume}
-use Rattle.flat.proofs.Course.{same-run}
+use Rattle.flat.specs.Relation.{PlacedUnit, Ranked, Related}
+use Rattle.flat.proofs.Course.{both, next, still-queued, first-units, nothing-yet, start-flat, start-paper, start-ranked, start-good, first-inv, first-queued, same-run}
+use Rattle.flat.proofs.Relation.{Tally, paper-state, flat-state, Good, Both, b-going, b-ended, views-related}
 use Rattle.flat.proofs.Steps.{Settled}
 
 -- A RUN PARKED AND RESUMED
@@ -261,3 +271,38 @@ unfolding resume flat-run
 line-parts B sound settled L units t c uss vs Q e =
     parts-run B L uss vs (record { entries = 0; state = flat-start (arity B) units (preorder t) }) Q e
     ∙ ap kept-answer (same-run B L units t c sound settled (concat uss ++ vs))
+
+-- WHAT IS PARKED is the paper's: both runs are parked at states that are related, or neither is
+abbrev pub ParkedBoth : Book → Option FlatState → Option State → Type 0
+ParkedBoth B none none = Unit {0}
+ParkedBoth B none (some s) = ⊥
+ParkedBoth B (some f) none = ⊥
+ParkedBoth B (some f) (some s) = Related B s f
+
+module _ (B : Book) (L : Limits) (sound : Sound B) (settled : Settled B) where
+  parked-both : (us : List ℕ) (w : Marked) (U : List PlacedUnit) (n : Tally) (j : ℕ) (D : Ghost) (bs : List Block) → Good B (plain w) U → Inv B L (paper-state B w U n j) D bs →
+      Ranked U (n .queue) → Queued (paper-state B w U n j) → ParkedBoth B (flat-parked B L us (flat-state w U n)) (Paper.parked B L us (paper-state B w U n j))
+  unfolding flat-parked Paper.parked Machine.entry
+  parked-both [] w U n j D bs good inv ranked queued = views-related B w U n j good ranked
+  parked-both (u ∷ us) w U n j D bs good inv ranked queued =
+      go (flat-entry B L u (flat-state w U n)) (Machine.entry B L u (paper-state B w U n j)) (both B L sound settled w U n j D bs good inv ranked queued u) refl
+      (λ ev w′ U′ n′ j′ g′ d′ e.
+      let (D′, bs′, inv′) = next B L sound settled w U n j D bs good inv ranked queued u e in
+      parked-both us w′ U′ n′ j′ D′ bs′ g′ inv′ d′ (still-queued B L sound settled w U n j D bs good inv ranked queued u e))
+    where
+      go : (fo : FlatOutcome) (po : Machine.Outcome) → Both B fo po → Machine.entry B L u (paper-state B w U n j) ≡ po →
+          ((ev : Machine.Event) (w′ : Marked) (U′ : List PlacedUnit) (n′ : Tally) (j′ : ℕ) → Good B (plain w′) U′ → Ranked U′ (n′ .queue) →
+          Machine.entry B L u (paper-state B w U n j) ≡ Machine.going ev (paper-state B w′ U′ n′ j′) →
+          ParkedBoth B (flat-parked B L us (flat-state w′ U′ n′)) (Paper.parked B L us (paper-state B w′ U′ n′ j′))) →
+          ParkedBoth B (unless-over (flat-parked B L us) fo) (Paper.unless-ended (Paper.parked B L us) po)
+      go fo po (b-going ev w′ U′ n′ j′ ef ep g d) q h = unfold unless-over Paper.unless-ended in rw (ef, ep) (h ev w′ U′ n′ j′ g d (q ∙ ep))
+      go fo po (b-ended en w′ U′ n′ j′ ef ep g d) q h = unfold unless-over Paper.unless-ended in rw (ef, ep) tt
+
+-- of a line
+pub line-parked : (B : Book) → Sound B → Settled B → (L : Limits) (units : ℕ) (t : Term) → Correct (arity B) t → (us : List ℕ) →
+    ParkedBoth B (flat-parked B L us (flat-start (arity B) units (preorder t))) (Paper.parked B L us (Machine.start units t))
+line-parked B sound settled L units t c us =
+    subst (λ (f : FlatState). ParkedBoth B (flat-parked B L us f) (Paper.parked B L us (Machine.start units t))) (sym (start-flat B units t c))
+    (subst (λ (s : State). ParkedBoth B (flat-parked B L us (flat-state (bare t) (first-units units t) (nothing-yet units))) (Paper.parked B L us s)) (sym (start-paper B units t))
+    (parked-both B L sound settled us (bare t) (first-units units t) (nothing-yet units) 0 (todo (bare t)) first (start-good B units t c) (first-inv B L units t c)
+    (start-ranked B units t) (first-queued B L units t c)))
