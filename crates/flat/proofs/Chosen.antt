@@ -52,7 +52,7 @@ unfolding one
 one-most zero = omega arith
 one-most (suc m) = omega arith
 
-upto-later : (f : ℕ → ℕ) (v n : ℕ) → v < n → upto f v + f v ≤ upto f n
+pub upto-later : (f : ℕ → ℕ) (v n : ℕ) → v < n → upto f v + f v ≤ upto f n
 unfolding upto
 upto-later f v zero l = absurd (omega (arith, l))
 upto-later f v (suc n) l =

@@ -44,3 +44,4 @@ pub mod Held
 pub mod Kept
 pub mod Parts
 pub mod Points
+pub mod Tested

@@ -6,3 +6,4 @@ pub mod Relation
 pub mod Meets
 pub mod Run
 pub mod Parts
+pub mod Tested
