@@ -45,3 +45,4 @@ pub mod Kept
 pub mod Parts
 pub mod Points
 pub mod Tested
+pub mod Samples
