@@ -6,13 +6,13 @@ use mathlib.Core.Logic.{_⊎_, inl, inr, _≢_}
 use mathlib.Core.Path.{_≡_, refl, sym, _∙_, ap, ap₂, subst}
 use Prim.Native.Nat.{ℕ, zero, suc, _+_, _<_, _≤_}
 use native.Mathlib.Omega.{arith}
-use lib.Dec.{eqb, ltb}
+use lib.Dec.{ltb}
 use lib.ListN.{getD, length, drop}
 use Rattle.paper.specs.Tree.{label, preorder, size, Correct, Position, subterm}
 use Rattle.paper.specs.Strategy.{Step}
 use Rattle.paper.specs.Book.{Term, Book, arity, steps}
 use Rattle.paper.specs.Machine.{Limits}
-use Rattle.paper.specs.Sound.{In, Unnamed, Sound}
+use Rattle.paper.specs.Sound.{In, Sound}
 use Rattle.paper.proofs.Numbers.{if-same, same-is, other-is}
 use Rattle.paper.proofs.Tests.{eqb-cases, eqb-true, eqb-false, ltb-cases}
 use Rattle.paper.proofs.Trees.{size-preorder}
@@ -27,7 +27,7 @@ use Rattle.flat.proofs.Heights.{same-parent}
 use Rattle.flat.proofs.Lengths.{named-at, named-sum}
 use Rattle.flat.proofs.Lists.{upto-le, upto-same, upto-zero, upto-one, upto-two, upto-add}
 use Rattle.flat.proofs.Offsets.{symbol-at, argument-valid, argument-offset}
-use Rattle.flat.proofs.Sites.{same-last, upto-some}
+use Rattle.flat.proofs.Sites.{same-last}
 use Rattle.flat.proofs.Steps.{within-drop}
 use Rattle.flat.proofs.Tables.{one}
 

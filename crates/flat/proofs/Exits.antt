@@ -11,6 +11,7 @@ use Rattle.paper.specs.Machine.{Order, orders}
 use Rattle.paper.specs.Sound.{In}
 use Rattle.paper.proofs.Ghost.{Label, Holder, own, lent, Ghost, rest, todo, work, Ghosts, gnil, gcons, begin, home, Still, Context, plug}
 use Rattle.paper.proofs.Invariant.{root-label, all, lab, und, pos, view-at, sum-at}
+use Rattle.paper.proofs.Lists.{in-append}
 use Rattle.paper.proofs.Locate.{Ready, r-todo, r-work, Spot, redex, leaving, Guest, g-here, g-there, locate-part}
 use Rattle.paper.proofs.Moves.{HomeAt, h-here, h-there, begin-width, home-parts, lent-block, lend-parts, guest-work}
 use Rattle.paper.proofs.Numbers.{tally, over, tally-append, exits-of, list-exits}
@@ -226,3 +227,67 @@ module _ (D : Ghost) (w : Well root-label D) where
   pub done-alone : (x : Block) (q : Position) (n : ℕ) → In x (all D) → x .list ≡ Order.exit q n ∷ [] → sum (load-of q) (all D) ≡ 0
   done-alone x q n (inl e) h = absurd (root-not (list [] D) q n (sym (ap (λ (z : Block). z .list) e) ∙ h))
   done-alone x q n (inr m) h = spot-alone x q n h (locate-part w [] (Order.bingo ∷ []) x m)
+
+-- WHAT ENDS A PART
+
+unfoldable pub ends : Order → ℕ
+ends (Order.visit p) = 0
+ends (Order.fork p j) = 0
+ends (Order.join j c) = 0
+ends (Order.exit p j) = 1
+ends (Order.whole p b) = 0
+ends Order.sleep = 1
+ends Order.bingo = 1
+
+orders-ends : (j : ℕ) (p : Position) (ss : List Step) → tally ends (orders j p ss) ≡ 0
+unfolding tally orders ends
+orders-ends j p [] = refl
+orders-ends j p (Step.visit i ∷ ss) = omega (arith, orders-ends j p ss)
+orders-ends j p (Step.fork i ∷ ss) = omega (arith, orders-ends j p ss)
+orders-ends j p (Step.join c ∷ ss) = omega (arith, orders-ends (suc j) p ss)
+orders-ends j p (Step.whole ∷ ss) = omega (arith, orders-ends j p ss)
+
+mutual
+  unfolding list tally ends
+
+  list-ends : (d : Ghost) (p : Position) → tally ends (list p d) ≡ 0
+  list-ends (rest t) p = refl
+  list-ends (todo t) p = refl
+  list-ends (work o j ks ss) p = omega (arith, tally-append ends (lists p 0 ks) (orders j p ss), lists-ends ks p 0, orders-ends j p ss)
+
+  lists-ends : (ks : Ghosts) (p : Position) (i : ℕ) → tally ends (lists p i ks) ≡ 0
+  lists-ends gnil p i = refl
+  lists-ends (gcons own d ks) p i =
+      omega (arith, tally-append ends (list (p ++ (i ∷ [])) d) (lists p (suc i) ks), list-ends d (p ++ (i ∷ [])), lists-ends ks p (suc i))
+  lists-ends (gcons (lent l) d ks) p i = lists-ends ks p (suc i)
+
+-- a block's last order ends its part, and no other of its orders does
+abbrev pub Closed : Block → Type 0
+Closed x = (e : Order) × (xs : List Order) × (x .list ≡ xs ++ (e ∷ [])) × (tally ends xs ≡ 0)
+
+mutual
+  unfolding parts
+
+  part-closed : (d : Ghost) (p : Position) (x : Block) → In x (parts p d) → Closed x
+  part-closed (rest t) p x h = absurd h
+  part-closed (todo t) p x h = absurd h
+  part-closed (work o j ks ss) p x h = parts-closed ks p j 0 x h
+
+  parts-closed : (ks : Ghosts) (p : Position) (j i : ℕ) (x : Block) → In x (all-parts p j i ks) → Closed x
+  parts-closed gnil p j i x h = absurd h
+  parts-closed (gcons own d ks) p j i x h =
+      elim (in-append x (parts (p ++ (i ∷ [])) d) (all-parts p j (suc i) ks) h) [
+        | inl m ↦ part-closed d (p ++ (i ∷ [])) x m
+        | inr m ↦ parts-closed ks p j (suc i) x m
+      ]
+  parts-closed (gcons (lent l) d ks) p j i x (inl e) =
+      (Order.exit (p ++ (i ∷ [])) j, list (p ++ (i ∷ [])) d, ap (λ (z : Block). z .list) e, list-ends d (p ++ (i ∷ [])))
+  parts-closed (gcons (lent l) d ks) p j i x (inr h) =
+      elim (in-append x (parts (p ++ (i ∷ [])) d) (all-parts p j (suc i) ks) h) [
+        | inl m ↦ part-closed d (p ++ (i ∷ [])) x m
+        | inr m ↦ parts-closed ks p j (suc i) x m
+      ]
+
+pub block-closed : (D : Ghost) (x : Block) → In x (all D) → Closed x
+block-closed D x (inl e) = (Order.bingo, list [] D, ap (λ (z : Block). z .list) e, list-ends D [])
+block-closed D x (inr m) = part-closed D [] x m

@@ -2,41 +2,39 @@
 -- its term. So each EXIT has an argument of its JOIN's job to itself. Assumes nothing.
 use mathlib.Core.List.{List, [], _∷_, _++_, map}
 use mathlib.Core.Logic.{_⊎_, inl, inr, _≢_}
-use mathlib.Core.Option.{Option, none, some, Option·none-ne-some}
+use mathlib.Core.Option.{Option, none, some}
 use mathlib.Core.Path.{_≡_, refl, sym, _∙_, ap, ap₂, subst}
 use Prim.Native.Nat.{ℕ, zero, suc, _+_, _<_, _≤_}
 use native.Mathlib.Omega.{arith}
 use lib.ListN.{length, drop}
-use Rattle.paper.specs.Tree.{node, arguments, count, size, Position, subterm, relabel, relabels}
+use Rattle.paper.specs.Tree.{arguments, count, Position, subterm, relabel, relabels}
 use Rattle.paper.specs.Strategy.{Step}
 use Rattle.paper.specs.Book.{Term, Book, arity, steps}
-use Rattle.paper.specs.Marks.{Cell, Marked, plain}
+use Rattle.paper.specs.Marks.{Marked, plain}
 use Rattle.paper.specs.Machine
 use Rattle.paper.specs.Machine.{Order, orders, Limits}
 use Rattle.paper.specs.Sound.{In, Unnamed, Sound}
 use Rattle.paper.proofs.Ghost.{Label, own, lent, Ghost, rest, todo, work, Ghosts, gnil, gcons, erase, erases}
 use Rattle.paper.proofs.Invariant.{Inv, root-label, all}
 use Rattle.paper.proofs.Lists.{in-append}
-use Rattle.paper.proofs.Numbers.{tally, over, tally-append, exits-of, list-exits, if-same, same-is, other-is}
+use Rattle.paper.proofs.Numbers.{tally, over, tally-append, exits-of, list-exits}
 use Rattle.paper.proofs.Stack
 use Rattle.paper.proofs.Stack.{bottom, blocks-same, blocks-other, blocks-none, Top, top-none, top-some, top-of, list-none, list-top, in-mid, same-in}
 use Rattle.paper.proofs.Tests.{eqb-cases, eqb-false, ltb-cases}
 use Rattle.paper.proofs.View.{Block, block, list, parts, all-parts, sum}
 use Rattle.flat.specs.Machine.{Frame}
-use Rattle.flat.specs.Rules.{InGroup, frame-at, jobs, exits-to, same-pair, upto}
-use Rattle.flat.specs.Relation.{Valid, offset, Rooted, recount, Placed, PlacedUnit, at, orders-of, list-of, unit-state-of, frame-of, stack-of, GoodFrame, GoodFrames, JoinAt, Under, Stacked}
+use Rattle.flat.specs.Rules.{frame-at, jobs, exits-to, upto}
+use Rattle.flat.specs.Relation.{Valid, offset, Rooted, recount, Placed, PlacedUnit, at, orders-of, list-of, unit-state-of, frame-of, stack-of, GoodFrame}
 use Rattle.flat.specs.Meets.{named}
 use Rattle.flat.proofs.Alone.{rooted-of}
-use Rattle.flat.proofs.Bounds.{is, is-same, is-most, is-up, is-aside, is-down, sum-one, upto-ones, upto-swap, load-all}
-use Rattle.flat.proofs.Counts.{FrameAt, frame-low, same-pair-is, same-pair-not}
-use Rattle.flat.proofs.Exits.{exits-most, done-alone}
+use Rattle.flat.proofs.Bounds.{is, is-same, is-most, upto-ones, upto-swap, load-all}
+use Rattle.flat.proofs.Counts.{FrameAt, same-pair-is, same-pair-not}
+use Rattle.flat.proofs.Exits.{exits-most, done-alone, ends, block-closed}
 use Rattle.flat.proofs.Entry.{exit-listed}
-use Rattle.flat.proofs.Heights.{same-parent, is-equal}
-use Rattle.flat.proofs.Lenders.{ends, closed}
+use Rattle.flat.proofs.Heights.{is-equal}
 use Rattle.flat.proofs.Lengths.{named-at, unnamed-none, named-once, named-sum}
-use Rattle.flat.proofs.Lists.{upto-le, upto-same, upto-zero, upto-one, upto-two, upto-add, listed-most}
+use Rattle.flat.proofs.Lists.{upto-le, upto-same, upto-one, upto-two, upto-add, listed-most}
 use Rattle.flat.proofs.Places.{stands, last-shows}
-use Rattle.flat.proofs.Placing.{frame-in}
 use Rattle.flat.proofs.Offsets.{correct-arguments, correct-subterm}
 use Rattle.flat.proofs.Rebuilt.{Link, link-node}
 use Rattle.flat.proofs.Relation.{Tally, paper-state, Good}
@@ -348,9 +346,9 @@ module _ (B : Book) (sound : Sound B) (settled : Settled B) (L : Limits) (w : Ma
       go (top-none f) = absurd (bare-bottom v (sym (list-none v bs f) ∙ e))
       go (top-some a x b eb ow f) =
           let ix : In x bs = subst (λ (z : List Block). In x z) (sym eb) (in-mid a x b) in
-          let (l, le, c) = closed D bs (inv .well) (inv .same) x ix in
+          let (l, ys, el, z) = block-closed D x (same-in bs (all D) (inv .same) x ix) in
           let r : x .list ++ Stack.list-of v b ≡ Order.exit q m ∷ os = sym (list-top v a x b ow f) ∙ ap (Stack.list-of v) (sym eb) ∙ e in
-          (x, ix, first x (c .0) l (Stack.list-of v b) (c .1) (c .2) r)
+          (x, ix, first x ys l (Stack.list-of v b) el z r)
 
   done-none : (v u i : ℕ) (q : Position) (m : ℕ) (lo : List Placed) → Site none (fr v) none (Placed.exit u i q m) lo → sum (over (stands (is q))) bs ≡ 0
   unfolding list-of orders-of

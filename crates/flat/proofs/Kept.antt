@@ -1,12 +1,12 @@
 -- Every state that has the invariant meets the rules of a saved point. Assumes nothing.
 use mathlib.Core.Bool.{false}
-use mathlib.Core.List.{List, [], _∷_, _++_, map}
+use mathlib.Core.List.{List, [], _∷_, _++_}
 use mathlib.Core.Logic.{_⊎_, inl, inr}
 use mathlib.Core.Path.{_≡_, refl, sym, _∙_, ap, ap₂, subst}
 use Prim.Native.Nat.{ℕ, zero, suc, _+_, _<_, _≤_}
 use native.Mathlib.Omega.{arith}
 use lib.ListN.{getD, length, drop}
-use Rattle.paper.specs.Tree.{label, arguments, count, preorder, size, Position, subterm}
+use Rattle.paper.specs.Tree.{label, preorder, size, Position, subterm}
 use Rattle.paper.specs.Strategy.{Step}
 use Rattle.paper.specs.Book.{Term, Book, arity, steps}
 use Rattle.paper.specs.Marks.{Marked, plain}
@@ -23,19 +23,19 @@ use Rattle.paper.proofs.Trees.{size-preorder}
 use Rattle.paper.proofs.View.{Block, block, list}
 use Rattle.flat.specs.Symbols.{argument}
 use Rattle.flat.specs.Machine.{Frame, FlatUnit, FlatState, next-count}
-use Rattle.flat.specs.Rules.{InGroup, AtJoin, frame-at, steps-left, jobs, exits-to, upto, stack}
+use Rattle.flat.specs.Rules.{InGroup, AtJoin, frame-at, jobs, exits-to, upto, stack}
 use Rattle.flat.specs.Relation.{Valid, offset, Rooted, Some, recount, Placed, PlacedUnit, at, Ranked, list-of, frame-of, stack-of, unit-of, GoodFrame, GoodFrames, Rests, Under, Stacked}
 use Rattle.flat.specs.Meets as Point
 use Rattle.flat.specs.Meets.{named, Job, Taken, Carries, Holds, frame, Meets}
 use Rattle.flat.proofs.Alone.{rooted-of}
 use Rattle.flat.proofs.Counts.{FrameAt, frame-low}
-use Rattle.flat.proofs.Held.{exit-valid, lent-unnamed, room-is}
+use Rattle.flat.proofs.Held.{lent-unnamed, room-is}
 use Rattle.flat.proofs.Lists.{upto-same}
 use Rattle.flat.proofs.Offsets.{symbol-at, offset-inside, argument-offset, correct-arguments, correct-subterm}
 use Rattle.flat.proofs.Relation.{Tally, paper-state, flat-state, Good}
 use Rattle.flat.proofs.Rules.{JobOf, job-of, job-in, placed-frame, rules-here}
 use Rattle.flat.proofs.Course.{FlatInv, flat-inv}
-use Rattle.flat.proofs.Sites.{in-frame, frame-unique, good-frame, valid-last, Holder, holder-of}
+use Rattle.flat.proofs.Sites.{in-frame, frame-unique, good-frame, valid-last, holder-of}
 use Rattle.flat.proofs.Stacks.{map-length, stack-length, list-at, unit-at}
 use Rattle.flat.proofs.Steps.{Settled}
 

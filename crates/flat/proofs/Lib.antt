@@ -38,7 +38,6 @@ pub mod Inside
 pub mod Tallies
 pub mod Tops
 pub mod Idle
-pub mod Lenders
 pub mod Exits
 pub mod Held
 pub mod Kept

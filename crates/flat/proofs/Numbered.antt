@@ -14,10 +14,8 @@ use Rattle.paper.specs.Book.{Term, Book, steps}
 use Rattle.paper.specs.Machine.{Order, orders, joins-in}
 use Rattle.paper.specs.Sound.{In}
 use Rattle.paper.proofs.Numbers.{tally, tally-append, joins-of, mentions-of, same-is, other-is, if-same, joins-below, joins-once}
-use Rattle.paper.proofs.Stack
 use Rattle.paper.proofs.Tests.{ltb-cases, ltb-true, ltb-false}
 use Rattle.paper.proofs.Trees.{size-preorder}
-use Rattle.flat.specs.Machine as Flat
 use Rattle.flat.specs.Rules.{InGroup, jobs-at, upto}
 use Rattle.flat.specs.Relation.{offset, Rooted, recount, Placed, PlacedUnit, at, list-of, frame-of, stack-of, GoodFrame, GoodFrames, Holds, JoinAt}
 use Rattle.flat.proofs.Tables.{joins-at, mentions-at}

@@ -5,10 +5,10 @@ use mathlib.Core.List.{List, [], _∷_, _++_, flatten as concat, append-assoc}
 use mathlib.Core.Logic.{inl, inr}
 use mathlib.Core.Option.{Option, none, some, Option·none-ne-some, Option·some-injective}
 use mathlib.Core.Path.{_≡_, refl, sym, _∙_, ap, ap₂, subst}
-use Prim.Native.Nat.{ℕ, zero, suc, _+_, _-_, _<_, _≤_}
+use Prim.Native.Nat.{ℕ, zero, suc, _+_, _-_, _≤_}
 use native.Mathlib.Omega.{arith}
 use lib.Dec.{eqb}
-use lib.ListN.{length, length-append, drop, getD}
+use lib.ListN.{length, drop, getD}
 use Rattle.paper.specs.Tree.{preorder, Correct}
 use Rattle.paper.specs.Strategy.{Step}
 use Rattle.paper.specs.Book.{Symbol, Term, Book, arity, steps}

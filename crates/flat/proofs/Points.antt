@@ -1,7 +1,7 @@
 -- The rules of a saved point are those of reached states: every reached state meets them, every entry of any unit keeps them, a run that is parked leaves a state that
 -- meets them, the bounds that code uses follow, and some unit can always act. Assumes nothing.
 use mathlib.Core.Bool.{true, false, false≢true}
-use mathlib.Core.List.{List, [], _∷_, _++_, map}
+use mathlib.Core.List.{List, [], _∷_, map}
 use mathlib.Core.Logic.{inl, inr}
 use mathlib.Core.Option.{Option, none, some, Option·none-ne-some, Option·some-injective}
 use mathlib.Core.Path.{_≡_, refl, sym, _∙_, ap, subst}

@@ -1,8 +1,8 @@
 -- Ranks that are 1 up to how many units are idle, each once, are the places of a queue: its first is the unit of rank 1, and so on. Assumes nothing.
-use mathlib.Core.Bool.{Bool, true, false}
+use mathlib.Core.Bool.{true, false}
 use mathlib.Core.List.{List, [], _∷_, map}
 use mathlib.Core.Logic.{inl, inr, _≢_}
-use mathlib.Core.Path.{_≡_, refl, sym, _∙_, ap, subst}
+use mathlib.Core.Path.{_≡_, refl, sym, _∙_, ap}
 use Prim.Native.Nat.{ℕ, zero, suc, _+_, _<_, _≤_}
 use native.Mathlib.Omega.{arith}
 use lib.Dec.{eqb}
@@ -13,7 +13,7 @@ use Rattle.paper.specs.Idle.{times, once-if-idle}
 use Rattle.paper.proofs.Tests.{eqb-cases, eqb-true, eqb-false, ltb-cases}
 use Rattle.flat.specs.Machine.{FlatUnit, unit, idle-count}
 use Rattle.flat.specs.Rules.{of-rank}
-use Rattle.flat.specs.Relation.{PlacedUnit, at, busy, behind, place, Ranked, unit-of, unit-state-of}
+use Rattle.flat.specs.Relation.{PlacedUnit, at, busy, place, Ranked, unit-of, unit-state-of}
 use Rattle.flat.proofs.Ranks.{times-here, times-past, behind-some, place-here, place-past, place-none}
 use Rattle.flat.proofs.Stacks.{map-length, unit-at}
 

@@ -7,7 +7,7 @@ use mathlib.Core.Option.{Option, none, some}
 use mathlib.Core.Path.{_≡_, refl, sym, _∙_, ap, ap₂, subst}
 use Prim.Native.Nat.{ℕ, zero, suc, _+_, _<_, _≤_}
 use native.Mathlib.Omega.{arith}
-use lib.Dec.{eqb, ltb}
+use lib.Dec.{ltb}
 use lib.ListN.{getD, length, drop}
 use Rattle.paper.specs.Tree.{label, preorder, size, Correct, Position, subterm}
 use Rattle.paper.specs.Strategy.{Step}
@@ -15,7 +15,7 @@ use Rattle.paper.specs.Book.{Term, Book, arity, steps}
 use Rattle.paper.specs.Machine.{Limits}
 use Rattle.paper.specs.Idle.{times}
 use Rattle.paper.specs.Sound.{In, Unnamed, Sound}
-use Rattle.paper.proofs.Numbers.{if-same, same-is}
+use Rattle.paper.proofs.Numbers.{same-is}
 use Rattle.paper.proofs.Queue.{times-cons}
 use Rattle.paper.proofs.Tests.{eqb-cases, ltb-cases}
 use Rattle.paper.proofs.Trees.{size-preorder}
@@ -26,15 +26,14 @@ use Rattle.flat.specs.Relation.{Valid, offset, Some, Placed, PlacedUnit,
 use Rattle.flat.specs.Relation as Placing
 use Rattle.flat.specs.Meets.{Job, Taken, Carries, Holds, Stacked, frame, Meets}
 use Rattle.flat.proofs.Bounds.{place-at, offset-unique}
-use Rattle.flat.proofs.Chosen.{front, exit-here, argument-at, parent, one-frame, frame-inside, stacked-any, jobs-some, frame-here, frame-past, frame-none, done, pick, pick-low, pick-unnamed, pick-free, pick-apart}
-use Rattle.flat.proofs.Counts.{FrameAt, frame-low, same-pair-is}
+use Rattle.flat.proofs.Chosen.{front, exit-here, argument-at, parent, one-frame, frame-inside, stacked-any, jobs-some, frame-here, frame-past, done, pick, pick-low, pick-unnamed, pick-free, pick-apart}
+use Rattle.flat.proofs.Counts.{FrameAt, same-pair-is}
 use Rattle.flat.proofs.Heights.{same-parent}
 use Rattle.flat.proofs.Lengths.{named-at}
 use Rattle.flat.proofs.Lists.{upto-same, upto-one}
 use Rattle.flat.proofs.Numbered.{number, Numbered}
 use Rattle.flat.proofs.Offsets.{symbol-at, offset-inside}
-use Rattle.flat.proofs.Placing.{frame-in, frame-split, above-is}
-use Rattle.flat.proofs.Relation.{Good}
+use Rattle.flat.proofs.Placing.{above-is}
 use Rattle.flat.proofs.Sites.{Site, site-frame, site-top, in-frame, same-last}
 use Rattle.flat.proofs.Stacks.{map-length, stack-length}
 use Rattle.flat.proofs.Stamps.{times-append}
@@ -200,13 +199,6 @@ module _ (B : Book) (sound : Sound B) (L : Limits) (s : FlatState) (m : Meets B 
       let n : arg b x < length xs = (let a = offset-inside (p ++ (x ∷ [])) t u in omega (arith, a, g, long)) in
       let q : pos b ≡ p = offset-unique (pos b) p t (pos-valid b l) v (pos-offset b l ∙ sym e) in
       (n, offset-unique (pos (arg b x)) (p ++ (x ∷ [])) t (pos-valid (arg b x) n) u (pos-offset (arg b x) n ∙ g) ∙ ap (λ (z : Position). z ++ (x ∷ [])) (sym q))
-
-  -- what a taken argument's position is
-  taken-at : (b k c a : ℕ) → b < length xs → Taken B xs (Frame.job b k c) a → (x : ℕ) × (a < length xs) × (pos a ≡ pos b ++ (x ∷ []))
-  taken-at b zero c a l h = absurd h
-  taken-at b (suc k) c a l (x, k′, e, un) =
-      let (n, q) = pos-argument b x l k′ in
-      (x, subst (λ (z : ℕ). z < length xs) (sym e) n, ap (λ (z : ℕ). pos z) e ∙ q)
 
   -- WHERE A PART IS DONE
 

@@ -102,12 +102,6 @@ site-top (x ∷ gs) g lo (inr s) = absurd (deep x gs s)
     deep x (y ∷ gs) (inl s) = Option·none-ne-some _ (sym (s .0))
     deep x (y ∷ gs) (inr s) = deep y gs s
 
--- a frame below
-pub site-low : (up₀ : Option Placed) (gs : List Placed) (up : Option Placed) (g : Placed) (lo : List Placed) → Site up₀ gs up g lo → (i : ℕ) (x : Placed) → FrameAt lo i x → FrameAt gs i x
-site-low up₀ [] up g lo s i x h = absurd s
-site-low up₀ (y ∷ gs) up g lo (inl s) i x h = inr (subst (λ (z : List Placed). FrameAt z i x) (sym (s .2)) h)
-site-low up₀ (y ∷ gs) up g lo (inr s) i x h = inr (site-low (some y) gs up g lo s i x h)
-
 pub stacked-site : (B : Book) (up₀ : Option Placed) (gs : List Placed) (up : Option Placed) (g : Placed) (lo : List Placed) → Site up₀ gs up g lo → Stacked B gs → Stacked B (g ∷ lo)
 stacked-site B up₀ [] up g lo s h = absurd s
 stacked-site B up₀ (x ∷ gs) up g lo (inl s) h = subst (λ (z : Placed). Stacked B (z ∷ lo)) (s .1) (subst (λ (z : List Placed). Stacked B (x ∷ z)) (s .2) h)

@@ -3,12 +3,11 @@ use mathlib.Core.Bool.{true, false}
 use mathlib.Core.List.{List, [], _∷_, _++_}
 use mathlib.Core.Logic.{inl, inr}
 use mathlib.Core.Path.{_≡_, refl, sym, _∙_, ap}
-use Prim.Native.Nat.{ℕ, zero, suc, _+_, _<_, _≤_}
+use Prim.Native.Nat.{ℕ, suc, _+_, _<_, _≤_}
 use native.Mathlib.Omega.{arith}
 use lib.Dec.{eqb}
 use lib.ListN.{length}
 use Rattle.paper.specs.Idle.{times}
-use Rattle.paper.proofs.Numbers.{if-same, same-is, other-is}
 use Rattle.paper.proofs.Queue.{times-cons}
 use Rattle.paper.proofs.Tests.{eqb-cases, eqb-true, eqb-false}
 use Rattle.flat.proofs.Ranks.{times-here, times-past}

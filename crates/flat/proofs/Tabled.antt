@@ -17,15 +17,14 @@ use Rattle.paper.specs.Idle.{times}
 use Rattle.paper.specs.Sound.{In, Unnamed, Sound}
 use Rattle.paper.proofs.Moves.{steps-counted}
 use Rattle.paper.proofs.Numbers.{if-same, same-is, other-is}
-use Rattle.paper.proofs.Queue.{times-cons}
 use Rattle.paper.proofs.Tests.{eqb-cases, eqb-true, eqb-false, eqb-equal, ltb-cases}
 use Rattle.paper.proofs.View.{Counted}
 use Rattle.flat.specs.Machine.{Frame, next-count}
-use Rattle.flat.specs.Rules.{InGroup, forks-left, jobs-at, exits-in, exits-to, same-pair, upto}
-use Rattle.flat.specs.Relation.{Valid, offset, Rooted, Placed, PlacedUnit, at, list-of, frame-of, stack-of, GoodFrame, GoodFrames, Under, Stacked}
+use Rattle.flat.specs.Rules.{InGroup, forks-left, jobs-at, exits-to, same-pair, upto}
+use Rattle.flat.specs.Relation.{Valid, offset, Placed, PlacedUnit, at, frame-of, stack-of, GoodFrame, Under, Stacked}
 use Rattle.flat.proofs.Alone.{rooted-of}
 use Rattle.flat.proofs.Bounds.{offset-unique, jobs-cons}
-use Rattle.flat.proofs.Counts.{FrameAt, frame-low, same-pair-is, same-pair-not}
+use Rattle.flat.proofs.Counts.{FrameAt, same-pair-is, same-pair-not}
 use Rattle.flat.proofs.Heights.{same-parent}
 use Rattle.flat.proofs.Lists.{upto-same, upto-zero, upto-one, upto-two, upto-add}
 use Rattle.flat.proofs.Numbered.{number, Numbered, numbers-once, numbers-fresh}
@@ -34,7 +33,7 @@ use Rattle.flat.proofs.Placing.{frame-in}
 use Rattle.flat.proofs.Ranks.{times-here, times-past}
 use Rattle.flat.proofs.Rebuilt.{Link, link-node, counted-drop}
 use Rattle.flat.proofs.Relation.{Good, stacked-tail}
-use Rattle.flat.proofs.Sites.{Site, site-frame, frame-site, in-frame, site-below, site-above, site-top, stacked-site, good-frame, frame-unique, last, last-append, same-last, no-root, valid-last, holder-of, OnExit, on-exit, upto-only, Weight, walk, at-key, table, table-is, table-some}
+use Rattle.flat.proofs.Sites.{Site, site-frame, frame-site, in-frame, site-below, site-above, site-top, stacked-site, good-frame, frame-unique, last, last-append, same-last, no-root, valid-last, holder-of, on-exit, upto-only, Weight, walk, at-key, table, table-is, table-some}
 use Rattle.flat.proofs.Stamps.{stamp, times-append, stamp-is, stamp-before, split-at}
 use Rattle.flat.proofs.Steps.{Settled, Shape, shape-drop}
 use Rattle.flat.proofs.Tables.{Kind, Tables, Pending, pending, one, lent-in, Works, Argument, ArgumentAt, Bare, SymbolOf, SymbolAt, Links, Begins, Stands, Before, Ordered, listed, of-unit, exits-of, Tabled}
@@ -90,28 +89,6 @@ group-or m (Step.visit i ∷ ss) sh c = group-or m ss (sh .1) c
 group-or m (Step.fork i ∷ ss) sh c = inl (sh .0)
 group-or m (Step.join d ∷ ss) sh c = inl tt
 group-or m (Step.whole ∷ ss) sh c = inr (c .0)
-
--- EXITs and pending parts
-exit-pending : (gs : List Placed) (w i : ℕ) (q : Position) (m : ℕ) → In (Placed.exit w i q m) gs → In (pending q m) (exits-of gs)
-unfolding exits-of
-exit-pending [] w i q m h = absurd h
-exit-pending (Placed.job p o k c j ∷ gs) w i q m (inl e) = absurd (let z : _≡_ {A = ℕ} 0 1 = cc in omega arith)
-exit-pending (Placed.job p o k c j ∷ gs) w i q m (inr h) = exit-pending gs w i q m h
-exit-pending (Placed.exit w′ i′ q′ m′ ∷ gs) w i q m (inl e) = inl (let a : q ≡ q′ = cc in let b : m ≡ m′ = cc in ap₂ (λ (x : Position) (y : ℕ). pending x y) a b)
-exit-pending (Placed.exit w′ i′ q′ m′ ∷ gs) w i q m (inr h) = inr (exit-pending gs w i q m h)
-exit-pending (Placed.sleep ∷ gs) w i q m (inl e) = absurd (let z : _≡_ {A = ℕ} 0 1 = cc in omega arith)
-exit-pending (Placed.sleep ∷ gs) w i q m (inr h) = exit-pending gs w i q m h
-exit-pending (Placed.bingo ∷ gs) w i q m (inl e) = absurd (let z : _≡_ {A = ℕ} 0 1 = cc in omega arith)
-exit-pending (Placed.bingo ∷ gs) w i q m (inr h) = exit-pending gs w i q m h
-
-pending-exit : (gs : List Placed) (x : Pending) → In x (exits-of gs) → (w : ℕ) × (i : ℕ) × In (Placed.exit w i (x .position) (x .number)) gs
-unfolding exits-of
-pending-exit [] x h = absurd h
-pending-exit (Placed.job p o k c j ∷ gs) x h = let (w, i, m) = pending-exit gs x h in (w, i, inr m)
-pending-exit (Placed.exit w i q j ∷ gs) x (inl e) = (w, i, inl (ap (λ (z : Pending). Placed.exit w i (z .position) (z .number)) e))
-pending-exit (Placed.exit w i q j ∷ gs) x (inr h) = let (w′, i′, m) = pending-exit gs x h in (w′, i′, inr m)
-pending-exit (Placed.sleep ∷ gs) x h = let (w, i, m) = pending-exit gs x h in (w, i, inr m)
-pending-exit (Placed.bingo ∷ gs) x h = let (w, i, m) = pending-exit gs x h in (w, i, inr m)
 
 -- ARGUMENTS BY OFFSET
 
@@ -422,37 +399,6 @@ walk-psum t b up (Placed.exit w i q m ∷ gs) v = omega (arith, walk-psum t b (s
 walk-psum t b up (Placed.sleep ∷ gs) v = omega (arith, walk-psum t b (some Placed.sleep) gs v)
 walk-psum t b up (Placed.bingo ∷ gs) v = omega (arith, walk-psum t b (some Placed.bingo) gs v)
 
-in-of-unit : (B : Book) (T : Tables) (t : Term) (v : ℕ) (y : Pending) (xs : List Pending) → In y (of-unit B T t v xs) → In y xs
-unfolding of-unit
-in-of-unit B T t v y [] h = h
-in-of-unit B T t v y (x ∷ xs) h =
-    elim (eqb-cases v (T .owner (offset (x .position) t))) [
-      | inl p ↦ go (subst (λ (z : List Pending). In y z) (there p) h) (in-of-unit B T t v y xs)
-      | inr p ↦ inr (in-of-unit B T t v y xs (subst (λ (z : List Pending). In y z) (past p) h))
-    ]
-  where
-    there : (eqb v (T .owner (offset (x .position) t)) ≡ true) × (v ≡ T .owner (offset (x .position) t)) → of-unit B T t v (x ∷ xs) ≡ x ∷ of-unit B T t v xs
-    there p = rw (p .0, of-unit)
-
-    past : (eqb v (T .owner (offset (x .position) t)) ≡ false) × (v ≢ T .owner (offset (x .position) t)) → of-unit B T t v (x ∷ xs) ≡ of-unit B T t v xs
-    past p = rw (p .0, of-unit)
-
-    go : In y (x ∷ of-unit B T t v xs) → (In y (of-unit B T t v xs) → In y xs) → In y (x ∷ xs)
-    go (inl e) k = inl e
-    go (inr m) k = inr (k m)
-
-of-unit-in : (B : Book) (T : Tables) (t : Term) (v : ℕ) (y : Pending) (xs : List Pending) → In y xs → v ≡ T .owner (offset (y .position) t) → In y (of-unit B T t v xs)
-unfolding of-unit
-of-unit-in B T t v y [] h e = h
-of-unit-in B T t v y (x ∷ xs) (inl h) e =
-    let f : v ≡ T .owner (offset (x .position) t) = e ∙ ap (λ (z : Pending). T .owner (offset (z .position) t)) h in
-    elim (eqb-cases v (T .owner (offset (x .position) t))) [ inl p ↦ rw (p .0, of-unit) (inl h) | inr p ↦ absurd (p .1 f) ]
-of-unit-in B T t v y (x ∷ xs) (inr h) e =
-    elim (eqb-cases v (T .owner (offset (x .position) t))) [
-      | inl p ↦ rw (p .0, of-unit) (inr (of-unit-in B T t v y xs h e))
-      | inr p ↦ rw (p .0, of-unit) (of-unit-in B T t v y xs h e)
-    ]
-
 -- THE TABLES
 
 module _ (B : Book) (sound : Sound B) (settled : Settled B) (t : Term) (U : List PlacedUnit) (placed : List ℕ) (seats : Seats B t U placed) where
@@ -623,9 +569,6 @@ module _ (B : Book) (sound : Sound B) (settled : Settled B) (t : Term) (U : List
 
   exit-join : (v w i : ℕ) (q : Position) (m : ℕ) → In (Placed.exit w i q m) (fr v) → etab number-ω (offset q t) ≡ m
   exit-join v w i q m h = let (up, lo, s) = exit-site v w i q m h in join-at v up w i q m lo s
-
-  exit-owner : (v w i : ℕ) (q : Position) (m : ℕ) → In (Placed.exit w i q m) (fr v) → etab unit-ω (offset q t) ≡ v
-  exit-owner v w i q m h = let (up, lo, s) = exit-site v w i q m h in owner-at v up w i q m lo s
 
   some-exit : (ω : ℕ → Weight) (a : ℕ) → 1 ≤ etab ω a →
       (v : ℕ) × (up : Option Placed) × (w : ℕ) × (i : ℕ) × (q : Position) × (m : ℕ) × (lo : List Placed) × Site none (fr v) up (Placed.exit w i q m) lo × (offset q t ≡ a)

@@ -22,7 +22,7 @@ use Rattle.flat.specs.Relation.{Some}
 use Rattle.flat.specs.Meets.{named, Job, Taken, Carries, Holds, Stacked, frame, Meets}
 use Rattle.flat.specs.Tested.{and, or, each-below, some-below, each-frame, each-of, is-some, in-group, at-join, unnamed, job-good, exit-good, awaited, count-good, room-good, frame-good, taken, carries, holds, stack-good, waits, rank-good, unit-good, part-good, order-good, tested}
 use Rattle.flat.proofs.Chosen.{upto-later, frame-here, frame-past}
-use Rattle.flat.proofs.Lists.{upto-le, upto-same, upto-zero}
+use Rattle.flat.proofs.Lists.{upto-zero}
 use Rattle.flat.proofs.Ranks.{times-here, times-past}
 
 -- WHAT A TEST DECIDES
