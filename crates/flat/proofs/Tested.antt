@@ -19,8 +19,8 @@ use Rattle.flat.specs.Sizes.{sizes}
 use Rattle.flat.specs.Machine.{Frame, FlatUnit, FlatState, unit, idle-count, next-count}
 use Rattle.flat.specs.Rules.{InGroup, AtJoin, forks-left, frame-at, above, steps-left, jobs, jobs-at, exits-in, exits-to, of-rank, upto, spells, Waits, stack, Placing}
 use Rattle.flat.specs.Relation.{Some}
-use Rattle.flat.specs.Meets.{named, Job, Taken, Carries, Holds, Stacked, frame, Meets}
-use Rattle.flat.specs.Tested.{and, or, each-below, some-below, each-frame, each-of, is-some, in-group, at-join, unnamed, job-good, exit-good, awaited, count-good, room-good, frame-good, taken, carries, holds, stack-good, waits, rank-good, unit-good, part-good, order-good, tested}
+use Rattle.flat.specs.Meets.{named, Job, Taken, Carries, Holds, Stacked, frame, Meets, PointRules}
+use Rattle.flat.specs.Tested.{and, or, each-below, some-below, each-frame, each-of, is-some, in-group, at-join, unnamed, job-good, exit-good, awaited, count-good, room-good, frame-good, taken, carries, holds, stack-good, waits, rank-good, unit-good, part-good, order-good, tested, point-tested}
 use Rattle.flat.proofs.Chosen.{upto-later, frame-here, frame-past}
 use Rattle.flat.proofs.Lists.{upto-zero}
 use Rattle.flat.proofs.Ranks.{times-here, times-past}
@@ -627,3 +627,12 @@ module _ (B : Book) (L : Limits) (s : FlatState) where
   -- THE TEST IS TRUE EXACTLY IF THE RULES ARE MET
   pub tested-meets : Decides (tested B L s) (Meets B L s)
   tested-meets = decides-with (tested B L s) decides-tried meets tried
+
+  pub point-tested-rules : Decides (point-tested B L s) (PointRules B L s)
+  unfolding point-tested
+  point-tested-rules =
+      let a : Bool = each-of (λ o. ltb o (length (B .operators))) (s .symbols) in
+      decides-with (and (tested B L s) (and a (leb units 8)))
+      (decides-and3 (tested B L s) a (leb units 8) tested-meets
+      (decides-each (λ o. ltb o (length (B .operators))) (λ o. decides-ltb o (length (B .operators))) (s .symbols)) (decides-leb units 8))
+      (λ h. record { meets = h .0; known = h .1; few-units = h .2 }) (λ h. (h .meets, h .known, h .few-units))

@@ -11,7 +11,7 @@ use lib.ListN.{getD, length, drop}
 use Rattle.paper.specs.Strategy.{Step}
 use Rattle.paper.specs.Book.{Book, arity, steps}
 use Rattle.paper.specs.Machine.{Limits, exceeds}
-use Rattle.paper.specs.Sound.{In, Unnamed}
+use Rattle.paper.specs.Sound.{In, All, Unnamed}
 use Rattle.flat.specs.Symbols.{argument}
 use Rattle.flat.specs.Sizes.{sizes}
 use Rattle.flat.specs.Machine.{Frame, FlatState, unit, idle-count, next-count}
@@ -104,3 +104,9 @@ pub record Meets (B : Book) (L : Limits) (s : FlatState) : Type 0 where
   pub ranked : (v : ℕ) → v < length (s .units) → unit (s .units) v .rank ≤ idle-count (s .units)
   pub once : (r : ℕ) → 1 ≤ r → r ≤ idle-count (s .units) → of-rank r (s .units) ≡ 1
   pub idle : (v : ℕ) → 1 ≤ unit (s .units) v .rank → Waits B (s .symbols) (stack s v)
+
+-- of a point with its book, which has at most eight units: every symbol is one of the book's operators
+pub record PointRules (B : Book) (L : Limits) (s : FlatState) : Type 0 where
+  pub meets : Meets B L s
+  pub known : All (λ o. o < length (B .operators)) (s .symbols)
+  pub few-units : length (s .units) ≤ 8

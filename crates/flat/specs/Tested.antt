@@ -201,3 +201,8 @@ tested B L s =
     (and (each-of (λ v. ltb v (length (s .units))) (s .placed))
     (and (order-good B s [] (s .placed))
     (each-below (λ r. eqb (of-rank (suc r) (s .units)) 1) (idle-count (s .units))))))))))))
+
+-- with what is asked of a point with its book
+unfoldable pub point-tested : Book → Limits → FlatState → Bool
+unfolding and tested each-of
+point-tested B L s = and (tested B L s) (and (each-of (λ o. ltb o (length (B .operators))) (s .symbols)) (leb (length (s .units)) 8))
