@@ -45,3 +45,4 @@ pub mod Parts
 pub mod Points
 pub mod Tested
 pub mod Samples
+pub mod Form

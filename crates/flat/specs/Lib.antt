@@ -7,3 +7,4 @@ pub mod Meets
 pub mod Run
 pub mod Parts
 pub mod Tested
+pub mod Form

@@ -1,0 +1,176 @@
+-- What was written of a point is read back, whatever follows; and every field of a point that keeps the rules is wide enough. Assumes nothing.
+use mathlib.Core.Bool.{Bool, true, false}
+use mathlib.Core.List.{List, [], _∷_, _++_, append-assoc}
+use mathlib.Core.Logic.{inl, inr}
+use mathlib.Core.Option.{some}
+use mathlib.Core.Path.{_≡_, refl, sym, _∙_, ap, subst}
+use Prim.Native.Nat.{ℕ, zero, suc, pred, _+_, _^_, _<_, _≤_}
+use native.Mathlib.Omega.{arith}
+use lib.ListN.{length}
+use Rattle.paper.specs.Result.{Reader, return, _>>=_, repeat}
+use Rattle.paper.specs.Bits.{toBits, field}
+use Rattle.paper.specs.Writer.{concat}
+use Rattle.paper.specs.Sound.{All}
+use Rattle.paper.proofs.Bits.{field-toBits}
+use Rattle.paper.proofs.Books.{repeat-read}
+use Rattle.paper.proofs.Readers.{bind-return}
+use Rattle.flat.specs.Sizes.{sizes}
+use Rattle.flat.specs.Machine.{Frame, FlatUnit, flat-unit, FlatState}
+use Rattle.flat.specs.Parts.{Parked}
+use Rattle.flat.specs.Form.{write-frame, read-job, read-exit, read-kind, read-frame, write-unit, read-unit, write-mark, is-marked, read-mark, Saved, write-saved, read-saved}
+
+-- one reader after another, each known by what it reads back
+on : {A C : Type 0} (p : Reader A) (k : A → Reader C) (xs ys zs : List ℕ) (a : A) (c : C) → p xs ≡ return a ys → k a ys ≡ return c zs → (p >>= k) xs ≡ return c zs
+on p k xs ys zs a c e f = bind-return p k xs ys a e ∙ f
+
+-- FRAMES AND UNITS
+
+abbrev pub FrameFits : Frame → Type 0
+FrameFits (Frame.job a k c) = (a < 2 ^ 10) × (k < 2 ^ 4) × (c < 2 ^ 3)
+FrameFits (Frame.exit w i) = (w < 2 ^ 3) × (i < 2 ^ 11)
+FrameFits Frame.sleep = Unit {0}
+FrameFits Frame.bingo = Unit {0}
+
+frame-read : (f : Frame) (xs : List ℕ) → FrameFits f → read-frame (write-frame f ++ xs) ≡ return f xs
+unfolding read-frame write-frame
+frame-read (Frame.job a k c) xs (la, lk, lc) =
+    let z₁ : List ℕ = toBits 3 c ++ xs in
+    let z₂ : List ℕ = toBits 4 k ++ z₁ in
+    let z₃ : List ℕ = toBits 10 a ++ z₂ in
+    let e : (toBits 2 0 ++ (toBits 10 a ++ (toBits 4 k ++ toBits 3 c))) ++ xs ≡ toBits 2 0 ++ z₃ = simp append-assoc in
+    ap (field 2 >>= read-kind) e
+    ∙ on (field 2) read-kind (toBits 2 0 ++ z₃) z₃ xs 0 (Frame.job a k c) (field-toBits 2 0 z₃ (omega arith)) (job-read z₁ z₂ z₃ refl refl refl)
+  where
+    job-read : (z₁ z₂ z₃ : List ℕ) → z₁ ≡ toBits 3 c ++ xs → z₂ ≡ toBits 4 k ++ z₁ → z₃ ≡ toBits 10 a ++ z₂ → read-kind 0 z₃ ≡ return (Frame.job a k c) xs
+    job-read z₁ z₂ z₃ e₁ e₂ e₃ =
+        unfold read-kind read-job in
+        on (field 10) _ z₃ z₂ xs a (Frame.job a k c) (ap (field 10) e₃ ∙ field-toBits 10 a z₂ la)
+        (on (field 4) _ z₂ z₁ xs k (Frame.job a k c) (ap (field 4) e₂ ∙ field-toBits 4 k z₁ lk)
+        (on (field 3) _ z₁ xs xs c (Frame.job a k c) (ap (field 3) e₁ ∙ field-toBits 3 c xs lc) refl))
+frame-read (Frame.exit w i) xs (lw, li) =
+    let z₁ : List ℕ = toBits 11 i ++ xs in
+    let z₂ : List ℕ = toBits 3 w ++ z₁ in
+    let e : (toBits 2 1 ++ (toBits 3 w ++ toBits 11 i)) ++ xs ≡ toBits 2 1 ++ z₂ = simp append-assoc in
+    ap (field 2 >>= read-kind) e
+    ∙ on (field 2) read-kind (toBits 2 1 ++ z₂) z₂ xs 1 (Frame.exit w i) (field-toBits 2 1 z₂ (omega arith)) (exit-read z₁ z₂ refl refl)
+  where
+    exit-read : (z₁ z₂ : List ℕ) → z₁ ≡ toBits 11 i ++ xs → z₂ ≡ toBits 3 w ++ z₁ → read-kind 1 z₂ ≡ return (Frame.exit w i) xs
+    exit-read z₁ z₂ e₁ e₂ =
+        unfold read-kind read-exit in
+        on (field 3) _ z₂ z₁ xs w (Frame.exit w i) (ap (field 3) e₂ ∙ field-toBits 3 w z₁ lw)
+        (on (field 11) _ z₁ xs xs i (Frame.exit w i) (ap (field 11) e₁ ∙ field-toBits 11 i xs li) refl)
+frame-read Frame.sleep xs h = on (field 2) read-kind (toBits 2 2 ++ xs) xs xs 2 Frame.sleep (field-toBits 2 2 xs (omega arith)) (unfold read-kind in refl)
+frame-read Frame.bingo xs h = on (field 2) read-kind (toBits 2 3 ++ xs) xs xs 3 Frame.bingo (field-toBits 2 3 xs (omega arith)) (unfold read-kind in refl)
+
+pub record UnitFits (x : FlatUnit) : Type 0 where
+  pub rank : x .rank < 2 ^ 4
+  pub height : length (x .stack) < 2 ^ 11
+  pub frames : All FrameFits (x .stack)
+
+unit-read : (x : FlatUnit) (xs : List ℕ) → UnitFits x → read-unit (write-unit x ++ xs) ≡ return x xs
+unfolding read-unit write-unit
+unit-read x xs h =
+    let fs : List ℕ = concat write-frame (x .stack) ++ xs in
+    let e : (toBits 4 (x .rank) ++ (toBits 11 (length (x .stack)) ++ concat write-frame (x .stack))) ++ xs ≡ toBits 4 (x .rank) ++ (toBits 11 (length (x .stack)) ++ fs) =
+    simp append-assoc in
+    ap read-unit e
+    ∙ on (field 4) _ (toBits 4 (x .rank) ++ (toBits 11 (length (x .stack)) ++ fs)) (toBits 11 (length (x .stack)) ++ fs) xs (x .rank) x
+    (field-toBits 4 (x .rank) (toBits 11 (length (x .stack)) ++ fs) (h .rank))
+    (on (field 11) _ (toBits 11 (length (x .stack)) ++ fs) fs xs (length (x .stack)) x (field-toBits 11 (length (x .stack)) fs (h .height))
+    (on (repeat (length (x .stack)) read-frame) _ fs xs xs (x .stack) x (repeat-read FrameFits read-frame write-frame frame-read (x .stack) xs (h .frames)) refl))
+
+mark-read : (b : Bool) (xs : List ℕ) → Unit {0} → read-mark (write-mark b ++ xs) ≡ return b xs
+unfolding read-mark write-mark is-marked
+mark-read false xs h = on (field 1) _ (toBits 1 0 ++ xs) xs xs 0 false (field-toBits 1 0 xs (omega arith)) refl
+mark-read true xs h = on (field 1) _ (toBits 1 1 ++ xs) xs xs 1 true (field-toBits 1 1 xs (omega arith)) refl
+
+-- A POINT
+
+pub record Fits (arity : ℕ → ℕ) (S : Saved) : Type 0 where
+  pub some-unit : 1 ≤ length (S .parked .state .units)
+  pub few-units : length (S .parked .state .units) ≤ 2 ^ 3
+  pub budget : S .budget < 2 ^ 32
+  pub rewrites : S .parked .state .rewrites < 2 ^ 64
+  pub entries : S .parked .entries < 2 ^ 64
+  pub granted : S .parked .state .granted < 2 ^ 64
+  pub kept : S .parked .state .kept < 2 ^ 64
+  pub some-symbol : 1 ≤ length (S .parked .state .symbols)
+  pub few-symbols : length (S .parked .state .symbols) ≤ 2 ^ 10
+  pub operators : All (λ o. o < 2 ^ 8) (S .parked .state .symbols)
+  pub sizes : S .parked .state .sizes ≡ sizes arity (S .parked .state .symbols)
+  pub marks : length (S .parked .state .marks) ≡ length (S .parked .state .symbols)
+  pub units : All UnitFits (S .parked .state .units)
+  pub few-placed : length (S .parked .state .placed) < 2 ^ 10
+  pub placed : All (λ v. v < 2 ^ 3) (S .parked .state .placed)
+
+all-marks : (bs : List Bool) → All (λ b. Unit {0}) bs
+all-marks [] = tt
+all-marks (b ∷ bs) = (tt, all-marks bs)
+
+pub saved-read : (arity : ℕ → ℕ) (S : Saved) (xs : List ℕ) → Fits arity S → read-saved arity (write-saved S ++ xs) ≡ return S xs
+unfolding read-saved write-saved
+saved-read arity S xs h =
+    let s : FlatState = S .parked .state in
+    let n : ℕ = pred (length (s .units)) in
+    let m : ℕ = pred (length (s .symbols)) in
+    let v₁ : List ℕ = concat (toBits 3) (s .placed) ++ xs in
+    let v₂ : List ℕ = toBits 10 (length (s .placed)) ++ v₁ in
+    let v₃ : List ℕ = concat write-unit (s .units) ++ v₂ in
+    let v₄ : List ℕ = concat write-mark (s .marks) ++ v₃ in
+    let v₅ : List ℕ = concat (toBits 8) (s .symbols) ++ v₄ in
+    let v₆ : List ℕ = toBits 10 m ++ v₅ in
+    let v₇ : List ℕ = toBits 64 (s .kept) ++ v₆ in
+    let v₈ : List ℕ = toBits 64 (s .granted) ++ v₇ in
+    let v₉ : List ℕ = toBits 64 (S .parked .entries) ++ v₈ in
+    let w₁ : List ℕ = toBits 64 (s .rewrites) ++ v₉ in
+    let w₂ : List ℕ = toBits 32 (S .budget) ++ w₁ in
+    let e : write-saved S ++ xs ≡ toBits 3 n ++ w₂ = unfold write-saved in simp append-assoc in
+    let en : suc n ≡ length (s .units) = (let a = h .some-unit in omega (arith, a)) in
+    let em : suc m ≡ length (s .symbols) = (let a = h .some-symbol in omega (arith, a)) in
+    let ln : n < 2 ^ 3 = (let a = h .few-units in omega (arith, a, en)) in
+    let lm : m < 2 ^ 10 = (let a = h .few-symbols in omega (arith, a, em)) in
+    let r₁ : repeat (suc m) (field 8) v₅ ≡ return (s .symbols) v₄ =
+    ap (λ (z : ℕ). repeat z (field 8) v₅) em ∙ repeat-read (λ o. o < 2 ^ 8) (field 8) (toBits 8) (λ o ys l. field-toBits 8 o ys l) (s .symbols) v₄ (h .operators) in
+    let r₂ : repeat (suc m) read-mark v₄ ≡ return (s .marks) v₃ =
+    ap (λ (z : ℕ). repeat z read-mark v₄) (em ∙ sym (h .marks)) ∙ repeat-read (λ b. Unit {0}) read-mark write-mark mark-read (s .marks) v₃ (all-marks (s .marks)) in
+    let r₃ : repeat (suc n) read-unit v₃ ≡ return (s .units) v₂ =
+    ap (λ (z : ℕ). repeat z read-unit v₃) en ∙ repeat-read UnitFits read-unit write-unit unit-read (s .units) v₂ (h .units) in
+    let r₄ : repeat (length (s .placed)) (field 3) v₁ ≡ return (s .placed) xs =
+    repeat-read (λ v. v < 2 ^ 3) (field 3) (toBits 3) (λ v ys l. field-toBits 3 v ys l) (s .placed) xs (h .placed) in
+    let end : Saved = record {
+      budget = S .budget;
+      parked = record {
+        entries = S .parked .entries;
+        state = record {
+          symbols = s .symbols;
+          sizes = sizes arity (s .symbols);
+          marks = s .marks;
+          units = s .units;
+          rewrites = s .rewrites;
+          granted = s .granted;
+          kept = s .kept;
+          placed = s .placed;
+        };
+      };
+    } in
+    let is : end ≡ S = ap (λ (zs : List ℕ). record {
+      budget = S .budget;
+      parked = record {
+        entries = S .parked .entries;
+        state = record { symbols = s .symbols; sizes = zs; marks = s .marks; units = s .units; rewrites = s .rewrites; granted = s .granted; kept = s .kept; placed = s .placed };
+      };
+    }) (sym (h .sizes)) in
+    ap (read-saved arity) e
+    ∙ on (field 3) _ (toBits 3 n ++ w₂) w₂ xs n end (field-toBits 3 n w₂ ln)
+    (on (field 32) _ w₂ w₁ xs (S .budget) end (field-toBits 32 (S .budget) w₁ (h .budget))
+    (on (field 64) _ w₁ v₉ xs (s .rewrites) end (field-toBits 64 (s .rewrites) v₉ (h .rewrites))
+    (on (field 64) _ v₉ v₈ xs (S .parked .entries) end (field-toBits 64 (S .parked .entries) v₈ (h .entries))
+    (on (field 64) _ v₈ v₇ xs (s .granted) end (field-toBits 64 (s .granted) v₇ (h .granted))
+    (on (field 64) _ v₇ v₆ xs (s .kept) end (field-toBits 64 (s .kept) v₆ (h .kept))
+    (on (field 10) _ v₆ v₅ xs m end (field-toBits 10 m v₅ lm)
+    (on (repeat (suc m) (field 8)) _ v₅ v₄ xs (s .symbols) end r₁
+    (on (repeat (suc m) read-mark) _ v₄ v₃ xs (s .marks) end r₂
+    (on (repeat (suc n) read-unit) _ v₃ v₂ xs (s .units) end r₃
+    (on (field 10) _ v₂ v₁ xs (length (s .placed)) end (field-toBits 10 (length (s .placed)) v₁ (h .few-placed))
+    (on (repeat (length (s .placed)) (field 3)) _ v₁ xs xs (s .placed) end r₄ refl)))))))))))
+    ∙ ap (λ (z : Saved). return z xs) is
