@@ -1,23 +1,34 @@
 -- What was written of a point is read back, whatever follows; and every field of a point that keeps the rules is wide enough. Assumes nothing.
-use mathlib.Core.Bool.{Bool, true, false}
+use mathlib.Core.Bool.{Bool, true, false, true≢false}
 use mathlib.Core.List.{List, [], _∷_, _++_, append-assoc}
 use mathlib.Core.Logic.{inl, inr}
 use mathlib.Core.Option.{some}
-use mathlib.Core.Path.{_≡_, refl, sym, _∙_, ap, subst}
-use Prim.Native.Nat.{ℕ, zero, suc, pred, _+_, _^_, _<_, _≤_}
+use mathlib.Core.Path.{_≡_, refl, sym, _∙_, ap}
+use Prim.Native.Nat.{ℕ, suc, pred, _+_, _^_, _<_, _≤_}
 use native.Mathlib.Omega.{arith}
 use lib.ListN.{length}
 use Rattle.paper.specs.Result.{Reader, return, _>>=_, repeat}
 use Rattle.paper.specs.Bits.{toBits, field}
 use Rattle.paper.specs.Writer.{concat}
-use Rattle.paper.specs.Sound.{All}
+use Rattle.paper.specs.Book.{Book, arity}
+use Rattle.paper.specs.WellFormed.{GoodBook}
+use Rattle.paper.specs.Machine.{Limits}
+use Rattle.paper.specs.Sound.{In, All, Sound}
 use Rattle.paper.proofs.Bits.{field-toBits}
-use Rattle.paper.proofs.Books.{repeat-read}
+use Rattle.paper.proofs.Books.{good-book-sound, repeat-read}
 use Rattle.paper.proofs.Readers.{bind-return}
+use Rattle.paper.proofs.Tests.{eqb-cases, ltb-cases}
 use Rattle.flat.specs.Sizes.{sizes}
-use Rattle.flat.specs.Machine.{Frame, FlatUnit, flat-unit, FlatState}
-use Rattle.flat.specs.Parts.{Parked}
+use Rattle.flat.specs.Machine.{Frame, FlatUnit, FlatState, unit, idle-count}
+use Rattle.flat.specs.Rules.{stack, Rules}
+use Rattle.flat.specs.Meets.{Meets, PointRules}
 use Rattle.flat.specs.Form.{write-frame, read-job, read-exit, read-kind, read-frame, write-unit, read-unit, write-mark, is-marked, read-mark, Saved, write-saved, read-saved}
+use Rattle.flat.proofs.Inside.{exit-unit}
+use Rattle.flat.proofs.Points.{meets-rules, placed-few}
+use Rattle.flat.proofs.Rules.{numbers}
+use Rattle.flat.proofs.Sizes.{spells-some}
+use Rattle.flat.proofs.Steps.{Settled, good-settled}
+use Rattle.flat.proofs.Tested.{tried}
 
 -- one reader after another, each known by what it reads back
 on : {A C : Type 0} (p : Reader A) (k : A → Reader C) (xs ys zs : List ℕ) (a : A) (c : C) → p xs ≡ return a ys → k a ys ≡ return c zs → (p >>= k) xs ≡ return c zs
@@ -174,3 +185,101 @@ saved-read arity S xs h =
     (on (field 10) _ v₂ v₁ xs (length (s .placed)) end (field-toBits 10 (length (s .placed)) v₁ (h .few-placed))
     (on (repeat (length (s .placed)) (field 3)) _ v₁ xs xs (s .placed) end r₄ refl)))))))))))
     ∙ ap (λ (z : Saved). return z xs) is
+
+-- EVERY FIELD IS WIDE ENOUGH
+
+all-in : {A : Type 0} (P : A → Type 0) (as′ : List A) → ((a : A) → In a as′ → P a) → All P as′
+all-in P [] h = tt
+all-in P (a ∷ as′) h = (h a (inl refl), all-in P as′ (λ b m. h b (inr m)))
+
+all-weaker : {A : Type 0} (P Q : A → Type 0) (as′ : List A) → ((a : A) → P a → Q a) → All P as′ → All Q as′
+all-weaker P Q [] f h = tt
+all-weaker P Q (a ∷ as′) f h = (f a (h .0), all-weaker P Q as′ f (h .1))
+
+all-units : (P : FlatUnit → Type 0) (us : List FlatUnit) → ((v : ℕ) → v < length us → P (unit us v)) → All P us
+all-units P [] h = tt
+all-units P (x ∷ us) h = (h 0 (omega arith), all-units P us (λ v l. h (suc v) (omega (arith, l))))
+
+idle-most : (us : List FlatUnit) → idle-count us ≤ length us
+unfolding idle-count
+idle-most [] = omega arith
+idle-most (x ∷ us) =
+    elim (eqb-cases (x .rank) 0) [
+      | inl p ↦ rw (p .0, idle-count) (omega (arith, idle-most us))
+      | inr p ↦ rw (p .0, idle-count) (omega (arith, idle-most us))
+    ]
+
+abbrev pub limits-of : Saved → Limits
+limits-of S = record { budget = S .budget; symbols = some 1024 }
+
+pub point-fits : (B : Book) → GoodBook B → (S : Saved) → PointRules B (limits-of S) (S .parked .state) → S .budget < 2 ^ 32 → S .parked .entries < 2 ^ 64 →
+    S .parked .state .granted < 2 ^ 64 → S .parked .state .kept < 2 ^ 64 → Fits (arity B) S
+point-fits B g S h lb le lg lk = record {
+  some-unit = m .some-unit;
+  few-units = h .few-units;
+  budget = lb;
+  rewrites = (let a = m .within in omega (arith, a, lb));
+  entries = le;
+  granted = lg;
+  kept = lk;
+  some-symbol = (let a = spells-some (arity B) (s .symbols) 0 (m .complete) in omega (arith, a));
+  few-symbols = few;
+  operators = all-weaker (λ o. o < length (B .operators)) (λ o. o < 2 ^ 8) (s .symbols) (λ o l. (let a = g .few-operators in omega (arith, a, l))) (h .known);
+  sizes = m .sizes;
+  marks = m .marks;
+  units = all-units UnitFits (s .units) (λ v l. unit-fits v l);
+  few-placed = (let a = placed-few B sound settled L s m in let b = few in omega (arith, a, b));
+  placed = all-weaker (λ v. v < length (s .units)) (λ v. v < 2 ^ 3) (s .placed) (λ v l. (let a = h .few-units in omega (arith, a, l))) (tried B L s m .all-units);
+}
+  where
+    s : FlatState
+    s = S .parked .state
+
+    L : Limits
+    L = limits-of S
+
+    m : Meets B (limits-of S) (S .parked .state)
+    m = h .meets
+
+    sound : Sound B
+    sound = good-book-sound B g
+
+    settled : Settled B
+    settled = good-settled B g
+
+    r : Rules B (limits-of S) (S .parked .state)
+    r = meets-rules B (good-book-sound B g) (good-settled B g) (limits-of S) (S .parked .state) (h .meets)
+
+    few : length (S .parked .state .symbols) ≤ 2 ^ 10
+    few =
+        elim (ltb-cases 1024 (length (S .parked .state .symbols))) [
+          | inl p ↦ absurd (true≢false (sym (p .0) ∙ h .meets .short))
+          | inr p ↦ (let a = p .1 in omega (arith, a))
+        ]
+
+    high : (v : ℕ) → length (stack (S .parked .state) v) ≤ 1026
+    high v = let a = r .heights v in let b = few in omega (arith, a, b)
+
+    frame-fits : (v : ℕ) (f : Frame) → In f (stack (S .parked .state) v) → FrameFits f
+    frame-fits v (Frame.job a k c) i =
+        let n = numbers B g (limits-of S) (S .parked .state) r in
+        let x = r .offsets v a k c i in
+        let y = n .next-most v a k c i in
+        let z = n .count-most v a k c i in
+        let w = few in
+        (omega (arith, x, w), omega (arith, y), omega (arith, z))
+    frame-fits v (Frame.exit w j) i =
+        let x = exit-unit r v w j i in
+        let y = r .exits v w j i .1 in
+        let z = high w in
+        let e = h .few-units in
+        (omega (arith, x, e), omega (arith, y, z))
+    frame-fits v Frame.sleep i = tt
+    frame-fits v Frame.bingo i = tt
+
+    unit-fits : (v : ℕ) → v < length (S .parked .state .units) → UnitFits (unit (S .parked .state .units) v)
+    unit-fits v l = record {
+      rank = (let a = h .meets .ranked v l in let b = idle-most (S .parked .state .units) in let c = h .few-units in omega (arith, a, b, c));
+      height = (let a = high v in omega (arith, a));
+      frames = all-in FrameFits (unit (S .parked .state .units) v .stack) (frame-fits v);
+    }

@@ -609,7 +609,7 @@ module _ (B : Book) (L : Limits) (s : FlatState) where
               )
         ]
 
-    tried : Tried
+    pub tried : Tried
     tried = record {
       complete = m .complete;
       short = m .short;
