@@ -1,30 +1,35 @@
--- What was written of a point is read back, whatever follows; and every field of a point that keeps the rules is wide enough. Assumes nothing.
+-- What was written of a point is read back, whatever follows; and every field of a point that keeps the rules is wide enough, so every point that a run saved is read back. Assumes nothing.
 use mathlib.Core.Bool.{Bool, true, false, true≢false}
 use mathlib.Core.List.{List, [], _∷_, _++_, append-assoc}
 use mathlib.Core.Logic.{inl, inr}
-use mathlib.Core.Option.{some}
-use mathlib.Core.Path.{_≡_, refl, sym, _∙_, ap}
+use mathlib.Core.Option.{Option, none, some, Option·none-ne-some, Option·some-injective}
+use mathlib.Core.Path.{_≡_, refl, sym, _∙_, ap, subst}
 use Prim.Native.Nat.{ℕ, suc, pred, _+_, _^_, _<_, _≤_}
 use native.Mathlib.Omega.{arith}
 use lib.ListN.{length}
-use Rattle.paper.specs.Result.{Reader, return, _>>=_, repeat}
+use Rattle.paper.specs.Result.{Reader, return, _>>=_, repeat, accepted}
 use Rattle.paper.specs.Bits.{toBits, field}
 use Rattle.paper.specs.Writer.{concat}
-use Rattle.paper.specs.Book.{Book, arity}
+use Rattle.paper.specs.Book.{Term, Book, arity}
+use Rattle.paper.specs.Dated.{AnyBook, readAny, on-day}
+use Rattle.paper.specs.Line.{symbol-limit, readLine}
 use Rattle.paper.specs.WellFormed.{GoodBook}
 use Rattle.paper.specs.Machine.{Limits}
 use Rattle.paper.specs.Sound.{In, All, Sound}
 use Rattle.paper.proofs.Bits.{field-toBits}
 use Rattle.paper.proofs.Books.{good-book-sound, repeat-read}
+use Rattle.paper.proofs.Dated.{day-good}
 use Rattle.paper.proofs.Readers.{bind-return}
 use Rattle.paper.proofs.Tests.{eqb-cases, ltb-cases}
 use Rattle.flat.specs.Sizes.{sizes}
-use Rattle.flat.specs.Machine.{Frame, FlatUnit, FlatState, unit, idle-count}
+use Rattle.flat.specs.Machine.{Frame, FlatUnit, FlatState, flat-start, unit, idle-count}
 use Rattle.flat.specs.Rules.{stack, Rules}
 use Rattle.flat.specs.Meets.{Meets, PointRules}
+use Rattle.flat.specs.Parts.{flat-parked, highest, kept-count, kept-state, Parked, again, part, from, parts}
 use Rattle.flat.specs.Form.{write-frame, read-job, read-exit, read-kind, read-frame, write-unit, read-unit, write-mark, is-marked, read-mark, Saved, write-saved, read-saved}
 use Rattle.flat.proofs.Inside.{exit-unit}
-use Rattle.flat.proofs.Points.{meets-rules, placed-few}
+use Rattle.flat.proofs.Parts.{kept-most}
+use Rattle.flat.proofs.Points.{meets-rules, placed-few, saved-point}
 use Rattle.flat.proofs.Rules.{numbers}
 use Rattle.flat.proofs.Sizes.{spells-some}
 use Rattle.flat.proofs.Steps.{Settled, good-settled}
@@ -283,3 +288,48 @@ point-fits B g S h lb le lg lk = record {
       height = (let a = high v in omega (arith, a));
       frames = all-in FrameFits (unit (S .parked .state .units) v .stack) (frame-fits v);
     }
+
+-- A POINT THAT A RUN SAVED IS READ BACK
+
+-- counts that 64 bits hold
+pub record Counted (P : Parked) : Type 0 where
+  pub entries : P .entries ≤ highest
+  pub granted : P .state .granted ≤ highest
+  pub kept : P .state .kept ≤ highest
+
+module _ (B : Book) (L : Limits) where
+  part-counted : (us : List ℕ) (P Q : Parked) → part B L us P ≡ some Q → Counted Q
+  unfolding part
+  part-counted us P Q e = go (flat-parked B L us (P .state)) e
+    where
+      go : (x : Option FlatState) → again (P .entries + length us) x ≡ some Q → Counted Q
+      go none e = unfold again in absurd (Option·none-ne-some _ e)
+      go (some s) e =
+          let eq : record { entries = kept-count (P .entries + length us); state = kept-state s } ≡ Q = unfold again in Option·some-injective _ _ e in
+          subst Counted eq (record { entries = kept-most (P .entries + length us); granted = kept-most (s .granted); kept = kept-most (s .kept) })
+
+  pub parts-counted : (uss : List (List ℕ)) (P Q : Parked) → Counted P → parts B L uss P ≡ some Q → Counted Q
+  unfolding parts
+  parts-counted [] P Q c e = subst Counted (Option·some-injective _ _ e) c
+  parts-counted (us ∷ uss) P Q c e = go (part B L us P) refl e (parts-counted uss)
+    where
+      go : (x : Option Parked) → part B L us P ≡ x → from (parts B L uss) x ≡ some Q →
+          ((P₁ Q₁ : Parked) → Counted P₁ → parts B L uss P₁ ≡ some Q₁ → Counted Q₁) → Counted Q
+      go none q e h = unfold from in absurd (Option·none-ne-some _ e)
+      go (some R) q e h = h R Q (part-counted us P R q) (unfold from in e)
+
+-- of every book and line that are read, after any number of parts: what was written is read back, and the last part goes on from it
+pub saved-back : (bytes line : List ℕ) (A : AnyBook) (d : ℕ) (t : Term) → readAny bytes ≡ accepted A → readLine (on-day d A) line ≡ accepted t →
+    (budget units : ℕ) → budget < 2 ^ 32 → units ≤ 8 → (uss : List (List ℕ)) (Q : Parked) (xs : List ℕ) →
+    let B = on-day d A in let L : Limits = record { budget = budget; symbols = some symbol-limit } in let S : Saved = record { budget = budget; parked = Q } in
+    parts B L uss (record { entries = 0; state = flat-start (arity B) units line }) ≡ some Q → read-saved (arity B) (write-saved S ++ xs) ≡ return S xs
+saved-back bytes line A d t eb el budget units lb few uss Q xs e =
+    let B : Book = on-day d A in
+    let L : Limits = record { budget = budget; symbols = some symbol-limit } in
+    let S : Saved = record { budget = budget; parked = Q } in
+    let start : Counted (record { entries = 0; state = flat-start (arity B) units line }) =
+    unfold flat-start in record { entries = omega arith; granted = omega arith; kept = omega arith } in
+    let c = parts-counted B L uss (record { entries = 0; state = flat-start (arity B) units line }) Q start e in
+    let h = saved-point bytes line A d t eb el budget units few uss Q e in
+    saved-read (arity B) S xs
+    (point-fits B (day-good bytes A eb d) S h lb (let a = c .entries in omega (arith, a)) (let a = c .granted in omega (arith, a)) (let a = c .kept in omega (arith, a)))
