@@ -4,7 +4,7 @@ use mathlib.Core.List.{List, [], _∷_, _++_, append-assoc}
 use mathlib.Core.Logic.{inl, inr}
 use mathlib.Core.Option.{Option, none, some, Option·none-ne-some, Option·some-injective}
 use mathlib.Core.Path.{_≡_, refl, sym, _∙_, ap, subst}
-use Prim.Native.Nat.{ℕ, suc, pred, _+_, _^_, _<_, _≤_}
+use Prim.Native.Nat.{ℕ, zero, suc, pred, _+_, _^_, _<_, _≤_}
 use native.Mathlib.Omega.{arith}
 use lib.ListN.{length}
 use Rattle.paper.specs.Result.{Reader, return, _>>=_, repeat, accepted}
@@ -29,7 +29,7 @@ use Rattle.flat.specs.Parts.{flat-parked, highest, kept-count, kept-stat
 use Rattle.flat.specs.Form.{write-frame, read-job, read-exit, read-kind, read-frame, write-unit, read-unit, write-mark, is-marked, read-mark, Saved, write-saved, read-saved}
 use Rattle.flat.proofs.Inside.{exit-unit}
 use Rattle.flat.proofs.Parts.{kept-most}
-use Rattle.flat.proofs.Points.{meets-rules, placed-few, saved-point}
+use Rattle.flat.proofs.Points.{meets-rules, meets-acts, placed-few, saved-point}
 use Rattle.flat.proofs.Rules.{numbers}
 use Rattle.flat.proofs.Sizes.{spells-some}
 use Rattle.flat.proofs.Steps.{Settled, good-settled}
@@ -79,7 +79,7 @@ frame-read Frame.sleep xs h = on (field 2) read-kind (toBits 2 2 ++ xs) xs xs 2 
 frame-read Frame.bingo xs h = on (field 2) read-kind (toBits 2 3 ++ xs) xs xs 3 Frame.bingo (field-toBits 2 3 xs (omega arith)) (unfold read-kind in refl)
 
 pub record UnitFits (x : FlatUnit) : Type 0 where
-  pub rank : x .rank < 2 ^ 4
+  pub rank : x .rank < 2 ^ 3
   pub height : length (x .stack) < 2 ^ 11
   pub frames : All FrameFits (x .stack)
 
@@ -87,11 +87,11 @@ unit-read : (x : FlatUnit) (xs : List ℕ) → UnitFits x → read-unit (write-u
 unfolding read-unit write-unit
 unit-read x xs h =
     let fs : List ℕ = concat write-frame (x .stack) ++ xs in
-    let e : (toBits 4 (x .rank) ++ (toBits 11 (length (x .stack)) ++ concat write-frame (x .stack))) ++ xs ≡ toBits 4 (x .rank) ++ (toBits 11 (length (x .stack)) ++ fs) =
+    let e : (toBits 3 (x .rank) ++ (toBits 11 (length (x .stack)) ++ concat write-frame (x .stack))) ++ xs ≡ toBits 3 (x .rank) ++ (toBits 11 (length (x .stack)) ++ fs) =
     simp append-assoc in
     ap read-unit e
-    ∙ on (field 4) _ (toBits 4 (x .rank) ++ (toBits 11 (length (x .stack)) ++ fs)) (toBits 11 (length (x .stack)) ++ fs) xs (x .rank) x
-    (field-toBits 4 (x .rank) (toBits 11 (length (x .stack)) ++ fs) (h .rank))
+    ∙ on (field 3) _ (toBits 3 (x .rank) ++ (toBits 11 (length (x .stack)) ++ fs)) (toBits 11 (length (x .stack)) ++ fs) xs (x .rank) x
+    (field-toBits 3 (x .rank) (toBits 11 (length (x .stack)) ++ fs) (h .rank))
     (on (field 11) _ (toBits 11 (length (x .stack)) ++ fs) fs xs (length (x .stack)) x (field-toBits 11 (length (x .stack)) fs (h .height))
     (on (repeat (length (x .stack)) read-frame) _ fs xs xs (x .stack) x (repeat-read FrameFits read-frame write-frame frame-read (x .stack) xs (h .frames)) refl))
 
@@ -214,6 +214,22 @@ idle-most (x ∷ us) =
       | inr p ↦ rw (p .0, idle-count) (omega (arith, idle-most us))
     ]
 
+-- one that is not idle is not counted
+idle-fewer : (us : List FlatUnit) (v : ℕ) → v < length us → unit us v .rank ≡ 0 → suc (idle-count us) ≤ length us
+unfolding idle-count
+idle-fewer [] v l e = absurd (omega (arith, l))
+idle-fewer (x ∷ us) zero l e =
+    elim (eqb-cases (x .rank) 0) [
+      | inl p ↦ rw (p .0, idle-count) (omega (arith, idle-most us))
+      | inr p ↦ absurd (p .1 e)
+    ]
+idle-fewer (x ∷ us) (suc v) l e =
+    let k = idle-fewer us v (omega (arith, l)) e in
+    elim (eqb-cases (x .rank) 0) [
+      | inl p ↦ rw (p .0, idle-count) (omega (arith, k))
+      | inr p ↦ rw (p .0, idle-count) (omega (arith, k))
+    ]
+
 abbrev pub limits-of : Saved → Limits
 limits-of S = record { budget = S .budget; symbols = some 1024 }
 
@@ -265,6 +281,11 @@ point-fits B g S h lb le lg lk = record {
     high : (v : ℕ) → length (stack (S .parked .state) v) ≤ 1026
     high v = let a = r .heights v in let b = few in omega (arith, a, b)
 
+    waits : suc (idle-count (S .parked .state .units)) ≤ length (S .parked .state .units)
+    waits =
+        let (v, l, e) = meets-acts B (good-book-sound B g) (good-settled B g) (limits-of S) (S .parked .state) (h .meets) in
+        idle-fewer (S .parked .state .units) v l e
+
     frame-fits : (v : ℕ) (f : Frame) → In f (stack (S .parked .state) v) → FrameFits f
     frame-fits v (Frame.job a k c) i =
         let n = numbers B g (limits-of S) (S .parked .state) r in
@@ -284,7 +305,7 @@ point-fits B g S h lb le lg lk = record {
 
     unit-fits : (v : ℕ) → v < length (S .parked .state .units) → UnitFits (unit (S .parked .state .units) v)
     unit-fits v l = record {
-      rank = (let a = h .meets .ranked v l in let b = idle-most (S .parked .state .units) in let c = h .few-units in omega (arith, a, b, c));
+      rank = (let a = h .meets .ranked v l in let b = waits in let c = h .few-units in omega (arith, a, b, c));
       height = (let a = high v in omega (arith, a));
       frames = all-in FrameFits (unit (S .parked .state .units) v .stack) (frame-fits v);
     }

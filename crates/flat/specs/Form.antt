@@ -44,15 +44,15 @@ unfoldable pub read-frame : Reader Frame
 unfolding read-kind
 read-frame = field 2 >>= read-kind
 
--- a unit: its rank, how many frames are on its stack, and they from the top
+-- a unit: its rank (below 8, since one unit at least of 8 is not idle), how many frames are on its stack, and they from the top
 unfoldable pub write-unit : FlatUnit → List ℕ
 unfolding toBits concat write-frame
-write-unit x = toBits 4 (x .rank) ++ (toBits 11 (length (x .stack)) ++ concat write-frame (x .stack))
+write-unit x = toBits 3 (x .rank) ++ (toBits 11 (length (x .stack)) ++ concat write-frame (x .stack))
 
 unfoldable pub read-unit : Reader FlatUnit
 unfolding read-frame
 read-unit = do
-  r ← field 4
+  r ← field 3
   n ← field 11
   fs ← repeat n read-frame
   return (flat-unit r fs)
