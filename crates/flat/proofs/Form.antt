@@ -1,12 +1,14 @@
--- What was written of a point is read back, whatever follows; and every field of a point that keeps the rules is wide enough, so every point that a run saved is read back. Assumes nothing.
+-- What was written of a point is read back, whatever follows; and every field of a point that keeps the rules is wide enough, so every point that a run saved is read back; and how long
+-- what is written can be. Assumes nothing.
 use mathlib.Core.Bool.{Bool, true, false, true≢false}
 use mathlib.Core.List.{List, [], _∷_, _++_, append-assoc}
 use mathlib.Core.Logic.{inl, inr}
 use mathlib.Core.Option.{Option, none, some, Option·none-ne-some, Option·some-injective}
 use mathlib.Core.Path.{_≡_, refl, sym, _∙_, ap, subst}
-use Prim.Native.Nat.{ℕ, zero, suc, pred, _+_, _^_, _<_, _≤_}
+use Prim.Native.Nat.{ℕ, zero, suc, pred, _+_, _*_, _^_, _<_, _≤_}
+use native.Mathlib.Nat.{mul-suc}
 use native.Mathlib.Omega.{arith}
-use lib.ListN.{length}
+use lib.ListN.{length, length-append}
 use Rattle.paper.specs.Result.{Reader, return, _>>=_, repeat, accepted}
 use Rattle.paper.specs.Bits.{toBits, field}
 use Rattle.paper.specs.Writer.{concat}
@@ -16,7 +18,7 @@ use Rattle.paper.specs.Line.{symbol-limit, readLine}
 use Rattle.paper.specs.WellFormed.{GoodBook}
 use Rattle.paper.specs.Machine.{Limits}
 use Rattle.paper.specs.Sound.{In, All, Sound}
-use Rattle.paper.proofs.Bits.{field-toBits}
+use Rattle.paper.proofs.Bits.{length-toBits, field-toBits}
 use Rattle.paper.proofs.Books.{good-book-sound, repeat-read}
 use Rattle.paper.proofs.Dated.{day-good}
 use Rattle.paper.proofs.Readers.{bind-return}
@@ -80,7 +82,7 @@ frame-read Frame.bingo xs h = on (field 2) read-kind (toBits 2 3 ++ xs) xs xs 3 
 
 pub record UnitFits (x : FlatUnit) : Type 0 where
   pub rank : x .rank < 2 ^ 3
-  pub height : length (x .stack) < 2 ^ 11
+  pub height : length (x .stack) ≤ 1026
   pub frames : All FrameFits (x .stack)
 
 unit-read : (x : FlatUnit) (xs : List ℕ) → UnitFits x → read-unit (write-unit x ++ xs) ≡ return x xs
@@ -92,7 +94,7 @@ unit-read x xs h =
     ap read-unit e
     ∙ on (field 3) _ (toBits 3 (x .rank) ++ (toBits 11 (length (x .stack)) ++ fs)) (toBits 11 (length (x .stack)) ++ fs) xs (x .rank) x
     (field-toBits 3 (x .rank) (toBits 11 (length (x .stack)) ++ fs) (h .rank))
-    (on (field 11) _ (toBits 11 (length (x .stack)) ++ fs) fs xs (length (x .stack)) x (field-toBits 11 (length (x .stack)) fs (h .height))
+    (on (field 11) _ (toBits 11 (length (x .stack)) ++ fs) fs xs (length (x .stack)) x (field-toBits 11 (length (x .stack)) fs (let a = h .height in omega (arith, a)))
     (on (repeat (length (x .stack)) read-frame) _ fs xs xs (x .stack) x (repeat-read FrameFits read-frame write-frame frame-read (x .stack) xs (h .frames)) refl))
 
 mark-read : (b : Bool) (xs : List ℕ) → Unit {0} → read-mark (write-mark b ++ xs) ≡ return b xs
@@ -306,7 +308,7 @@ point-fits B g S h lb le lg lk = record {
     unit-fits : (v : ℕ) → v < length (S .parked .state .units) → UnitFits (unit (S .parked .state .units) v)
     unit-fits v l = record {
       rank = (let a = h .meets .ranked v l in let b = waits in let c = h .few-units in omega (arith, a, b, c));
-      height = (let a = high v in omega (arith, a));
+      height = high v;
       frames = all-in FrameFits (unit (S .parked .state .units) v .stack) (frame-fits v);
     }
 
@@ -354,3 +356,79 @@ saved-back bytes line A d t eb el budget units lb few uss Q xs e =
     let h = saved-point bytes line A d t eb el budget units few uss Q e in
     saved-read (arity B) S xs
     (point-fits B (day-good bytes A eb d) S h lb (let a = c .entries in omega (arith, a)) (let a = c .granted in omega (arith, a)) (let a = c .kept in omega (arith, a)))
+
+-- HOW LONG A POINT IS
+
+concat-most : {A : Type 0} (P : A → Type 0) (f : A → List ℕ) (k : ℕ) → ((a : A) → P a → length (f a) ≤ k) → (as′ : List A) → All P as′ → length (concat f as′) ≤ k * length as′
+unfolding concat
+concat-most P f k h [] m = omega arith
+concat-most P f k h (a ∷ as′) m =
+    let x = length-append (f a) (concat f as′) in
+    let y = concat-most P f k h as′ (m .1) in
+    let z = h a (m .0) in
+    let e = mul-suc k (length as′) in
+    omega (arith, x, y, z, e)
+
+frame-short : (f : Frame) → length (write-frame f) ≤ 19
+unfolding write-frame toBits
+frame-short (Frame.job a k c) = omega arith
+frame-short (Frame.exit w i) = omega arith
+frame-short Frame.sleep = omega arith
+frame-short Frame.bingo = omega arith
+
+mark-short : (b : Bool) → length (write-mark b) ≤ 1
+unfolding write-mark toBits
+mark-short false = omega arith
+mark-short true = omega arith
+
+unit-short : (x : FlatUnit) → UnitFits x → length (write-unit x) ≤ 19508
+unfolding write-unit
+unit-short x h =
+    let fs : List ℕ = concat write-frame (x .stack) in
+    let a = length-append (toBits 3 (x .rank)) (toBits 11 (length (x .stack)) ++ fs) in
+    let b = length-append (toBits 11 (length (x .stack))) fs in
+    let c = length-toBits 3 (x .rank) in
+    let d = length-toBits 11 (length (x .stack)) in
+    let e = concat-most FrameFits write-frame 19 (λ f _. frame-short f) (x .stack) (h .frames) in
+    let k = h .height in
+    omega (arith, a, b, c, d, e, k)
+
+bits-short : (n v : ℕ) → length (toBits n v) ≤ n
+bits-short n v = let a = length-toBits n v in omega (arith, a)
+
+both-short : (xs ys : List ℕ) (m n : ℕ) → length xs ≤ m → length ys ≤ n → length (xs ++ ys) ≤ m + n
+both-short xs ys m n a b = let c = length-append xs ys in omega (arith, a, b, c)
+
+bits-then : (n v : ℕ) (ys : List ℕ) (m : ℕ) → length ys ≤ m → length (toBits n v ++ ys) ≤ n + m
+bits-then n v ys m a = both-short (toBits n v) ys n m (bits-short n v) a
+
+-- at most 21,083 bytes
+pub saved-short : (arity : ℕ → ℕ) (S : Saved) → Fits arity S → length (write-saved S) ≤ 168660
+unfolding write-saved
+saved-short arity S h =
+    let s : FlatState = S .parked .state in
+    let placed : length (concat (toBits 3) (s .placed)) ≤ 3069 =
+    let a = concat-most (λ v. v < 2 ^ 3) (toBits 3) 3 (λ v _. bits-short 3 v) (s .placed) (h .placed) in let b = h .few-placed in omega (arith, a, b) in
+    let units : length (concat write-unit (s .units)) ≤ 156064 =
+    let a = concat-most UnitFits write-unit 19508 unit-short (s .units) (h .units) in let b = h .few-units in omega (arith, a, b) in
+    let marks : length (concat write-mark (s .marks)) ≤ 1024 =
+    let a = concat-most (λ b. Unit {0}) write-mark 1 (λ b _. mark-short b) (s .marks) (all-marks (s .marks)) in let b = h .marks in let c = h .few-symbols in omega (arith, a, b, c) in
+    let symbols : length (concat (toBits 8) (s .symbols)) ≤ 8192 =
+    let a = concat-most (λ o. o < 2 ^ 8) (toBits 8) 8 (λ o _. bits-short 8 o) (s .symbols) (h .operators) in let b = h .few-symbols in omega (arith, a, b) in
+    let v₁ : List ℕ = concat (toBits 3) (s .placed) in
+    let v₂ : List ℕ = toBits 10 (length (s .placed)) ++ v₁ in
+    let v₃ : List ℕ = concat write-unit (s .units) ++ v₂ in
+    let v₄ : List ℕ = concat write-mark (s .marks) ++ v₃ in
+    let v₅ : List ℕ = concat (toBits 8) (s .symbols) ++ v₄ in
+    let v₆ : List ℕ = toBits 10 (pred (length (s .symbols))) ++ v₅ in
+    let v₇ : List ℕ = toBits 64 (s .kept) ++ v₆ in
+    let v₈ : List ℕ = toBits 64 (s .granted) ++ v₇ in
+    let v₉ : List ℕ = toBits 64 (S .parked .entries) ++ v₈ in
+    let w₁ : List ℕ = toBits 64 (s .rewrites) ++ v₉ in
+    let w₂ : List ℕ = toBits 32 (S .budget) ++ w₁ in
+    let many : length v₄ ≤ 160167 =
+    both-short (concat write-mark (s .marks)) v₃ 1024 159143 marks
+    (both-short (concat write-unit (s .units)) v₂ 156064 3079 units (bits-then 10 (length (s .placed)) v₁ 3069 placed)) in
+    bits-then 3 (pred (length (s .units))) w₂ 168657 (bits-then 32 (S .budget) w₁ 168625 (bits-then 64 (s .rewrites) v₉ 168561
+    (bits-then 64 (S .parked .entries) v₈ 168497 (bits-then 64 (s .granted) v₇ 168433 (bits-then 64 (s .kept) v₆ 168369
+    (bits-then 10 (pred (length (s .symbols))) v₅ 168359 (both-short (concat (toBits 8) (s .symbols)) v₄ 8192 160167 symbols many)))))))
