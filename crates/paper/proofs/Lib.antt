@@ -14,6 +14,7 @@ pub mod Bytes
 pub mod Lengths
 pub mod Books
 pub mod Dated
+pub mod BookBytes
 pub mod Prefix
 pub mod Matching
 pub mod Marks
