@@ -15,9 +15,9 @@ use crate::nets::Walker;
 use crate::program::Pages;
 use crate::subject::{
     hand_over, hand_over_charge, hand_over_records, hand_over_settled, Charged, Done, Lent,
-    ModelSubject, Parts, Question, Settled, Subject, Told, Written, MODEL_PUBLISHED,
+    ModelSubject, Parts, Profile, Question, Settled, Subject, Told, Written, MODEL_PUBLISHED,
 };
-use crate::{broken_fees, broken_lines, broken_marks};
+use crate::{broken_fees, broken_lines, broken_marks, broken_strict};
 
 #[derive(Clone, Copy, Debug, PartialEq, Eq)]
 pub enum Slip {
@@ -178,9 +178,31 @@ pub enum Slip {
     Eager,
     /// 22 and 23 are told before the run's refusals.
     Sooner,
+    /// Of two left sides, only the first one's variables agree with every part.
+    OneSided,
+    /// The last two rules are not held against each other.
+    LastPair,
+    /// Only neighbouring rules are held against each other.
+    Neighbours,
+    /// Of left sides only the roots are held against each other.
+    Roots,
+    /// Two rules with the same left side are taken as one.
+    SameLeft,
+    /// The last two rules that overlap are told, and not the first.
+    LatestPair,
+    /// 25 is told before 24.
+    OverlapFirst,
+    /// A dated book is taken as an undated one, so that 25 may be told of it.
+    AnyDay,
+    /// 24 is not told of a variable repeated in a left side.
+    Repeating,
+    /// 24 is not told of a book without a constant.
+    Formless,
+    /// The pair is not zeroed where a book is admitted.
+    Stale,
 }
 
-pub const SLIPS: [(&str, Slip); 78] = [
+pub const SLIPS: [(&str, Slip); 89] = [
     ("join", Slip::Join),
     ("list", Slip::List),
     ("zeros", Slip::Zeros),
@@ -259,6 +281,17 @@ pub const SLIPS: [(&str, Slip); 78] = [
     ("source", Slip::Source),
     ("eager", Slip::Eager),
     ("sooner", Slip::Sooner),
+    ("one-sided", Slip::OneSided),
+    ("last-pair", Slip::LastPair),
+    ("neighbours", Slip::Neighbours),
+    ("roots", Slip::Roots),
+    ("same-left", Slip::SameLeft),
+    ("latest-pair", Slip::LatestPair),
+    ("overlap-first", Slip::OverlapFirst),
+    ("any-day", Slip::AnyDay),
+    ("repeating", Slip::Repeating),
+    ("formless", Slip::Formless),
+    ("stale", Slip::Stale),
 ];
 
 impl Slip {
@@ -350,6 +383,10 @@ impl Subject for BrokenModel {
     ) -> Settled {
         let settled = broken_fees::settle(self.slip, question, fees, output.len());
         hand_over_settled(&settled, output, parts)
+    }
+
+    fn profile(&mut self, book: &[u8]) -> Profile {
+        broken_strict::profile(self.slip, book)
     }
 }
 

@@ -13,11 +13,14 @@ use crate::marks::{self, Marks};
 use crate::model::refusal::OF_BOOKS;
 use crate::model::{self, Answer, Form, Lengths};
 use crate::nets::{self, Nets};
+use crate::parted;
+use crate::profiles::{self, Profiles};
 use crate::random;
 use crate::records;
 use crate::repeats::{self, Repeats};
 use crate::shrink::shrink;
-use crate::subject::{Charged, Done, Question, Settled, Subject, Told, Written};
+use crate::strict;
+use crate::subject::{Charged, Done, Profile, Question, Settled, Subject, Told, Written};
 
 /// Those of a run that are not its book's. Refusal 17 is about the program's
 /// input, which a subject never sees.
@@ -41,6 +44,7 @@ pub struct Tally {
     pub marks: Marks,
     pub batches: Batches,
     pub charges: Charges,
+    pub profiles: Profiles,
 }
 
 impl Tally {
@@ -74,6 +78,7 @@ impl Tally {
             unmet_kinds("orders", &marks::KINDS, &self.marks.counts),
             unmet_kinds("batches", &batches::KINDS, &self.batches.counts),
             unmet_kinds("charges", &charges::KINDS, &self.charges.counts),
+            unmet_kinds("books", &profiles::KINDS, &self.profiles.counts),
         ]
         .concat()
     }
@@ -173,7 +178,15 @@ impl<'a> Comparison<'a> {
         let fees = case.fees.as_ref();
         let charge = fees.and_then(|fees| self.check_charge(case, fees));
         let settled = fees.and_then(|fees| self.check_settled(case, fees, &book));
-        run.or(writer).or(batch).or(charge).or(settled)
+        let profile = self.check_profile(&book);
+        let rearranged = case.rearranged;
+        let rearranged = rearranged.and_then(|seed| self.check_rearranged(case, &book, seed));
+        run.or(writer)
+            .or(batch)
+            .or(charge)
+            .or(settled)
+            .or(profile)
+            .or(rearranged)
     }
 
     fn check_run(&mut self, case: &Case, book: &[u8]) -> Option<String> {
@@ -188,14 +201,27 @@ impl<'a> Comparison<'a> {
             self.tally.nets.count(&question);
             self.tally.marks.count(&question);
         }
+        self.compare_run("values", &question, case, &expected)
+    }
+
+    /// Puts a question in the case's buffers to the subject, of which this is
+    /// due.
+    fn compare_run(
+        &mut self,
+        name: &str,
+        question: &Question,
+        case: &Case,
+        expected: &Result<Answer, u8>,
+    ) -> Option<String> {
+        let lengths = case.lengths(self.subject.published());
         let mut lent = self.lent.lend(lengths, case.junk);
-        let found = self.subject.answer(&question, &mut lent);
+        let found = self.subject.answer(question, &mut lent);
         let term = expected.as_ref().map(|answer| &answer.term[..]);
-        let due = match &expected {
+        let due = match expected {
             Ok(answer) => Told::answered(answer),
             Err(number) => Told::refused(*number),
         };
-        compare_values("values", &due, &found).or_else(|| self.lent.difference("output", term.ok()))
+        compare_values(name, &due, &found).or_else(|| self.lent.difference("output", term.ok()))
     }
 
     fn check_batch(&mut self, case: &Case, batch: &Batch, book: &[u8]) -> Option<String> {
@@ -248,6 +274,45 @@ impl<'a> Comparison<'a> {
         compare_values("settled values", &due, &found)
             .or_else(|| compare_values("settled parts", &parts.due(&own), &parts.found()))
             .or_else(|| self.lent.output.difference("settled output", &term))
+    }
+
+    fn check_profile(&mut self, book: &[u8]) -> Option<String> {
+        let expected = strict::check(book);
+        self.tally.profiles.count(book, &expected);
+        let found = self.subject.profile(book);
+        compare_values("strict profile's values", &Profile::of(&expected), &found)
+    }
+
+    /// The rules in another order: the profile has the same number, and by an
+    /// admitted book the run is answered as by the order that was given.
+    fn check_rearranged(&mut self, case: &Case, book: &[u8], seed: u64) -> Option<String> {
+        let read = model::read_book(book).ok()?;
+        let rules = read.rules.len();
+        let other = model::write_book(&parted::rearranged(&read, seed));
+        let number = Profile::of(&strict::check(book)).refusal;
+        let found = self.subject.profile(&other).refusal;
+        let profile = compare_values("strict profile of the rules rearranged", &number, &found);
+        if profile.is_some() || number != 0 {
+            return profile;
+        }
+        let published = self.subject.published();
+        let lengths = case.lengths(published);
+        let question = Question::of(case, book);
+        let expected = question.answer(lengths, published);
+        if let Ok(answer) = &expected {
+            self.tally
+                .profiles
+                .count_rearranged(&question, rules, answer);
+        }
+        self.compare_run(
+            "values of the rules rearranged",
+            &Question {
+                book: &other,
+                ..question
+            },
+            case,
+            &expected,
+        )
     }
 
     fn check_writer(&mut self, case: &Case, book: &[u8]) -> Option<String> {
@@ -322,6 +387,9 @@ fn write_case(text: &mut Formatter, case: &Case) -> fmt::Result {
         case.writer_offset
     )?;
     writeln!(text, "junk     from seed {}", case.junk)?;
+    if let Some(seed) = case.rearranged {
+        writeln!(text, "rules    rearranged from seed {seed}")?;
+    }
     if let Some(batch) = &case.batch {
         write_batch(text, batch)?;
     }
@@ -369,8 +437,14 @@ impl Display for Tally {
         }
         write!(
             text,
-            "{}{}{}{}{}{}",
-            self.repeats, self.days, self.nets, self.marks, self.batches, self.charges
+            "{}{}{}{}{}{}{}",
+            self.repeats,
+            self.days,
+            self.nets,
+            self.marks,
+            self.batches,
+            self.charges,
+            self.profiles
         )
     }
 }

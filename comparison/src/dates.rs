@@ -92,7 +92,7 @@ fn rename(random: &mut Random, side: &mut [Symbol]) {
     }
 }
 
-fn variable_places(side: &[Symbol]) -> Vec<usize> {
+pub fn variable_places(side: &[Symbol]) -> Vec<usize> {
     let is_variable = |place: &usize| matches!(side[*place], Symbol::Variable(_));
     (0..side.len()).filter(is_variable).collect()
 }

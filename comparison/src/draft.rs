@@ -223,6 +223,8 @@ pub struct Case {
     pub batch: Option<Batch>,
     /// Charged besides, if there are any.
     pub fees: Option<Fees>,
+    /// Seeds another order of the rules, which is asked besides.
+    pub rearranged: Option<u64>,
 }
 
 impl Case {
@@ -245,6 +247,7 @@ impl Case {
             cut: 0,
             batch: None,
             fees: None,
+            rearranged: None,
         }
     }
 

@@ -4,6 +4,7 @@
 //! - `model`: the definitions, written for reading.
 //! - `records`: the same for many lines by one book.
 //! - `fees`: the same for fees and owners' shares.
+//! - `strict`: the same of the strict profile.
 //! - `draft`: books and cases as fields that may break any rule.
 //! - `random`, `books`, `branching`, `dates`, `texts`, `grow`, `faults`: random
 //!   cases.
@@ -16,8 +17,10 @@
 //! - `marks`: what they try of marks.
 //! - `batches`: random lines for one book, and what they try.
 //! - `charges`: random amounts, rates and shares, and what they try.
-//! - `broken`, `broken_lines`, `broken_marks`, `broken_fees`: the model with one
-//!   slip, to show that slips are found.
+//! - `parted`: random books that are strict, or nearly so; `profiles`: what they
+//!   try.
+//! - `broken`, `broken_lines`, `broken_marks`, `broken_fees`, `broken_strict`: the
+//!   model with one slip, to show that slips are found.
 //! - `library`: the static library as a subject, under the feature `library`.
 //! - `program`: the pages of the programs `reduce` and `payee`.
 //! - `vectors`: pages and written books from outside.
@@ -29,6 +32,7 @@ pub mod broken;
 pub mod broken_fees;
 pub mod broken_lines;
 pub mod broken_marks;
+pub mod broken_strict;
 pub mod buffers;
 pub mod charges;
 pub mod compare;
@@ -43,11 +47,14 @@ pub mod library;
 pub mod marks;
 pub mod model;
 pub mod nets;
+pub mod parted;
+pub mod profiles;
 pub mod program;
 pub mod random;
 pub mod records;
 pub mod repeats;
 pub mod shrink;
+pub mod strict;
 pub mod subject;
 pub mod texts;
 pub mod vectors;

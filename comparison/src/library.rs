@@ -4,7 +4,9 @@ use kurvneist::{raw, Batch, Request};
 
 use crate::draft::Fees;
 use crate::model::{Form, Lengths};
-use crate::subject::{Charged, Done, Lent, Parts, Question, Settled, Subject, Told, Written};
+use crate::subject::{
+    Charged, Done, Lent, Parts, Profile, Question, Settled, Subject, Told, Written,
+};
 
 /// What a value holds before the call, so that a zero that is due must be written.
 const JUNK: u64 = 0x5A5A_5A5A_5A5A_5A5A;
@@ -118,5 +120,11 @@ impl Subject for Library {
             charged: values.charged,
             fee: values.fee,
         }
+    }
+
+    fn profile(&mut self, book: &[u8]) -> Profile {
+        let mut pair = [JUNK; raw::PAIR_LENGTH];
+        let refusal = raw::strict_book(book, &mut pair);
+        Profile { refusal, pair }
     }
 }

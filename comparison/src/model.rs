@@ -40,6 +40,11 @@ pub mod refusal {
     pub const CLASS_OPERATORS: u8 = 19;
     pub const AMOUNT: u8 = 22;
     pub const RATE_OR_SHARES: u8 = 23;
+    /// Of the strict profile: a dated book, a variable repeated in a left side,
+    /// or no constant.
+    pub const OUTSIDE_STRICT: u8 = 24;
+    /// Of the strict profile: two rules match one term.
+    pub const OVERLAP: u8 = 25;
 }
 
 /// The four endings of a run.

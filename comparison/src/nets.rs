@@ -30,9 +30,9 @@ pub struct Nets {
 }
 
 /// A left side's keys; nothing where a variable stands.
-type Path = Vec<Option<u8>>;
+pub type Path = Vec<Option<u8>>;
 
-fn path_of(side: &Pattern, path: &mut Path) {
+pub fn path_of(side: &Pattern, path: &mut Path) {
     match side {
         Pattern::Variable(_) => path.push(None),
         Pattern::Operator(operator, sides) => {

@@ -12,6 +12,7 @@ use crate::draft::{Case, Draft};
 use crate::faults::spoil;
 use crate::grow::{line, near_line};
 use crate::model::{Form, SCHEDULE_LIMIT};
+use crate::parted;
 use crate::subject::Question;
 use crate::texts;
 
@@ -76,8 +77,10 @@ impl Random {
     }
 }
 
-/// One case in so many has a batch.
+/// One case in so many has a batch, and another one a book for the strict
+/// profile.
 const BATCH_EVERY: u64 = 8;
+const STRICT_BEHIND: u64 = 4;
 
 /// One case in so many has fees.
 const FEES_EVERY: u64 = 3;
@@ -85,9 +88,12 @@ const FEES_EVERY: u64 = 3;
 /// The numbered case of a seed. Every third one is a text.
 pub fn numbered(seed: u64, number: u64) -> Case {
     let mut random = Random::for_case(seed, number);
-    let mut case = match number % 3 {
-        2 => text_case(&mut random),
-        _ => case(&mut random),
+    let is_strict = number % BATCH_EVERY == STRICT_BEHIND;
+    let mut case = match (number % 3, is_strict) {
+        (2, true) => strict_text_case(&mut random),
+        (2, false) => text_case(&mut random),
+        (_, true) => strict_case(&mut random),
+        (_, false) => case(&mut random),
     };
     case.junk = random.draw();
     if random.one_in(10) {
@@ -126,6 +132,34 @@ pub fn text_case(random: &mut Random) -> Case {
     dates::date(random, &mut draft);
     let text = texts::text(random, &alphabet, &draft);
     completed(random, draft, Form::Text, text)
+}
+
+/// A book that is strict or nearly so, and another order of its rules.
+fn strict_case(random: &mut Random) -> Case {
+    let mut draft = parted::strict_draft(random);
+    parted::spoil(random, &mut draft);
+    let line = match random.one_in(2) {
+        true => line(random, &draft),
+        false => near_line(random, &draft),
+    };
+    let case = completed(random, draft, Form::Line, line);
+    rearranged(random, case)
+}
+
+fn strict_text_case(random: &mut Random) -> Case {
+    let alphabet = texts::alphabet(random);
+    let mut draft = parted::strict_text_draft(random, &alphabet);
+    parted::spoil(random, &mut draft);
+    let text = texts::text(random, &alphabet, &draft);
+    let case = completed(random, draft, Form::Text, text);
+    rearranged(random, case)
+}
+
+fn rearranged(random: &mut Random, case: Case) -> Case {
+    Case {
+        rearranged: Some(random.draw()),
+        ..case
+    }
 }
 
 fn completed(random: &mut Random, draft: Draft, form: Form, line: Vec<u8>) -> Case {

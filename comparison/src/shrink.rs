@@ -32,6 +32,7 @@ impl Shrinker<'_> {
         self.fewer_lines();
         // A difference that is none of fees shows without them.
         self.try_change(|case| case.fees = None);
+        self.try_change(|case| case.rearranged = None);
         self.thin(|case| &mut case.damage);
         self.thin(|case| &mut case.schedule);
         self.fewer_units();

@@ -4,6 +4,7 @@ use crate::draft::{Case, Fees};
 use crate::fees::{self, Charge, MOST_OWNERS};
 use crate::model::{self, Answer, Form, Lengths};
 use crate::records::{self, Answered};
+use crate::strict::{self, NotStrict};
 
 /// The parts of a run that are not lent buffers to write to.
 #[derive(Clone, Copy, Debug)]
@@ -111,6 +112,26 @@ impl Told {
 pub struct Written {
     pub refusal: u8,
     pub length: u64,
+}
+
+/// The strict profile's values. Unless the number is 25, the pair is two zeros.
+#[derive(Clone, Copy, Debug, Default, PartialEq, Eq)]
+pub struct Profile {
+    pub refusal: u8,
+    pub pair: [u64; 2],
+}
+
+impl Profile {
+    pub fn of(checked: &Result<(), NotStrict>) -> Profile {
+        let Err(fault) = checked else {
+            return Profile::default();
+        };
+        let pair = |overlap: &strict::Overlap| [overlap.first as u64, overlap.second as u64];
+        Profile {
+            refusal: fault.number,
+            pair: fault.overlap.as_ref().map_or([0; 2], pair),
+        }
+    }
 }
 
 /// The values that many lines are answered. After a refusal all but its number
@@ -221,6 +242,9 @@ pub trait Subject {
         output: &mut [u8],
         parts: &mut Parts,
     ) -> Settled;
+
+    /// What the strict profile says of a book.
+    fn profile(&mut self, book: &[u8]) -> Profile;
 }
 
 /// The model needs no areas; it asks for the longest allowed so that the
@@ -271,6 +295,10 @@ impl Subject for ModelSubject {
     ) -> Settled {
         let settled = fees::settle(question, fees, output.len());
         hand_over_settled(&settled, output, parts)
+    }
+
+    fn profile(&mut self, book: &[u8]) -> Profile {
+        Profile::of(&strict::check(book))
     }
 }
 

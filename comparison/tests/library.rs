@@ -9,7 +9,9 @@ use comparison::draft::{Batch, Case, Damage, Draft, Fees, OperatorDraft, Symbol}
 use comparison::fees::{LARGEST, WHOLE};
 use comparison::library::Library;
 use comparison::model::Form;
+use comparison::random::Random;
 use comparison::records::{LONGEST, LONGEST_LINE};
+use comparison::strict;
 
 #[test]
 fn random_cases() {
@@ -110,6 +112,50 @@ fn left_sides_that_differ_late() {
     for day in 0..16 {
         case.day = day;
         assert_eq!(refusal(&case), None);
+    }
+}
+
+/// A left side pair(E, pair(E, .. last)), whose elements are 12 variables and 13
+/// times `closed`, in any order; without any, a row of one operator.
+fn late_side(random: &mut Random, closed: &[Symbol], last: Symbol) -> Vec<Symbol> {
+    if closed.is_empty() {
+        return [vec![op(1); 63], vec![last]].concat();
+    }
+    let variables = (0..12).map(|variable| vec![op(0), Symbol::Variable(variable)]);
+    let mut elements: Vec<Vec<Symbol>> = variables.collect();
+    elements.resize(25, [&[op(0)], closed].concat());
+    random.shuffle(&mut elements);
+    [elements.concat(), vec![last]].concat()
+}
+
+/// Strict books whose left sides are told apart by the last symbol alone; then
+/// two of them have the same one, or one of them a variable there.
+#[test]
+fn strict_books_that_are_told_apart_late() {
+    let random = &mut Random::new(5);
+    let mut operators = vec![operator(0); 255];
+    operators[0] = operator(2);
+    operators[1] = operator(1);
+    let check = |case: &Case, due: u8| {
+        assert_eq!(refusal(case), Some(10));
+        let found = strict::check(&case.book());
+        assert_eq!(found.err().map_or(0, |fault| fault.number), due);
+    };
+    for closed in [&[][..], &[op(2)], &[op(1), op(2)]] {
+        let lasts = (2..255).map(op);
+        let sides = lasts.map(|last| late_side(random, closed, last));
+        let rules = sides.map(|side| rule(&side, &[op(2)])).collect();
+        let mut case = page(Draft::new(operators.clone(), rules));
+        case.rearranged = Some(7);
+        check(&case, 0);
+        let any = Symbol::Variable(15);
+        for (place, last) in [(251, op(254)), (252, op(2)), (0, op(3)), (100, any)] {
+            let mut case = case.clone();
+            case.draft.rules[place].left = late_side(random, closed, last);
+            check(&case, 25);
+        }
+        case.draft.dated = true;
+        check(&case, 24);
     }
 }
 

@@ -5,9 +5,9 @@
  * a book, a line, a text and a page are, bit by bit, how fees are charged, and in which order faults are refused.
  *
  * Buffers. Each is lent as a pointer and its length in bytes; shares as a pointer and how many there are. A null pointer is
- * taken where the length is 0; answer, done, length, parts, fee and charged are never null. What is written to (work, net,
- * output, answers, answer, done, length, parts, fee, charged) overlaps nothing else that is lent. Any bytes, lengths and
- * numbers are fine: what can't be used is refused by number.
+ * taken where the length is 0; answer, done, length, parts, fee, charged and pair are never null. What is written to (work,
+ * net, output, answers, answer, done, length, parts, fee, charged, pair) overlaps nothing else that is lent. Any bytes,
+ * lengths and numbers are fine: what can't be used is refused by number.
  *
  * The functions keep nothing between calls, so several threads may call them, each with buffers of its own.
  */
@@ -40,6 +40,9 @@ extern "C" {
 
 /* The highest rate, and the total of the owners' shares, in ten-thousandths. */
 #define KURVNEIST_WHOLE 10000
+
+/* The elements of a pair of rules. */
+#define KURVNEIST_PAIR_LENGTH 2
 
 /*
  * The elements of an answer. They are told by name, since a later version may add some. In a finished run granted and kept
@@ -82,8 +85,9 @@ enum kurvneist_stop {
 /*
  * The refusals. Places are checked in this order: 13; 15, for the work area, then for the net's; 16; the book, 1 to 9; the
  * line, 12, 11, 10, or the text, 19, 18; the schedule, 14; of a posting that is charged, 22, then 23. Only the programs tell
- * 17. 6 is given no longer, since a variable that stands again in a left side matches equal parts; it keeps its name for
- * what an earlier version told, and is used for nothing else. 20 and 21 are not given. A later version may add numbers.
+ * 17, and only the strict profile 24 and 25, both after the book's own. 6 is given no longer, since a variable that stands
+ * again in a left side matches equal parts; it keeps its name for what an earlier version told, and is used for nothing
+ * else. 20 and 21 are not given. A later version may add numbers.
  */
 enum kurvneist_refusal {
     KURVNEIST_ACCEPTED = 0,
@@ -129,7 +133,11 @@ enum kurvneist_refusal {
     /* the amount is not from -1,000,000,000,000 to 1,000,000,000,000 cents */
     KURVNEIST_AMOUNT_OUT_OF_RANGE = 22,
     /* the root's rate is missing or above 10,000, the owners are not 1 to 16, or their shares do not total 10,000 */
-    KURVNEIST_BAD_RATE_OR_SHARES = 23
+    KURVNEIST_BAD_RATE_OR_SHARES = 23,
+    /* the book is dated, a variable is repeated in a left side, or no operator has arity 0 */
+    KURVNEIST_OUTSIDE_STRICT_PROFILE = 24,
+    /* two of the book's rules match one term */
+    KURVNEIST_RULES_OVERLAP = 25
 };
 
 /* KURVNEIST_WORK_LENGTH. */
@@ -302,6 +310,21 @@ uint8_t kurvneist_settle_payee(const uint8_t *book, size_t book_length,
 uint8_t kurvneist_write_book(const uint8_t *book, size_t book_length,
                              uint8_t *output, size_t output_length,
                              uint64_t *length);
+
+/*
+ * Whether a book is strict: no term that its operators form is matched by two of its rules, so that their order is free. Any
+ * rearrangement of the rules gives the same term, ending, rewrites, entries, FORKs granted and kept for every line under the
+ * same schedule. Two rules with the same left side are two rules.
+ *
+ * The result is 0 if it is, or the number of a refusal: the book's own, 1 to 5, 7 to 9; then 24 for a dated book, a variable
+ * repeated in a left side, or no operator of arity 0; then 25, exactly if some term has two matching rules. `pair` has
+ * KURVNEIST_PAIR_LENGTH elements: after 25 the first two rules that match one term, numbered from 0 in the book, the lowest
+ * first rule and with it the lowest second; otherwise zeros.
+ *
+ * It is lent no area: it uses some 350,000 bytes of stack, which is more than the least that a thread may have.
+ */
+uint8_t kurvneist_strict_book(const uint8_t *book, size_t book_length,
+                              uint64_t *pair);
 
 #ifdef __cplusplus
 }

@@ -18,7 +18,8 @@
 //! let fees = kurvneist::Fees { rates: &[], shares: &[] };
 //! ```
 //!
-//! An answer, a posting or what is done is not taken apart into all its fields; with `..` it is:
+//! An answer, a posting, what is done, what is settled or why a book is not strict is not taken apart into all its fields;
+//! with `..` it is:
 //!
 //! ```compile_fail,E0638
 //! fn rewrites(answer: kurvneist::Answer) -> u32 {
@@ -45,6 +46,13 @@
 //! fn is_charged(settlement: kurvneist::Settlement) -> bool {
 //!     let kurvneist::Settlement { posting: _, charge } = settlement;
 //!     charge.is_some()
+//! }
+//! ```
+//!
+//! ```compile_fail,E0638
+//! fn pair(fault: kurvneist::NotStrict) -> Option<[usize; 2]> {
+//!     let kurvneist::NotStrict { refusal: _, pair } = fault;
+//!     pair
 //! }
 //! ```
 //!
@@ -97,7 +105,8 @@
 //!         BookRunsOut | NoOperator | BadStrategy | UnknownOperatorInRule | LeftSideIsVariable
 //!         | LeftSideRepeatsVariable | RightSideAddsVariable | SideTooLong | BookLeftOver | LineIsNoTerm
 //!         | UnknownOperatorInLine | LineTooLong | BadUnits | UnknownUnitInSchedule | WorkTooShort
-//!         | OutputTooShort | BadInput | TextTooLong | NoLetters | AmountOutOfRange | BadRateOrShares => (),
+//!         | OutputTooShort | BadInput | TextTooLong | NoLetters | AmountOutOfRange | BadRateOrShares
+//!         | OutsideStrictProfile | RulesOverlap => (),
 //!     }
 //! }
 //! ```

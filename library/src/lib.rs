@@ -47,6 +47,8 @@
 //! A posting has an amount too: [`charge`] takes the fee off it, at the rate of the posting's root, and splits the rest among
 //! owners to the cent; [`Engine::settle`] posts a line and charges it.
 //!
+//! Of a book that [`strict_book`] admits no term is matched by two rules, so that their order is free.
+//!
 //! A refusal has a name, a number and a condition, and leaves every buffer as it was:
 //!
 //! ```
@@ -57,9 +59,9 @@
 //! assert_eq!(refusal.to_string(), "refused 11: the line names an operator that the book does not have");
 //! ```
 //!
-//! [`Request`], [`Batch`], [`Fees`], [`Answer`], [`Done`], [`Posting`], [`Charge`], [`Settlement`], [`Ending`], [`Stop`] and
-//! [`Refusal`] grow as the engine does: a request is made by [`Request::new`], a batch by [`Batch::new`], fees by [`Fees::new`],
-//! and a `match` on an ending, a stop or a refusal has an arm for what it doesn't know.
+//! [`Request`], [`Batch`], [`Fees`], [`Answer`], [`Done`], [`Posting`], [`Charge`], [`Settlement`], [`NotStrict`],
+//! [`Ending`], [`Stop`] and [`Refusal`] grow as the engine does: a request is made by [`Request::new`], a batch by
+//! [`Batch::new`], fees by [`Fees::new`], and a `match` on an ending, a stop or a refusal has an arm for what it doesn't know.
 #![deny(unsafe_code)]
 #![warn(missing_docs)]
 
@@ -74,6 +76,7 @@ mod postings;
 pub mod raw;
 mod refusal;
 mod request;
+mod strict;
 
 pub use answer::{Answer, Ending};
 pub use batch::{payee_lines, reduce_lines, Batch, Done, Stop};
@@ -86,6 +89,7 @@ pub use lines::{LineTooLong, Lines};
 pub use postings::Postings;
 pub use refusal::Refusal;
 pub use request::Request;
+pub use strict::{strict_book, NotStrict};
 
 /// Bytes of work area that a run asks for.
 pub const WORK_LENGTH: usize = 24_624;

@@ -1,6 +1,6 @@
 //! The C functions, with slices in the place of pointers. Their values come back as they are; [`crate::reduce`],
 //! [`crate::payee`], [`crate::reduce_lines`], [`crate::payee_lines`], [`crate::charge`], [`crate::settle`],
-//! [`crate::settle_payee`] and [`crate::write_book`] give them names.
+//! [`crate::settle_payee`], [`crate::write_book`] and [`crate::strict_book`] give them names.
 //!
 //! This is the only module with `unsafe`. For each call it suffices that
 //! - the functions are proved safe for any bytes, lengths and numbers, and use a pointer only for the elements that they
@@ -153,6 +153,7 @@ mod c {
             output_length: usize,
             length: *mut u64,
         ) -> u8;
+        pub fn kurvneist_strict_book(book: *const u8, book_length: usize, pair: *mut u64) -> u8;
     }
 }
 
@@ -174,6 +175,9 @@ pub struct Settled {
     /// The owners' parts at the front, if the posting was charged. The other elements stay.
     pub parts: [i64; MOST_OWNERS],
 }
+
+/// The numbers of a pair of rules that overlap: the first rule's and the second's, from 0.
+pub const PAIR_LENGTH: usize = 2;
 
 /// The bytes of work area that a run asks for, by the linked library.
 pub fn work_length() -> usize {
@@ -434,4 +438,10 @@ pub fn write_book(book: &[u8], output: &mut [u8], length: &mut u64) -> u8 {
             length,
         )
     }
+}
+
+/// A refusal's number, or 0. The pair is the first two rules that overlap after 25, and zeros otherwise.
+pub fn strict_book(book: &[u8], pair: &mut [u64; PAIR_LENGTH]) -> u8 {
+    // SAFETY: the pointer and length are those of one slice, and `pair` has the two elements that are written.
+    unsafe { c::kurvneist_strict_book(book.as_ptr(), book.len(), pair.as_mut_ptr()) }
 }

@@ -6,8 +6,8 @@ use std::fmt::{self, Display, Formatter};
 /// Each refusal's number, its name and its condition, said once; what stands before a number are the name's attributes.
 macro_rules! refusals {
     ($($(#[$attribute:meta])* $number:literal $name:ident $condition:literal)*) => {
-        /// Why a request, a batch or a book to be written was refused, and every lent buffer kept its bytes; or why one line
-        /// of a batch was, whose record this is.
+        /// Why a request, a batch or a book to be written was refused, and every lent buffer kept its bytes; why one line of a
+        /// batch was, whose record this is; or why the strict profile doesn't admit a book.
         ///
         /// `docs/FORMAT.md` says in which order they are told. Later versions may add some. One that is given no longer is
         /// deprecated, and keeps its number and its words for who reads what an earlier version told.
@@ -75,6 +75,8 @@ refusals! {
     22 AmountOutOfRange "the amount is not from -1,000,000,000,000 to 1,000,000,000,000 cents"
     23 BadRateOrShares "the root's rate is missing or above 10,000, the owners are not 1 to 16, or their shares do not \
         total 10,000"
+    24 OutsideStrictProfile "the book is dated, a variable is repeated in a left side, or no operator has arity 0"
+    25 RulesOverlap "two of the book's rules match one term"
 }
 
 impl Refusal {
@@ -84,7 +86,7 @@ impl Refusal {
         self as u8
     }
 
-    /// `Ok` for 0. The library is proved to answer 0 or one of its refusals, which are 1 to 5, 7 to 16, 18, 19, 22 and 23.
+    /// `Ok` for 0. The library is proved to answer 0 or one of its refusals, which are 1 to 5, 7 to 16, 18, 19 and 22 to 25.
     pub(crate) fn check(number: u8) -> Result<(), Refusal> {
         match number {
             0 => Ok(()),

@@ -70,6 +70,7 @@ fn names_of_the_header_have_the_numbers_of_the_crate() {
         ("MostOwners", MOST_OWNERS),
         ("LargestAmount", LARGEST_AMOUNT as usize),
         ("Whole", WHOLE.into()),
+        ("PairLength", raw::PAIR_LENGTH),
     ];
     let lengths = lengths.map(|(name, value)| (name.to_owned(), value));
     let names = refusals.chain(endings).chain(stops).chain(lengths);
@@ -116,4 +117,6 @@ fn examples_post_what_they_say() {
     let fees = "10100: fee 354, parts 3249 3248 3249\n-10100: fee -354, parts -3249 -3248 -3249\n\
         2000000000000: refused 22\n";
     assert_eq!(run("examples/fees.c"), fees);
+    let strict = "the order of the rules is free\nrules 0 and 2 match one term\n";
+    assert_eq!(run("examples/strict.c"), strict);
 }

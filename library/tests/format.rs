@@ -6,9 +6,9 @@ use std::fs;
 
 use common::*;
 use kurvneist::{
-    charge, reduce_lines, written_book, Batch, Ending, Engine, Fees, Posting, Refusal, Request,
-    Stop, LARGEST_AMOUNT, LONGEST_BOOK, LONGEST_RECORD, MOST_OWNERS, NET_LENGTH, OUTPUT_LENGTH,
-    WHOLE, WORK_LENGTH,
+    charge, reduce_lines, strict_book, written_book, Batch, Ending, Engine, Fees, Posting, Refusal,
+    Request, Stop, LARGEST_AMOUNT, LONGEST_BOOK, LONGEST_RECORD, MOST_OWNERS, NET_LENGTH,
+    OUTPUT_LENGTH, WHOLE, WORK_LENGTH,
 };
 
 fn format() -> String {
@@ -108,6 +108,28 @@ fn written_books() {
         written(2, &[1, 2, 0])
     );
     assert_eq!(written(1, &[1, 0, 1, 0]), written(1, &[1, 0]));
+}
+
+#[test]
+fn a_strict_book_and_one_that_is_not() {
+    let format = format();
+    assert_eq!(strict_book(&bytes(block(&format, "book"))), Ok(()));
+    let overlapping = bytes(block(&format, "overlapping"));
+    assert!(format.contains(&format!("it has {} bytes", overlapping.len())));
+    let (end, tick, both) = (op(0), op(1), op(2));
+    let rules: [Rule; 3] = [
+        (&[both, end, Y], &[Y]),
+        (&[both, tick, X, Y], &[tick, both, X, Y]),
+        (&[both, X, end], &[X]),
+    ];
+    let operators: [Operator; 3] = [(0, None), (1, None), (2, Some(&[8, 1, 2, 9, 0]))];
+    assert_eq!(overlapping, book(&operators, &rules));
+    let fault = strict_book(&overlapping).unwrap_err();
+    assert_eq!(fault.refusal.number(), 25);
+    assert_eq!(fault.pair, Some([0, 2]));
+    assert!(format.contains("refused by 25 with the rules 0 and 2"));
+    let dated = strict_book(&bytes(block(&format, "dated"))).unwrap_err();
+    assert_eq!((dated.refusal.number(), dated.pair), (24, None));
 }
 
 fn page_of(posting: &Posting) -> String {

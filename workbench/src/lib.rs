@@ -7,7 +7,7 @@
 //!   share.
 //! - `items`, `encoding`, `compose`, `csv`, `template`: from a file to lines.
 //! - `told`, `width`: characters in messages, and the room that they take.
-//! - `warnings`: what a book may not mean.
+//! - `warnings`: what a book may not mean, and whether its rule order is free.
 //! - `trace`: a run entry by entry, as text and as a picture; `explain`: its
 //!   rewrites.
 //! - `posting`: a line's run, by a given schedule or by longer and longer ones.

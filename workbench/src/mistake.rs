@@ -61,25 +61,37 @@ impl Mistake {
 
     /// `NAME:LINE:COLUMN: MESSAGE`, the line itself and a caret under the place.
     pub fn show(&self, name: &str, source: &str) -> String {
-        let (line, column) = self.place(source);
-        let written = source.lines().nth(line - 1).unwrap_or("");
-        let marked = source[self.span.start..self.span.end].chars().count();
-        let (shown, from) = window(written, column - 1);
-        let (before, behind) = shown.split_at(shown.len().min(column - 1 - from));
-        // What stands on the character before it is marked there.
-        let standing = behind.first().is_some_and(|first| width(*first) == 0);
-        let indent = cells(before).saturating_sub(usize::from(standing));
-        let carets = cells(&behind[..marked.min(behind.len())]).max(1);
-        let shown: String = shown.iter().collect();
-        let margin = line.to_string().len().max(4);
-        format!(
-            "{name}:{line}:{column}: {}\n{line:>margin$} | {shown}\n{:>margin$} | {}{}\n",
-            self.message(),
-            "",
-            " ".repeat(indent),
-            "^".repeat(carets),
-        )
+        self.show_with(None, name, source)
     }
+
+    /// The same, with another place and its line before.
+    pub fn show_with(&self, other: Option<Span>, name: &str, source: &str) -> String {
+        let (line, column) = self.place(source);
+        let places = other.into_iter().chain([self.span]);
+        let shown: String = places.map(|span| marked(source, span)).collect();
+        format!("{name}:{line}:{column}: {}\n{shown}", self.message())
+    }
+}
+
+/// The line of a place, and carets under it.
+fn marked(source: &str, span: Span) -> String {
+    let (line, column) = place_of(source, span.start);
+    let written = source.lines().nth(line - 1).unwrap_or("");
+    let marked = source[span.start..span.end].chars().count();
+    let (shown, from) = window(written, column - 1);
+    let (before, behind) = shown.split_at(shown.len().min(column - 1 - from));
+    // What stands on the character before it is marked there.
+    let standing = behind.first().is_some_and(|first| width(*first) == 0);
+    let indent = cells(before).saturating_sub(usize::from(standing));
+    let carets = cells(&behind[..marked.min(behind.len())]).max(1);
+    let shown: String = shown.iter().collect();
+    let margin = line.to_string().len().max(4);
+    format!(
+        "{line:>margin$} | {shown}\n{:>margin$} | {}{}\n",
+        "",
+        " ".repeat(indent),
+        "^".repeat(carets),
+    )
 }
 
 /// Of a long line, so many cells are shown.

@@ -436,7 +436,7 @@ fn the_command_tells_warnings_and_errors() {
 
 #[test]
 fn the_example_books_are_sound() {
-    for book in ["ticks", "payees", "suppliers"] {
+    for book in ["ticks", "payees", "suppliers", "accounts"] {
         let book = &format!("examples/{book}.book");
         let ran = kurvneist(&["check", book, "--strict", "--allow", "unused-operator"]);
         assert_eq!(

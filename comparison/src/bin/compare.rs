@@ -1,6 +1,7 @@
 //! Compares the static library, or the programs, with the model on random
 //! cases: lines and, every third one, texts. Some have many lines for their book
-//! besides, some have fees; only the library is asked those.
+//! besides, some have fees, some another order of the book's rules; only the
+//! library is asked those, and of each book whether it is strict.
 
 use std::ops::Range;
 use std::path::PathBuf;
@@ -13,8 +14,8 @@ use comparison::library::Library;
 use comparison::program::{compare_pages, Pages, Programs};
 use comparison::subject::Subject;
 
-/// So many cases meet every ending and every refusal, of lines and of texts, and
-/// every kind of batch and of charge.
+/// So many cases meet every ending and every refusal, of lines and of texts, every
+/// kind of batch and of charge, and all that the strict profile tells.
 const ENOUGH: u64 = 10_000;
 
 struct Options {

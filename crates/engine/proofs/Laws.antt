@@ -81,26 +81,33 @@ module _ {book line : List ℕ} {units budget day : ℕ} {schedule work net outp
   pub payee-not-six : PayeeReduced book line units budget day schedule work net output work′ net′ output′ r → r ≢ D.Answer.Refused 6
   payee-not-six = never readText (text-not-six published (request book line units budget day schedule work net output))
 
--- ANY DAY, of an undated book: the same values, and the same buffers behind them
+-- ANSWERED ALIKE: two calls of which the definition answers the same, by two books or on two days, give the same values, and the same buffers behind them
 
-module _ {read : LineReader} {book line : List ℕ} {units budget day day₂ : ℕ} {schedule work net output work′ work₂′ net′ net₂′ output′ output₂′ : List ℕ} {r r₂ : D.Answer}
-    (undated : is-dated book ≡ false) (one : ReducedBy read book line units budget day schedule work net output work′ net′ output′ r)
-    (two : ReducedBy read book line units budget day₂ schedule work net output work₂′ net₂′ output₂′ r₂) where
-  same-day : answeredBy read book line units budget day schedule work net output ≡ answeredBy read book line units budget day₂ schedule work net output
-  same-day = sym (day-ignored read published (request book line units budget day schedule work net output) undated day₂)
-
-  pub ignores-day : (values r ≡ values r₂) × (work′ ≡ work₂′) × (net′ ≡ net₂′) × (output′ ≡ output₂′)
-  ignores-day =
+module _ {read : LineReader} {book book₂ line : List ℕ} {units budget day day₂ : ℕ}
+    {schedule work net output work′ work₂′ net′ net₂′ output′ output₂′ : List ℕ} {r r₂ : D.Answer}
+    (same : answeredBy read book line units budget day schedule work net output ≡ answeredBy read book₂ line units budget day₂ schedule work net output)
+    (one : ReducedBy read book line units budget day schedule work net output work′ net′ output′ r)
+    (two : ReducedBy read book₂ line units budget day₂ schedule work net output work₂′ net₂′ output₂′ r₂) where
+  pub answered-alike : (values r ≡ values r₂) × (work′ ≡ work₂′) × (net′ ≡ net₂′) × (output′ ≡ output₂′)
+  answered-alike =
       let (w, n, o) = go (answeredBy read book line units budget day schedule work net output) refl in
-      (one .answer ∙ ap values-of same-day ∙ sym (two .answer), w, n, o)
+      (one .answer ∙ ap values-of same ∙ sym (two .answer), w, n, o)
     where
       go : (x : Result Answer) → answeredBy read book line units budget day schedule work net output ≡ x → (work′ ≡ work₂′) × (net′ ≡ net₂′) × (output′ ≡ output₂′)
       go (refused k) e =
           let p = one .unchanged k e in
-          let q = two .unchanged k (sym same-day ∙ e) in
+          let q = two .unchanged k (sym same ∙ e) in
           (p .0 ∙ sym (q .0), p .1 ∙ sym (q .1), p .2 ∙ sym (q .2))
       go (accepted A) e =
-          let f = sym same-day ∙ e in
+          let f = sym same ∙ e in
           let p = one .cleared A e in
           let q = two .cleared A f in
           (p .0 ∙ sym (q .0), p .1 ∙ sym (q .1), one .written A e ∙ sym (two .written A f))
+
+-- any day, of an undated book
+module _ {read : LineReader} {book line : List ℕ} {units budget day day₂ : ℕ} {schedule work net output work′ work₂′ net′ net₂′ output′ output₂′ : List ℕ} {r r₂ : D.Answer}
+    (undated : is-dated book ≡ false) (one : ReducedBy read book line units budget day schedule work net output work′ net′ output′ r)
+    (two : ReducedBy read book line units budget day₂ schedule work net output work₂′ net₂′ output₂′ r₂) where
+  pub ignores-day : (values r ≡ values r₂) × (work′ ≡ work₂′) × (net′ ≡ net₂′) × (output′ ≡ output₂′)
+  ignores-day =
+      answered-alike (sym (day-ignored read published (request book line units budget day schedule work net output) undated day₂)) one two

@@ -1,6 +1,6 @@
 -- Arrays that are written whole, and what is handed out of an answer; 6 never is (document 02, Change 4). Assumes nothing.
 use mathlib.Core.List.{List, [], _∷_, _++_, append-nil}
-use mathlib.Core.Logic.{_≢_}
+use mathlib.Core.Logic.{inl, inr, _≢_}
 use mathlib.Core.Option.{Option, none, some}
 use mathlib.Core.Path.{_≡_, refl, sym, ap, _∙_, subst}
 use Prim.Native.Nat.{ℕ, _+_}
@@ -14,7 +14,9 @@ use Rattle.paper.specs.Line.{readLine}
 use Rattle.paper.specs.Text.{readText}
 use Rattle.paper.specs.Run.{Answer}
 use Rattle.paper.specs.Page.{LineReader, frame-fault, unless, answerBy}
+use Rattle.paper.specs.Strict.{Verdict, strict-number, strictOf}
 use Rattle.paper.proofs.Refusals.{answer-not-six, payee-not-six}
+use Rattle.strict.proofs.Laws.{numbers}
 use Rattle.engine.specs.Spec as R
 use Rattle.engine.specs.declared.Answer as A
 use Rattle.batch.specs.Spec as B
@@ -75,6 +77,11 @@ pub settled-told : {read : LineReader} {book line : List ℕ} {units budget day 
     X.Settled-in-numbers-by read book line units budget day schedule rates amount ss output parts output′ parts′ answer′ fee′ charged′ n
 settled-told {answer′ = answer′} {fee′ = fee′} {charged′ = charged′} {n = n} {r = r} q s =
     record { numbers = subst (λ (t : Result S.Told). X.Settled-numbers t answer′ fee′ charged′ n) (q .answer) s; answer = r; buffers = q }
+
+-- the strict profile's
+module _ {book pair′ : List ℕ} {r : ℕ} where
+  pub judged : (v : Verdict) → v ≡ strictOf book → r ≡ X.number-or-0 (strict-number v) → pair′ ≡ X.pair-numbers v → X.Strict-in-numbers book pair′ r
+  judged v q e f = record { number = e ∙ ap (λ (x : Verdict). X.number-or-0 (strict-number x)) q; pair = f ∙ ap X.pair-numbers q }
 
 -- NEVER 6
 
@@ -142,3 +149,12 @@ module _ {book line : List ℕ} {units budget day : ℕ} {schedule rates : List 
 
   pub payee-settled-not-six : X.Payee-settled book line units budget day schedule rates amount ss output parts output′ parts′ answer′ fee′ charged′ r → r ≢ 6
   payee-settled-not-six = settle-not-six readText (payee-not-six-settled book line units budget day schedule output rates amount ss)
+
+pub strict-not-six : {book pair′ : List ℕ} {r : ℕ} → X.Strict-in-numbers book pair′ r → r ≢ 6
+unfolding strict-number
+strict-not-six {book} {r = r} h e = go (strictOf book) refl (sym e ∙ h .number)
+  where
+    go : (v : Verdict) → strictOf book ≡ v → 6 ≡ X.number-or-0 (strict-number v) → ⊥
+    go (Verdict.faulty k) f z = elim (numbers book k (sym f)) [ inl n ↦ n .2 (sym z) | inr n ↦ omega arith ]
+    go (Verdict.overlapping i j) f z = omega arith
+    go Verdict.admitted f z = omega arith

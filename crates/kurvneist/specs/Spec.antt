@@ -10,6 +10,7 @@ use Rattle.paper.specs.Result.{Result, refused, accepted}
 use Rattle.paper.specs.Line.{readLine}
 use Rattle.paper.specs.Text.{readText}
 use Rattle.paper.specs.Page.{LineReader, ending-number}
+use Rattle.paper.specs.Strict.{Verdict, strict-number, strictOf}
 use Rattle.engine.specs.Spec as R
 use Rattle.engine.specs.declared.Answer as A
 use Rattle.batch.specs.Lines.{stop-number}
@@ -142,3 +143,21 @@ Line-settled = Settled-in-numbers-by readLine
 
 abbrev pub Payee-settled : List ℕ → List ℕ → ℕ → ℕ → ℕ → List ℕ → List ℕ → ℤ → List ℕ → List ℕ → List ℤ → List ℕ → List ℤ → List ℕ → List ℤ → List ℕ → ℕ → Type 0
 Payee-settled = Settled-in-numbers-by readText
+
+-- THE STRICT PROFILE (document 02, Change 13)
+
+-- a number, 0 if there is none
+abbrev pub number-or-0 : Option ℕ → ℕ
+number-or-0 none = 0
+number-or-0 (some k) = k
+
+-- two rules that match one term, by their numbers in book order; zeros where none are told
+abbrev pub pair-numbers : Verdict → List ℕ
+pair-numbers (Verdict.faulty k) = 0 ∷ 0 ∷ []
+pair-numbers (Verdict.overlapping i j) = i ∷ j ∷ []
+pair-numbers Verdict.admitted = 0 ∷ 0 ∷ []
+
+pub record Strict-in-numbers (book pair′ : List ℕ) (r : ℕ) : Type 0 where
+  -- 0 for an admitted book
+  pub number : r ≡ number-or-0 (strict-number (strictOf book))
+  pub pair : pair′ ≡ pair-numbers (strictOf book)

@@ -1,5 +1,5 @@
-// The library for C and Rust: a run, runs of many lines by one book, the book's writer, the charge of what was posted, and the published lengths, on numbers
-// and slices of them. A slice is passed as a pointer and a length, an array as a pointer.
+// The library for C and Rust: a run, runs of many lines by one book, the book's writer, the charge of what was posted, the strict profile, and the published
+// lengths, on numbers and slices of them. A slice is passed as a pointer and a length, an array as a pointer.
 use batch::Batch;
 use batch::Stop;
 use engine::Answer;
@@ -7,6 +7,7 @@ use engine::Form;
 use fees::Charged;
 use run::Run;
 use settlement::Settled;
+use strict::Strict;
 use writer::Written;
 ghost use mathlib.Core.Path.{_≡_};
 ghost use mathlib.Core.List.{_∷_, []};
@@ -409,4 +410,34 @@ pub extern "C" fn kurvneist_settle_payee(
         parts,
     );
     put_settled(s, answer, fee, charged)
+}
+
+fn put_pair(pair: &mut [u64; 2], first: u64, second: u64)
+    requires { ⌜ length (now pair) ≡ 2 ⌝ }
+    ensures { λ _. ⌜ now (pair .exit) ≡ first ∷ second ∷ [] ⌝ }
+{
+    pair[0] = first;
+    pair[1] = second;
+}
+
+// The strict profile: the refusal's number, or 0. With 25 the numbers are those of two rules that match one term, else zeros.
+#[no_mangle]
+pub extern "C" fn kurvneist_strict_book(book: &[u8], pair: &mut [u64; 2]) -> u8
+    requires { ⌜ length (now pair) ≡ 2 ⌝ }
+    ensures { λ r. ⌜ X.Strict-in-numbers (now (book .entry)) (now (pair .exit)) r ⌝ }
+{
+    match strict::strict_book(book) {
+        Strict::Refused(k) => {
+            put_pair(pair, 0, 0);
+            k
+        }
+        Strict::Overlap(i, j) => {
+            put_pair(pair, i as u64, j as u64);
+            25
+        }
+        Strict::Admitted => {
+            put_pair(pair, 0, 0);
+            0
+        }
+    }
 }

@@ -16,6 +16,9 @@ pub mod Books
 pub mod Dated
 pub mod Prefix
 pub mod Matching
+pub mod Compatible
+pub mod Strict
+pub mod Rearranged
 pub mod Marks
 pub mod Naming
 pub mod Standing
@@ -38,6 +41,7 @@ pub mod Starred
 pub mod Examples
 pub mod Payees
 pub mod Days
+pub mod StrictCases
 pub mod Fork
 pub mod Queue
 pub mod Idle

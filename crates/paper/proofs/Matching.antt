@@ -68,7 +68,7 @@ module _ {A : Type 0} where
   unfolding bind
   bind-same v t f = rw (eqb-true v v refl, bind)
 
-  bind-cases : (v w : ℕ) (t : Tree A) (f : Bindings A) → ((v ≡ w) × (bind v t f w ≡ some t)) ⊎ (bind v t f w ≡ f w)
+  pub bind-cases : (v w : ℕ) (t : Tree A) (f : Bindings A) → ((v ≡ w) × (bind v t f w ≡ some t)) ⊎ (bind v t f w ≡ f w)
   unfolding bind
   bind-cases v w t f = elim (eqb-cases v w) [ inl p ↦ inl (p .1, rw (p .0, bind)) | inr p ↦ inr (rw (p .0, bind)) ]
 

@@ -12,6 +12,7 @@ pub mod Text
 pub mod Match
 pub mod Marks
 pub mod Sound
+pub mod Strict
 pub mod WellFormed
 pub mod Reduction
 pub mod Walk

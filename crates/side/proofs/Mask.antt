@@ -64,11 +64,11 @@ with-fits (suc w) (suc v) m l k h =
 
 -- Membership
 
-has-same : (u v : ℕ) (vs : List ℕ) → u ≡ v → has u (v ∷ vs) ≡ true
+pub has-same : (u v : ℕ) (vs : List ℕ) → u ≡ v → has u (v ∷ vs) ≡ true
 unfolding has
 has-same u v vs e = rw (eqb-true u v e, has)
 
-has-other : (u v : ℕ) (vs : List ℕ) → u ≢ v → has u (v ∷ vs) ≡ has u vs
+pub has-other : (u v : ℕ) (vs : List ℕ) → u ≢ v → has u (v ∷ vs) ≡ has u vs
 unfolding has
 has-other u v vs d = rw (eqb-false u v d, has)
 

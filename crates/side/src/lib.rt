@@ -90,7 +90,7 @@ pub fn symbol_at(book: &[u8], at: usize) -> Standing
 }
 
 // Variables are kept as a mask: the bit v says whether v is among them.
-fn has(mask: u16, v: u8) -> bool
+pub fn has(mask: u16, v: u8) -> bool
     requires { ⌜ v < 16 ⌝ }
     ensures { λ r. ⌜ r ≡ eqb (bit v mask) 1 ⌝ }
 {
@@ -98,7 +98,7 @@ fn has(mask: u16, v: u8) -> bool
 }
 
 // The variables of mask, and v.
-fn with(mask: u16, v: u8) -> u16
+pub fn with(mask: u16, v: u8) -> u16
     requires { ⌜ (v < 16) × (bit v mask ≡ 0) ⌝ }
     ensures { λ r. ⌜ r ≡ mask + 2 ^ v ⌝ }
 {

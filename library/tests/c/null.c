@@ -123,11 +123,18 @@ static void books(void) {
     due("nowhere to write", KURVNEIST_OUTPUT_TOO_SHORT, kurvneist_write_book(constant, sizeof constant, NULL, 0, answer));
 }
 
+static void strict(void) {
+    uint64_t pair[KURVNEIST_PAIR_LENGTH] = {7, 7};
+    due("nothing for the strict profile", KURVNEIST_BOOK_RUNS_OUT, kurvneist_strict_book(NULL, 0, pair));
+    due("the pair of nothing", 0, (uint8_t)(pair[0] | pair[1]));
+}
+
 int main(void) {
     lines();
     texts();
     many();
     fees();
     books();
+    strict();
     return wrong != 0;
 }

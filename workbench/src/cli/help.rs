@@ -11,8 +11,9 @@ Exit status
      reader of the postings went away, as head does
   1  a line was refused, mistyped, or its run didn't finish
   2  the command line is wrong
-  3  a book is mistaken or refused, has a warning in check --strict, or a file
-     can't be used; so is a fee table, or owners' shares
+  3  a book is mistaken or refused, has a warning in check --strict, or isn't
+     admitted by check --strict-profile; a fee table or owners' shares are
+     mistaken; or a file can't be used
   4  a trace, explanation or profile differs from the engine, or a text from its
      book
 ";
@@ -131,13 +132,24 @@ match all that a later one does is not told where it takes too long to find out.
 Of a dated book, what is told of rules is so on every day on which they stand, or
 with --day on that day, for the rules that stand on it.
 
+With --strict-profile the proved engine says whether the order of the rules is
+free: whether no term that the book's operators form is matched by two rules. If
+so, its rules may be put in any order: every line is posted the same, with the
+same counts, for the same units and schedule. If not, the first two rules that
+match one term are told, and such a term (refusal 25). It is not decided for a
+dated book, for one that repeats a variable in a left side, and without an
+operator of arity 0; these are told too (refusal 24).
+
 With --json, one object:
   book         the text's name
   errors       how many there are, and so warnings
+  order_free   with --strict-profile, true or false
   diagnostics  a list, in the order of the text, of objects with level (error or
                warning), kind, certain (false for a guess), line, column and
                message. A mistake has the kind mistake, and refusal, a number or
-               null.
+               null. What the strict profile tells has the kind strict-profile
+               and refusal; of two rules that match one term rules, a list of two
+               objects with rule, rule_line and sides, and term.
 ";
 
 pub const EXPLAIN: &str = "\

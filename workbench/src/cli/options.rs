@@ -165,6 +165,11 @@ pub const COMMANDS: &[Command] = &[
         flags: &[
             flag("--strict", None, "warnings are errors"),
             flag(
+                "--strict-profile",
+                None,
+                "an error unless the order of the rules is free",
+            ),
+            flag(
                 "--allow",
                 Some("KIND,.."),
                 "leave out warnings of these kinds",

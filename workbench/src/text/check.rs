@@ -40,7 +40,7 @@ pub fn read(source: &str) -> Result<Named, Vec<Mistake>> {
     }
     let mut day = 0;
     for statement in &statements {
-        if let Statement::From(next) = statement {
+        if let Statement::From { day: next, .. } = statement {
             day = *next;
             reader.draft.dated = true;
         }
@@ -74,7 +74,7 @@ pub fn read(source: &str) -> Result<Named, Vec<Mistake>> {
 /// taken to be of day 0: rules replace each other in a dated book and not in an
 /// undated one, so who dates a book has to say it of all.
 fn without_day(statements: &[Statement]) -> Option<Mistake> {
-    let is_from = |statement: &Statement| matches!(statement, Statement::From(_));
+    let is_from = |statement: &Statement| matches!(statement, Statement::From { .. });
     let first = statements.iter().position(is_from)?;
     let mut before = statements[..first].iter();
     before.find_map(|statement| match statement {
@@ -140,7 +140,7 @@ impl Reader {
                     mistakes.push(Mistake::new(*keyword, wrong, "at most 255 rules"));
                 }
             }
-            Statement::From(_) | Statement::Unclear(_) => {}
+            Statement::From { .. } | Statement::Unclear(_) => {}
         }
     }
 

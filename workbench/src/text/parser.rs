@@ -69,7 +69,10 @@ pub enum Statement {
     },
     Variables(Vec<Name>),
     /// `from DAY`: the day of the rules behind it.
-    From(u16),
+    From {
+        keyword: Span,
+        day: u16,
+    },
     /// What a mistaken declaration may have meant to declare.
     Unclear(Vec<Name>),
     Rule {
@@ -247,7 +250,8 @@ impl<'s> Parser<'s> {
             _ if self.is_from(keyword) => {
                 self.take();
                 let next = "'op', 'var', 'rule' or 'from' after the day";
-                (Statement::From(self.day()?), next)
+                let (keyword, day) = (keyword.span, self.day()?);
+                (Statement::From { keyword, day }, next)
             }
             _ => return Err(self.unexpected("'op', 'var', 'rule' or 'from'")),
         };

@@ -31,7 +31,7 @@ pub fn warnings(statements: &[Statement], named: &Named, book: &Book) -> Vec<War
             // Texts use all letters.
             Statement::Letters(_)
             | Statement::Rule { .. }
-            | Statement::From(_)
+            | Statement::From { .. }
             | Statement::Unclear(_) => {}
         }
     }

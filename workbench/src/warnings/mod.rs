@@ -6,6 +6,7 @@
 mod declarations;
 mod patterns;
 mod rules;
+pub mod strict;
 
 use comparison::model::{self, Book};
 
@@ -109,14 +110,18 @@ impl Warning {
 
 /// A mistake as a warning's object has it.
 pub fn mistake_json(mistake: &Mistake, source: &str) -> Json {
+    mistake_fields("mistake", mistake, source).into()
+}
+
+fn mistake_fields(kind: &'static str, mistake: &Mistake, source: &str) -> Fields {
     let mut fields: Fields = vec![
         ("level", "error".into()),
-        ("kind", "mistake".into()),
+        ("kind", kind.into()),
         ("certain", true.into()),
     ];
     fields.extend(place_and_message(mistake, source));
     fields.push(("refusal", mistake.refusal.into()));
-    fields.into()
+    fields
 }
 
 fn place_and_message(mistake: &Mistake, source: &str) -> Fields {

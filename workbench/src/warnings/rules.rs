@@ -43,7 +43,7 @@ pub fn warnings(
 }
 
 /// The sides of all rules of a text.
-fn sides(statements: &[Statement]) -> Vec<(&Words, &Words)> {
+pub fn sides(statements: &[Statement]) -> Vec<(&Words, &Words)> {
     let sides = statements.iter().filter_map(|statement| match statement {
         Statement::Rule { left, right, .. } => Some((left, right)),
         _ => None,

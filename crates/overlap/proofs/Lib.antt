@@ -1,0 +1,4 @@
+pub mod Leading
+pub mod Entering
+pub mod Walking
+pub mod Building

@@ -1,0 +1,5 @@
+pub mod Sides
+pub mod Rules
+pub mod Books
+pub mod Laws
+pub mod Free
