@@ -4,6 +4,7 @@ use std::fmt::{self, Debug, Display, Formatter};
 use std::ops::Range;
 
 use crate::batches::{self, Batches};
+use crate::bounds::{self, Bounds};
 use crate::buffers::{hexadecimal, Lenders, PartsLender};
 use crate::charges::{self, Charges};
 use crate::days::{self, Days};
@@ -45,6 +46,7 @@ pub struct Tally {
     pub batches: Batches,
     pub charges: Charges,
     pub profiles: Profiles,
+    pub bounds: Bounds,
 }
 
 impl Tally {
@@ -79,6 +81,7 @@ impl Tally {
             unmet_kinds("batches", &batches::KINDS, &self.batches.counts),
             unmet_kinds("charges", &charges::KINDS, &self.charges.counts),
             unmet_kinds("books", &profiles::KINDS, &self.profiles.counts),
+            unmet_kinds("lines", &bounds::KINDS, &self.bounds.counts),
         ]
         .concat()
     }
@@ -172,6 +175,7 @@ impl<'a> Comparison<'a> {
     pub fn check(&mut self, case: &Case) -> Option<String> {
         let book = case.book();
         let run = self.check_run(case, &book);
+        let bound = self.check_bound(case, &book);
         let writer = self.check_writer(case, &book);
         let batch = case.batch.as_ref();
         let batch = batch.and_then(|batch| self.check_batch(case, batch, &book));
@@ -181,7 +185,8 @@ impl<'a> Comparison<'a> {
         let profile = self.check_profile(&book);
         let rearranged = case.rearranged;
         let rearranged = rearranged.and_then(|seed| self.check_rearranged(case, &book, seed));
-        run.or(writer)
+        run.or(bound)
+            .or(writer)
             .or(batch)
             .or(charge)
             .or(settled)
@@ -202,6 +207,16 @@ impl<'a> Comparison<'a> {
             self.tally.marks.count(&question);
         }
         self.compare_run("values", &question, case, &expected)
+    }
+
+    /// How long a schedule suffices.
+    fn check_bound(&mut self, case: &Case, book: &[u8]) -> Option<String> {
+        let published = self.subject.published();
+        let question = Question::of(case, book);
+        let bound = bounds::answer(&question, case.lengths(published), published);
+        self.tally.bounds.count(&bound);
+        let enough = bounds::enough(&question, &bound, case.junk)?;
+        self.tally.bounds.try_claim(&question, &enough)
     }
 
     /// Puts a question in the case's buffers to the subject, of which this is
@@ -437,14 +452,15 @@ impl Display for Tally {
         }
         write!(
             text,
-            "{}{}{}{}{}{}{}",
+            "{}{}{}{}{}{}{}{}",
             self.repeats,
             self.days,
             self.nets,
             self.marks,
             self.batches,
             self.charges,
-            self.profiles
+            self.profiles,
+            self.bounds
         )
     }
 }

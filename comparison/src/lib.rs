@@ -17,6 +17,7 @@
 //! - `days`: what they try of rules with days.
 //! - `nets`: what they try of a net over the left sides.
 //! - `marks`: what they try of marks.
+//! - `bounds`: how long a schedule suffices, and what they try of it.
 //! - `batches`: random lines for one book, and what they try.
 //! - `charges`: random amounts, rates and shares, and what they try.
 //! - `by_hand`, `foreign`: points that no run saved, by hand and at random.
@@ -32,6 +33,7 @@
 
 pub mod batches;
 pub mod books;
+pub mod bounds;
 pub mod branching;
 pub mod broken;
 pub mod broken_fees;

@@ -115,7 +115,7 @@ fn what_was_not_met_is_named() {
     let (tally, _) = compare(&mut ModelSubject, 31, 0..0);
     assert_eq!(
         tally.missing().len(),
-        4 + 17 + 4 + 14 + 9 + 7 + 8 + 8 + 6 + 10 + 28 + 20
+        4 + 17 + 4 + 14 + 9 + 7 + 8 + 8 + 6 + 10 + 28 + 20 + 9
     );
     assert_eq!(
         tally.missing()[..5].join(", "),
@@ -135,6 +135,7 @@ fn what_was_not_met_is_named() {
     assert_eq!(tally.missing()[77], "batches done to the end");
     assert_eq!(tally.missing()[87], "charges of payments");
     assert_eq!(tally.missing()[115], "books that are admitted");
+    assert_eq!(tally.missing()[135], "lines that are refused");
     let (tally, _) = compare(&mut ModelSubject, 31, 0..2000);
     assert!(tally.missing().is_empty(), "{tally}");
 }
