@@ -99,7 +99,7 @@ impl PartsLender {
     }
 }
 
-fn buffer_difference(name: &str, due: &[u8], found: &[u8]) -> String {
+pub fn buffer_difference(name: &str, due: &[u8], found: &[u8]) -> String {
     let place = (0..due.len())
         .find(|&place| due[place] != found[place])
         .unwrap_or(due.len());

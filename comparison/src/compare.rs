@@ -332,7 +332,7 @@ impl<'a> Comparison<'a> {
     }
 }
 
-fn compare_values<T: Debug + PartialEq>(name: &str, due: &T, found: &T) -> Option<String> {
+pub fn compare_values<T: Debug + PartialEq>(name: &str, due: &T, found: &T) -> Option<String> {
     (due != found).then(|| format!("{name}\n  due   {due:?}\n  found {found:?}"))
 }
 

@@ -30,7 +30,7 @@ pub fn spoil(random: &mut Random, case: &mut Case) {
 }
 
 /// One of the areas, or both.
-fn spoil_areas(random: &mut Random, case: &mut Case) {
+pub fn spoil_areas(random: &mut Random, case: &mut Case) {
     let offsets = [-1, -1, -100, isize::MIN, 1, 100];
     let which = random.below(3);
     if which != 1 {
@@ -41,7 +41,7 @@ fn spoil_areas(random: &mut Random, case: &mut Case) {
     }
 }
 
-fn spoil_output(random: &mut Random, case: &mut Case) {
+pub fn spoil_output(random: &mut Random, case: &mut Case) {
     case.output_len = *random.pick(&[OUTPUT_LEN - 1, OUTPUT_LEN - 1, 0, OUTPUT_LEN + 1, 3000]);
 }
 

@@ -5,6 +5,8 @@
 //! - `records`: the same for many lines by one book.
 //! - `fees`: the same for fees and owners' shares.
 //! - `strict`: the same of the strict profile.
+//! - `points`: the same of named points; `slots`: their form; `point_rules`: their
+//!   rules; `stacks`: the units as a point has them.
 //! - `draft`: books and cases as fields that may break any rule.
 //! - `random`, `books`, `branching`, `dates`, `texts`, `grow`, `faults`: random
 //!   cases.
@@ -17,10 +19,13 @@
 //! - `marks`: what they try of marks.
 //! - `batches`: random lines for one book, and what they try.
 //! - `charges`: random amounts, rates and shares, and what they try.
+//! - `by_hand`, `foreign`: points that no run saved, by hand and at random.
+//! - `parking`: calls on one buffer of points; `parks`: random ones;
+//!   `compare_points`, `shrink_points`: their comparison; `parked`: what they try.
 //! - `parted`: random books that are strict, or nearly so; `profiles`: what they
 //!   try.
-//! - `broken`, `broken_lines`, `broken_marks`, `broken_fees`, `broken_strict`: the
-//!   model with one slip, to show that slips are found.
+//! - `broken`, `broken_lines`, `broken_marks`, `broken_fees`, `broken_strict`,
+//!   `broken_points`: the model with one slip, to show that slips are found.
 //! - `library`: the static library as a subject, under the feature `library`.
 //! - `program`: the pages of the programs `reduce` and `payee`.
 //! - `vectors`: pages and written books from outside.
@@ -32,28 +37,40 @@ pub mod broken;
 pub mod broken_fees;
 pub mod broken_lines;
 pub mod broken_marks;
+pub mod broken_points;
 pub mod broken_strict;
 pub mod buffers;
+pub mod by_hand;
 pub mod charges;
 pub mod compare;
+pub mod compare_points;
 pub mod dates;
 pub mod days;
 pub mod draft;
 pub mod faults;
 pub mod fees;
+pub mod foreign;
 pub mod grow;
 #[cfg(feature = "library")]
 pub mod library;
 pub mod marks;
 pub mod model;
 pub mod nets;
+pub mod parked;
+pub mod parking;
+pub mod parks;
 pub mod parted;
+pub mod point_rules;
+pub mod points;
 pub mod profiles;
 pub mod program;
 pub mod random;
 pub mod records;
 pub mod repeats;
 pub mod shrink;
+pub mod shrink_points;
+pub mod slots;
+pub mod stacks;
 pub mod strict;
 pub mod subject;
 pub mod texts;

@@ -5,7 +5,7 @@ use kurvneist::{raw, Batch, Request};
 use crate::draft::Fees;
 use crate::model::{Form, Lengths};
 use crate::subject::{
-    Charged, Done, Lent, Parts, Profile, Question, Settled, Subject, Told, Written,
+    Charged, Done, Lent, Parking, Parts, Profile, Question, Settled, Subject, Told, Written,
 };
 
 /// What a value holds before the call, so that a zero that is due must be written.
@@ -126,5 +126,40 @@ impl Subject for Library {
         let mut pair = [JUNK; raw::PAIR_LENGTH];
         let refusal = raw::strict_book(book, &mut pair);
         Profile { refusal, pair }
+    }
+}
+
+impl Parking for Library {
+    fn published(&self) -> Lengths {
+        Subject::published(self)
+    }
+
+    fn points_length(&self) -> usize {
+        raw::points_length()
+    }
+
+    fn park(
+        &mut self,
+        question: &Question,
+        name: &[u8],
+        lent: &mut Lent,
+        points: &mut [u8],
+    ) -> Told {
+        let call = match question.form {
+            Form::Line => raw::park,
+            Form::Text => raw::park_payee,
+        };
+        let request = request(question);
+        let Lent { work, net, output } = lent;
+        let mut values = [JUNK; raw::ANSWER_LENGTH];
+        let refusal = call(&request, name, work, net, points, output, &mut values);
+        told(refusal, values)
+    }
+
+    fn resume(&mut self, name: &[u8], schedule: &[u8], lent: &mut Lent, points: &mut [u8]) -> Told {
+        let Lent { work, net, output } = lent;
+        let mut values = [JUNK; raw::ANSWER_LENGTH];
+        let refusal = raw::resume(name, schedule, work, net, points, output, &mut values);
+        told(refusal, values)
     }
 }

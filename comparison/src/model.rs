@@ -38,6 +38,10 @@ pub mod refusal {
     pub const INPUT: u8 = 17;
     pub const TEXT_TOO_LONG: u8 = 18;
     pub const CLASS_OPERATORS: u8 = 19;
+    /// A point that breaks a rule, a name that is none, or an unknown one to
+    /// resume.
+    pub const POINT: u8 = 20;
+    pub const NINTH_NAME: u8 = 21;
     pub const AMOUNT: u8 = 22;
     pub const RATE_OR_SHARES: u8 = 23;
     /// Of the strict profile: a dated book, a variable repeated in a left side,

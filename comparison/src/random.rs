@@ -180,7 +180,7 @@ fn completed(random: &mut Random, draft: Draft, form: Form, line: Vec<u8>) -> Ca
     case
 }
 
-fn schedule(random: &mut Random, units: u8) -> Vec<u8> {
+pub fn schedule(random: &mut Random, units: u8) -> Vec<u8> {
     let length = match random.below(200) {
         0 => SCHEDULE_LIMIT,
         1..=4 => random.between(4000, 12_000),

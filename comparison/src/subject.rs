@@ -3,7 +3,9 @@
 use crate::draft::{Case, Fees};
 use crate::fees::{self, Charge, MOST_OWNERS};
 use crate::model::{self, Answer, Form, Lengths};
+use crate::points;
 use crate::records::{self, Answered};
+use crate::slots::POINTS_LEN;
 use crate::strict::{self, NotStrict};
 
 /// The parts of a run that are not lent buffers to write to.
@@ -247,6 +249,27 @@ pub trait Subject {
     fn profile(&mut self, book: &[u8]) -> Profile;
 }
 
+/// What an implementation that parks runs offers besides.
+pub trait Parking {
+    /// As of a subject.
+    fn published(&self) -> Lengths;
+
+    /// The published length of the buffer of points.
+    fn points_length(&self) -> usize;
+
+    /// Leaves both areas all zero unless it refuses.
+    fn park(
+        &mut self,
+        question: &Question,
+        name: &[u8],
+        lent: &mut Lent,
+        points: &mut [u8],
+    ) -> Told;
+
+    /// The same.
+    fn resume(&mut self, name: &[u8], schedule: &[u8], lent: &mut Lent, points: &mut [u8]) -> Told;
+}
+
 /// The model needs no areas; it asks for the longest allowed so that the
 /// comparison's own cost shows.
 pub const MODEL_PUBLISHED: Lengths = Lengths::of_areas(65_536, 65_536);
@@ -299,6 +322,32 @@ impl Subject for ModelSubject {
 
     fn profile(&mut self, book: &[u8]) -> Profile {
         Profile::of(&strict::check(book))
+    }
+}
+
+impl Parking for ModelSubject {
+    fn published(&self) -> Lengths {
+        MODEL_PUBLISHED
+    }
+
+    fn points_length(&self) -> usize {
+        POINTS_LEN
+    }
+
+    fn park(
+        &mut self,
+        question: &Question,
+        name: &[u8],
+        lent: &mut Lent,
+        points: &mut [u8],
+    ) -> Told {
+        let answer = points::park(question, name, points, lent.lengths(), MODEL_PUBLISHED);
+        hand_over(answer, lent)
+    }
+
+    fn resume(&mut self, name: &[u8], schedule: &[u8], lent: &mut Lent, points: &mut [u8]) -> Told {
+        let answer = points::resume(name, schedule, points, lent.lengths(), MODEL_PUBLISHED);
+        hand_over(answer, lent)
     }
 }
 

@@ -5,17 +5,30 @@ mod common;
 
 use common::*;
 use comparison::compare::{compare, Comparison};
+use comparison::compare_points::compare_points;
 use comparison::draft::{Batch, Case, Damage, Draft, Fees, OperatorDraft, Symbol};
 use comparison::fees::{LARGEST, WHOLE};
 use comparison::library::Library;
 use comparison::model::Form;
 use comparison::random::Random;
 use comparison::records::{LONGEST, LONGEST_LINE};
+use comparison::slots::POINTS_LEN;
 use comparison::strict;
+use comparison::subject::Parking;
 
 #[test]
 fn random_cases() {
     let (tally, difference) = compare(&mut Library, 34, 0..3000);
+    if let Some(difference) = difference {
+        panic!("{difference}");
+    }
+    assert!(tally.missing().is_empty(), "{tally}");
+}
+
+#[test]
+fn random_calls_on_points() {
+    assert_eq!(Library.points_length(), POINTS_LEN);
+    let (tally, difference) = compare_points(&mut Library, 74, 0..1200);
     if let Some(difference) = difference {
         panic!("{difference}");
     }

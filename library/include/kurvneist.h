@@ -2,12 +2,12 @@
  * Kurvneist: reduces lines by rule books on one to eight simulated units.
  *
  * The functions of libkurvneist.a (x86-64), which `rt staticlib kurvneist` writes. docs/FORMAT.md says what the bytes of
- * a book, a line, a text and a page are, bit by bit, how fees are charged, and in which order faults are refused.
+ * a book, a line, a text, a page and a point are, bit by bit, how fees are charged, and in which order faults are refused.
  *
  * Buffers. Each is lent as a pointer and its length in bytes; shares as a pointer and how many there are. A null pointer is
  * taken where the length is 0; answer, done, length, parts, fee, charged and pair are never null. What is written to (work,
- * net, output, answers, answer, done, length, parts, fee, charged, pair) overlaps nothing else that is lent. Any bytes,
- * lengths and numbers are fine: what can't be used is refused by number.
+ * net, points, output, answers, answer, done, length, parts, fee, charged, pair) overlaps nothing else that is lent. Any
+ * bytes, lengths and numbers are fine: what can't be used is refused by number.
  *
  * The functions keep nothing between calls, so several threads may call them, each with buffers of its own.
  */
@@ -40,6 +40,13 @@ extern "C" {
 
 /* The highest rate, and the total of the owners' shares, in ten-thousandths. */
 #define KURVNEIST_WHOLE 10000
+
+/* Bytes of the buffer of points; more is fine. */
+#define KURVNEIST_POINTS_LENGTH 524288
+
+/* The most names at once, and the bytes of the longest name. */
+#define KURVNEIST_MOST_NAMES 8
+#define KURVNEIST_LONGEST_NAME 16
 
 /* The elements of a pair of rules. */
 #define KURVNEIST_PAIR_LENGTH 2
@@ -84,10 +91,10 @@ enum kurvneist_stop {
 
 /*
  * The refusals. Places are checked in this order: 13; 15, for the work area, then for the net's; 16; the book, 1 to 9; the
- * line, 12, 11, 10, or the text, 19, 18; the schedule, 14; of a posting that is charged, 22, then 23. Only the programs tell
- * 17, and only the strict profile 24 and 25, both after the book's own. 6 is given no longer, since a variable that stands
- * again in a left side matches equal parts; it keeps its name for what an earlier version told, and is used for nothing
- * else. 20 and 21 are not given. A later version may add numbers.
+ * line, 12, 11, 10, or the text, 19, 18; of a run with a name the points, 16, then 20, then 21; the schedule, 14; of a
+ * posting that is charged, 22, then 23. Only the programs tell 17, and only the strict profile 24 and 25, both after the
+ * book's own. 6 is given no longer, since a variable that stands again in a left side matches equal parts; it keeps its name
+ * for what an earlier version told, and is used for nothing else. A later version may add numbers.
  */
 enum kurvneist_refusal {
     KURVNEIST_ACCEPTED = 0,
@@ -122,7 +129,8 @@ enum kurvneist_refusal {
     KURVNEIST_UNKNOWN_UNIT_IN_SCHEDULE = 14,
     /* the work area has less than 24,624 bytes, or the net's area less than 3,840 */
     KURVNEIST_WORK_TOO_SHORT = 15,
-    /* the output is too short: a run needs 1,024 bytes, the writer as many as the written book has */
+    /* the output is too short: a run needs 1,024 bytes, the writer as many as the written book has; or the buffer of
+       points has less than 524,288 */
     KURVNEIST_OUTPUT_TOO_SHORT = 16,
     /* the program's input is cut short, or over 32,768 schedule bytes follow */
     KURVNEIST_BAD_INPUT = 17,
@@ -130,6 +138,10 @@ enum kurvneist_refusal {
     KURVNEIST_TEXT_TOO_LONG = 18,
     /* the book lacks the operators of texts: 0 without arguments, and 1 to 42 with one argument each */
     KURVNEIST_NO_LETTERS = 19,
+    /* a point breaks a rule, the name to resume is unknown, or a name has not 1 to 16 bytes */
+    KURVNEIST_BAD_POINT_OR_NAME = 20,
+    /* a ninth name is given: eight points are there, and none has it */
+    KURVNEIST_NINTH_NAME = 21,
     /* the amount is not from -1,000,000,000,000 to 1,000,000,000,000 cents */
     KURVNEIST_AMOUNT_OUT_OF_RANGE = 22,
     /* the root's rate is missing or above 10,000, the owners are not 1 to 16, or their shares do not total 10,000 */
@@ -298,6 +310,62 @@ uint8_t kurvneist_settle_payee(const uint8_t *book, size_t book_length,
                                uint8_t *output, size_t output_length,
                                int64_t *parts, uint64_t *answer,
                                int64_t *fee, uint64_t *charged);
+
+/* KURVNEIST_POINTS_LENGTH. */
+size_t kurvneist_points_length(void);
+
+/*
+ * Reduces a line under a name of 1 to KURVNEIST_LONGEST_NAME bytes, and if the run ends cut, saves it in `points`, so that
+ * kurvneist_resume can go on with it. What is answered is what kurvneist_reduce answers without a name.
+ *
+ * In `points` there are KURVNEIST_MOST_NAMES slots of 65,536 bytes; what is behind them is neither read nor written. All
+ * zeros are no points. A run is saved in the slot of its name, whose older point it replaces, or else in the lowest free
+ * slot. Points of other names are as they were, and if the run ends otherwise, so are all.
+ *
+ * The result is 0, or the number of a refusal: the run's own, and between its line's and 14 those of the points: 16 if their
+ * buffer is too short; 20 if any point in it breaks a rule (docs/FORMAT.md lists them) or the name is too long or empty; 21
+ * if no point has the name and no slot is free. After a refusal `points` is as it was; all else is as for kurvneist_reduce.
+ */
+uint8_t kurvneist_park(const uint8_t *book, size_t book_length,
+                       const uint8_t *line, size_t line_length,
+                       uint8_t units, uint32_t budget, uint16_t day,
+                       const uint8_t *schedule, size_t schedule_length,
+                       const uint8_t *name, size_t name_length,
+                       uint8_t *work, size_t work_length,
+                       uint8_t *net, size_t net_length,
+                       uint8_t *points, size_t points_length,
+                       uint8_t *output, size_t output_length,
+                       uint64_t *answer);
+
+/* Reduces a payee's text under a name, as kurvneist_payee does, where kurvneist_park takes a term; all else is the same. */
+uint8_t kurvneist_park_payee(const uint8_t *book, size_t book_length,
+                             const uint8_t *text, size_t text_length,
+                             uint8_t units, uint32_t budget, uint16_t day,
+                             const uint8_t *schedule, size_t schedule_length,
+                             const uint8_t *name, size_t name_length,
+                             uint8_t *work, size_t work_length,
+                             uint8_t *net, size_t net_length,
+                             uint8_t *points, size_t points_length,
+                             uint8_t *output, size_t output_length,
+                             uint64_t *answer);
+
+/*
+ * Goes on with the run of a name, by its point's book, day, units and budget. Of the answer, rewrites, entries and FORKs are
+ * those of all parts of the run, which ends exactly like the unbroken one; entries and FORKs stay at UINT64_MAX once there.
+ *
+ * If the run is cut again, its point is replaced; otherwise its slot is all zero, and free. Points of other names are as they
+ * were.
+ *
+ * The result is 0, or the number of a refusal: 15; 16; of the points 16, then 20, also if none has the name; 14, by the
+ * point's units. After a refusal `points` is as it was; all else is as for kurvneist_reduce.
+ */
+uint8_t kurvneist_resume(const uint8_t *name, size_t name_length,
+                         const uint8_t *schedule, size_t schedule_length,
+                         uint8_t *work, size_t work_length,
+                         uint8_t *net, size_t net_length,
+                         uint8_t *points, size_t points_length,
+                         uint8_t *output, size_t output_length,
+                         uint64_t *answer);
 
 /*
  * Writes a book with its strategies settled to the front of `output`; the output's other bytes are as they were. A dated

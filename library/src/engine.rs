@@ -1,9 +1,9 @@
 //! An engine with buffers of its own.
 
 use crate::{
-    payee, payee_lines, reduce, reduce_lines, settle, settle_payee, Answer, Batch, Charge, Done,
-    Fees, Lines, Postings, Refusal, Request, Settlement, Stop, NET_LENGTH, OUTPUT_LENGTH,
-    WORK_LENGTH,
+    park, park_payee, payee, payee_lines, reduce, reduce_lines, resume, settle, settle_payee,
+    Answer, Batch, Charge, Done, Fees, Lines, Points, Postings, Refusal, Request, Settlement, Stop,
+    NET_LENGTH, OUTPUT_LENGTH, WORK_LENGTH,
 };
 
 /// Owns one work area, one area for the net and one output and lends them to every run, so that posting a line allocates
@@ -52,6 +52,49 @@ impl Engine {
     /// Carries out one run whose line is a payee's text; the refusals 15 and 16 can't come.
     pub fn post_payee(&mut self, request: &Request) -> Result<Posting<'_>, Refusal> {
         let answer = payee(request, &mut self.work, &mut self.net, &mut self.output)?;
+        Ok(self.posting(answer))
+    }
+
+    /// Carries out one run whose line is a term, under a name, and if it ends cut saves it there, as [`park`] does. The
+    /// refusals 15 and 16 can't come.
+    pub fn park(
+        &mut self,
+        request: &Request,
+        name: &[u8],
+        points: &mut Points,
+    ) -> Result<Posting<'_>, Refusal> {
+        let Engine {
+            work, net, output, ..
+        } = self;
+        let answer = park(request, name, work, net, points.lent(), output)?;
+        Ok(self.posting(answer))
+    }
+
+    /// The same of a run whose line is a payee's text.
+    pub fn park_payee(
+        &mut self,
+        request: &Request,
+        name: &[u8],
+        points: &mut Points,
+    ) -> Result<Posting<'_>, Refusal> {
+        let Engine {
+            work, net, output, ..
+        } = self;
+        let answer = park_payee(request, name, work, net, points.lent(), output)?;
+        Ok(self.posting(answer))
+    }
+
+    /// Goes on with the run of a name, as [`resume`] does. The refusals 15 and 16 can't come.
+    pub fn resume(
+        &mut self,
+        name: &[u8],
+        schedule: &[u8],
+        points: &mut Points,
+    ) -> Result<Posting<'_>, Refusal> {
+        let Engine {
+            work, net, output, ..
+        } = self;
+        let answer = resume(name, schedule, work, net, points.lent(), output)?;
         Ok(self.posting(answer))
     }
 

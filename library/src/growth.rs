@@ -105,8 +105,8 @@
 //!         BookRunsOut | NoOperator | BadStrategy | UnknownOperatorInRule | LeftSideIsVariable
 //!         | LeftSideRepeatsVariable | RightSideAddsVariable | SideTooLong | BookLeftOver | LineIsNoTerm
 //!         | UnknownOperatorInLine | LineTooLong | BadUnits | UnknownUnitInSchedule | WorkTooShort
-//!         | OutputTooShort | BadInput | TextTooLong | NoLetters | AmountOutOfRange | BadRateOrShares
-//!         | OutsideStrictProfile | RulesOverlap => (),
+//!         | OutputTooShort | BadInput | TextTooLong | NoLetters | BadPointOrName | NinthName | AmountOutOfRange
+//!         | BadRateOrShares | OutsideStrictProfile | RulesOverlap => (),
 //!     }
 //! }
 //! ```

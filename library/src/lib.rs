@@ -47,6 +47,9 @@
 //! A posting has an amount too: [`charge`] takes the fee off it, at the rate of the posting's root, and splits the rest among
 //! owners to the cent; [`Engine::settle`] posts a line and charges it.
 //!
+//! A run that takes long is given a name and parked: if it ends cut, [`Engine::park`] saves it among [`Points`], which the caller
+//! keeps, and [`Engine::resume`] goes on with it later, to the same end as if it had not been parked.
+//!
 //! Of a book that [`strict_book`] admits no term is matched by two rules, so that their order is free.
 //!
 //! A refusal has a name, a number and a condition, and leaves every buffer as it was:
@@ -72,6 +75,7 @@ mod fees;
 #[cfg(doctest)]
 mod growth;
 mod lines;
+mod points;
 mod postings;
 pub mod raw;
 mod refusal;
@@ -86,6 +90,9 @@ pub use fees::{
     WHOLE,
 };
 pub use lines::{LineTooLong, Lines};
+pub use points::{
+    park, park_payee, resume, Points, WrongPointsLength, LONGEST_NAME, MOST_NAMES, POINTS_LENGTH,
+};
 pub use postings::Postings;
 pub use refusal::Refusal;
 pub use request::Request;

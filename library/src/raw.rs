@@ -1,6 +1,7 @@
 //! The C functions, with slices in the place of pointers. Their values come back as they are; [`crate::reduce`],
 //! [`crate::payee`], [`crate::reduce_lines`], [`crate::payee_lines`], [`crate::charge`], [`crate::settle`],
-//! [`crate::settle_payee`], [`crate::write_book`] and [`crate::strict_book`] give them names.
+//! [`crate::settle_payee`], [`crate::park`], [`crate::park_payee`], [`crate::resume`], [`crate::write_book`] and
+//! [`crate::strict_book`] give them names.
 //!
 //! This is the only module with `unsafe`. For each call it suffices that
 //! - the functions are proved safe for any bytes, lengths and numbers, and use a pointer only for the elements that they
@@ -146,6 +147,66 @@ mod c {
             fee: *mut i64,
             charged: *mut u64,
         ) -> u8;
+        pub fn kurvneist_points_length() -> usize;
+        pub fn kurvneist_park(
+            book: *const u8,
+            book_length: usize,
+            line: *const u8,
+            line_length: usize,
+            units: u8,
+            budget: u32,
+            day: u16,
+            schedule: *const u8,
+            schedule_length: usize,
+            name: *const u8,
+            name_length: usize,
+            work: *mut u8,
+            work_length: usize,
+            net: *mut u8,
+            net_length: usize,
+            points: *mut u8,
+            points_length: usize,
+            output: *mut u8,
+            output_length: usize,
+            answer: *mut u64,
+        ) -> u8;
+        pub fn kurvneist_park_payee(
+            book: *const u8,
+            book_length: usize,
+            text: *const u8,
+            text_length: usize,
+            units: u8,
+            budget: u32,
+            day: u16,
+            schedule: *const u8,
+            schedule_length: usize,
+            name: *const u8,
+            name_length: usize,
+            work: *mut u8,
+            work_length: usize,
+            net: *mut u8,
+            net_length: usize,
+            points: *mut u8,
+            points_length: usize,
+            output: *mut u8,
+            output_length: usize,
+            answer: *mut u64,
+        ) -> u8;
+        pub fn kurvneist_resume(
+            name: *const u8,
+            name_length: usize,
+            schedule: *const u8,
+            schedule_length: usize,
+            work: *mut u8,
+            work_length: usize,
+            net: *mut u8,
+            net_length: usize,
+            points: *mut u8,
+            points_length: usize,
+            output: *mut u8,
+            output_length: usize,
+            answer: *mut u64,
+        ) -> u8;
         pub fn kurvneist_write_book(
             book: *const u8,
             book_length: usize,
@@ -201,6 +262,12 @@ pub fn output_length() -> usize {
 pub fn record_length() -> usize {
     // SAFETY: no pointer is passed.
     unsafe { c::kurvneist_record_length() }
+}
+
+/// The bytes of the buffer of points, by the linked library.
+pub fn points_length() -> usize {
+    // SAFETY: no pointer is passed.
+    unsafe { c::kurvneist_points_length() }
 }
 
 /// A refusal's number, or 0. The answer is all zeros after a refusal.
@@ -422,6 +489,110 @@ pub fn settle_payee(
             settled.answer.as_mut_ptr(),
             &mut settled.fee,
             &mut settled.charged,
+        )
+    }
+}
+
+/// A refusal's number, or 0. The answer is all zeros after a refusal.
+pub fn park(
+    request: &Request,
+    name: &[u8],
+    work: &mut [u8],
+    net: &mut [u8],
+    points: &mut [u8],
+    output: &mut [u8],
+    answer: &mut [u64; ANSWER_LENGTH],
+) -> u8 {
+    // SAFETY: every pointer and length are those of one slice, and `answer` has the six elements that are written.
+    unsafe {
+        c::kurvneist_park(
+            request.book.as_ptr(),
+            request.book.len(),
+            request.line.as_ptr(),
+            request.line.len(),
+            request.units,
+            request.budget,
+            request.day,
+            request.schedule.as_ptr(),
+            request.schedule.len(),
+            name.as_ptr(),
+            name.len(),
+            work.as_mut_ptr(),
+            work.len(),
+            net.as_mut_ptr(),
+            net.len(),
+            points.as_mut_ptr(),
+            points.len(),
+            output.as_mut_ptr(),
+            output.len(),
+            answer.as_mut_ptr(),
+        )
+    }
+}
+
+/// The same where the request's line is a text.
+pub fn park_payee(
+    request: &Request,
+    name: &[u8],
+    work: &mut [u8],
+    net: &mut [u8],
+    points: &mut [u8],
+    output: &mut [u8],
+    answer: &mut [u64; ANSWER_LENGTH],
+) -> u8 {
+    // SAFETY: as for `park`, whose parameters these are.
+    unsafe {
+        c::kurvneist_park_payee(
+            request.book.as_ptr(),
+            request.book.len(),
+            request.line.as_ptr(),
+            request.line.len(),
+            request.units,
+            request.budget,
+            request.day,
+            request.schedule.as_ptr(),
+            request.schedule.len(),
+            name.as_ptr(),
+            name.len(),
+            work.as_mut_ptr(),
+            work.len(),
+            net.as_mut_ptr(),
+            net.len(),
+            points.as_mut_ptr(),
+            points.len(),
+            output.as_mut_ptr(),
+            output.len(),
+            answer.as_mut_ptr(),
+        )
+    }
+}
+
+/// A refusal's number, or 0. The answer is all zeros after a refusal.
+pub fn resume(
+    name: &[u8],
+    schedule: &[u8],
+    work: &mut [u8],
+    net: &mut [u8],
+    points: &mut [u8],
+    output: &mut [u8],
+    answer: &mut [u64; ANSWER_LENGTH],
+) -> u8 {
+    // SAFETY: as for `park`.
+    unsafe {
+        c::kurvneist_resume(
+            name.as_ptr(),
+            name.len(),
+            schedule.as_ptr(),
+            schedule.len(),
+            work.as_mut_ptr(),
+            work.len(),
+            net.as_mut_ptr(),
+            net.len(),
+            points.as_mut_ptr(),
+            points.len(),
+            output.as_mut_ptr(),
+            output.len(),
+            answer.as_mut_ptr(),
         )
     }
 }

@@ -68,10 +68,13 @@ refusals! {
     13 BadUnits "the number of units is not 1 to 8"
     14 UnknownUnitInSchedule "a schedule entry names a unit that is not there"
     15 WorkTooShort "the work area has less than 24,624 bytes, or the net's area less than 3,840"
-    16 OutputTooShort "the output is too short: a run needs 1,024 bytes, the writer as many as the written book has"
+    16 OutputTooShort "the output is too short: a run needs 1,024 bytes, the writer as many as the written book has; or the \
+        buffer of points has less than 524,288"
     17 BadInput "the program's input is cut short, or over 32,768 schedule bytes follow"
     18 TextTooLong "the text's term would have over 1,024 symbols"
     19 NoLetters "the book lacks the operators of texts: 0 without arguments, and 1 to 42 with one argument each"
+    20 BadPointOrName "a point breaks a rule, the name to resume is unknown, or a name has not 1 to 16 bytes"
+    21 NinthName "a ninth name is given: eight points are there, and none has it"
     22 AmountOutOfRange "the amount is not from -1,000,000,000,000 to 1,000,000,000,000 cents"
     23 BadRateOrShares "the root's rate is missing or above 10,000, the owners are not 1 to 16, or their shares do not \
         total 10,000"
@@ -86,7 +89,7 @@ impl Refusal {
         self as u8
     }
 
-    /// `Ok` for 0. The library is proved to answer 0 or one of its refusals, which are 1 to 5, 7 to 16, 18, 19 and 22 to 25.
+    /// `Ok` for 0. The library is proved to answer 0 or one of its refusals, which are 1 to 5, 7 to 16 and 18 to 25.
     pub(crate) fn check(number: u8) -> Result<(), Refusal> {
         match number {
             0 => Ok(()),

@@ -5,8 +5,8 @@ use std::path::{Path, PathBuf};
 use std::process::Command;
 
 use kurvneist::{
-    raw, Ending, Refusal, Stop, LARGEST_AMOUNT, LONGEST_BOOK, LONGEST_RECORD, MOST_OWNERS,
-    NET_LENGTH, OUTPUT_LENGTH, WHOLE, WORK_LENGTH,
+    raw, Ending, Refusal, Stop, LARGEST_AMOUNT, LONGEST_BOOK, LONGEST_NAME, LONGEST_RECORD,
+    MOST_NAMES, MOST_OWNERS, NET_LENGTH, OUTPUT_LENGTH, POINTS_LENGTH, WHOLE, WORK_LENGTH,
 };
 
 const STRICT: [&str; 5] = ["-std=c99", "-O2", "-Wall", "-Wextra", "-Werror"];
@@ -71,6 +71,9 @@ fn names_of_the_header_have_the_numbers_of_the_crate() {
         ("LargestAmount", LARGEST_AMOUNT as usize),
         ("Whole", WHOLE.into()),
         ("PairLength", raw::PAIR_LENGTH),
+        ("PointsLength", POINTS_LENGTH),
+        ("MostNames", MOST_NAMES),
+        ("LongestName", LONGEST_NAME),
     ];
     let lengths = lengths.map(|(name, value)| (name.to_owned(), value));
     let names = refusals.chain(endings).chain(stops).chain(lengths);
@@ -119,4 +122,7 @@ fn examples_post_what_they_say() {
     assert_eq!(run("examples/fees.c"), fees);
     let strict = "the order of the rules is free\nrules 0 and 2 match one term\n";
     assert_eq!(run("examples/strict.c"), strict);
+    let points = "parked: ending 3, entries 12, rewrites 0, term 2 1 0 1 0\n\
+        resumed: ending 0, entries 33, rewrites 2, term 1 1 0\n";
+    assert_eq!(run("examples/points.c"), points);
 }

@@ -6,9 +6,9 @@ use std::fs;
 
 use common::*;
 use kurvneist::{
-    charge, reduce_lines, strict_book, written_book, Batch, Ending, Engine, Fees, Posting, Refusal,
-    Request, Stop, LARGEST_AMOUNT, LONGEST_BOOK, LONGEST_RECORD, MOST_OWNERS, NET_LENGTH,
-    OUTPUT_LENGTH, WHOLE, WORK_LENGTH,
+    charge, reduce_lines, round_robin, strict_book, written_book, Batch, Ending, Engine, Fees,
+    Points, Posting, Refusal, Request, Stop, LARGEST_AMOUNT, LONGEST_BOOK, LONGEST_RECORD,
+    MOST_OWNERS, NET_LENGTH, OUTPUT_LENGTH, POINTS_LENGTH, WHOLE, WORK_LENGTH,
 };
 
 fn format() -> String {
@@ -223,6 +223,38 @@ fn the_lines_have_their_records() {
     assert!(format.contains("the numbers 3, 12, 69 and 0"));
 }
 
+/// What the run of the example saves, and what it comes to.
+#[test]
+fn the_run_has_its_point() {
+    let format = format();
+    let book = bytes(block(&format, "book"));
+    let example = bytes(block(&format, "point"));
+    let mut engine = Engine::new();
+    let mut points = Points::new();
+    let request = page(&book, &[0; 3]).units(2);
+    engine.park(&request, b"may", &mut points).unwrap();
+    assert_eq!(points.bytes()[..example.len()], example);
+    assert!(points.bytes()[example.len()..]
+        .iter()
+        .all(|byte| *byte == 0));
+    assert!(format.contains(&format!("begins with these {} bytes", example.len())));
+    // What the buffer holds is taken up, whoever wrote it.
+    let mut kept = vec![0; POINTS_LENGTH];
+    kept[..example.len()].copy_from_slice(&example);
+    let mut points = Points::from_bytes(kept).unwrap();
+    let schedule = round_robin(2, 31);
+    let answer = engine
+        .resume(b"may", &schedule, &mut points)
+        .unwrap()
+        .answer;
+    assert_eq!(answer.ending, Ending::Finished);
+    assert_eq!(
+        (answer.rewrites, answer.entries, answer.granted),
+        (2, 34, 2)
+    );
+    assert!(format.contains("finishes with 2 rewrites, 34 entries and 2 FORKs granted"));
+}
+
 /// What the rows say of a posting by itself is charged to the posting of the page's line too.
 #[test]
 fn amounts_have_their_fees_and_parts() {
@@ -364,6 +396,7 @@ fn lengths() {
         LONGEST_BOOK,
         LONGEST_RECORD,
         32_768,
+        POINTS_LENGTH,
     ] {
         let shown = format!("{},{:03}", length / 1000, length % 1000);
         assert!(format.contains(&shown), "{shown}");

@@ -11,6 +11,7 @@
 //! - `trace`: a run entry by entry, as text and as a picture; `explain`: its
 //!   rewrites.
 //! - `posting`: a line's run, by a given schedule or by longer and longer ones.
+//! - `points`: runs that were parked, in a file.
 //! - `batch`, `lines`, `blocks`, `jobs`, `outcome`, `profile`, `progress`: many
 //!   lines against one book.
 //! - `fees`: fee tables, owners' shares and amounts as text, and what is charged
@@ -38,6 +39,7 @@ pub mod mistake;
 pub mod names;
 pub mod outcome;
 pub mod output;
+pub mod points;
 pub mod posting;
 pub mod profile;
 pub mod progress;

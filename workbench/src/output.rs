@@ -61,13 +61,15 @@ impl Output {
         Ok(Output::Beside(BufWriter::new(file), part))
     }
 
-    /// Gives a file its name, once its bytes are on the disk.
+    /// Gives a file its name, once its bytes are on the disk, and has the name
+    /// there too, where the file system can do that.
     pub fn finish(mut self) -> io::Result<()> {
         self.flush()?;
         if let Output::Beside(file, part) = &mut self {
             file.get_ref().sync_all()?;
             fs::rename(&part.path, &part.target)?;
             part.finished = true;
+            let _ = File::open(folder(&part.target)).and_then(|folder| folder.sync_all());
         }
         Ok(())
     }

@@ -1,11 +1,13 @@
 //! Runs as a command line asks for them: by the schedule that it gives, or by
-//! longer and longer ones.
+//! longer and longer ones; under a name, or without.
 
 use std::ops::Range;
 use std::sync::OnceLock;
 
 use comparison::model::Form;
-use kurvneist::{round_robin, Answer, Batch, Ending, Engine, Lines, Posting, Refusal, Request};
+use kurvneist::{
+    round_robin, Answer, Batch, Ending, Engine, Lines, Points, Posting, Refusal, Request,
+};
 
 /// Where no schedule is given, the units take turns, and a run that is cut is
 /// made again with the next of these lengths.
@@ -22,6 +24,8 @@ pub struct Posted {
     /// How the run by several units ended, if one unit made this one in its
     /// place.
     pub instead_of: Option<Ending>,
+    /// The points with this run among them, if it has a name and was cut.
+    pub parked: Option<Points>,
 }
 
 impl Posted {
@@ -30,7 +34,47 @@ impl Posted {
             answer: posting.answer,
             term: posting.term.to_vec(),
             instead_of: None,
+            parked: None,
         }
+    }
+}
+
+/// What makes a run.
+pub trait Runner {
+    fn run(&mut self, form: Form, request: &Request) -> Result<Posted, Refusal>;
+}
+
+impl Runner for Engine {
+    fn run(&mut self, form: Form, request: &Request) -> Result<Posted, Refusal> {
+        let posting = match form {
+            Form::Line => self.post(request),
+            Form::Text => self.post_payee(request),
+        };
+        posting.map(Posted::of)
+    }
+}
+
+/// Makes runs under a name. Each is beside the points as they are here, so that
+/// one that is made again with more entries leaves nothing of the first.
+pub struct Parking<'p> {
+    pub engine: Engine,
+    pub name: &'p [u8],
+    pub points: &'p Points,
+}
+
+impl Runner for Parking<'_> {
+    fn run(&mut self, form: Form, request: &Request) -> Result<Posted, Refusal> {
+        let mut points = self.points.clone();
+        let posting = match form {
+            Form::Line => self.engine.park(request, self.name, &mut points),
+            Form::Text => self.engine.park_payee(request, self.name, &mut points),
+        };
+        let posted = Posted::of(posting?);
+        let is_cut = posted.answer.ending == Ending::Cut;
+        Ok(Posted {
+            parked: is_cut.then_some(points),
+            ..posted
+        })
     }
 }
 
@@ -53,13 +97,36 @@ impl Schedules {
     /// Posts a line; the request's own units and schedule don't count.
     pub fn post(
         &self,
-        engine: &mut Engine,
+        runner: &mut impl Runner,
         form: Form,
         request: &Request,
     ) -> Result<Posted, Refusal> {
         let first = request.units(self.shared.units).schedule(self.first());
-        let first = once(engine, form, &first)?;
-        self.go_on(first, engine, form, request)
+        let first = runner.run(form, &first)?;
+        self.go_on(first, runner, form, request)
+    }
+
+    /// Goes on with the run of a name, whose point's units these are. Where no
+    /// schedule is given, a run that is cut gets the rest of the next one.
+    pub fn resume(
+        &self,
+        engine: &mut Engine,
+        name: &[u8],
+        points: &mut Points,
+    ) -> Result<Posted, Refusal> {
+        let mut posted = engine.resume(name, self.first(), points).map(Posted::of)?;
+        let more = match self.given {
+            Some(_) => 1..1,
+            None => 1..LENGTHS.len(),
+        };
+        for level in more {
+            if posted.answer.ending != Ending::Cut {
+                break;
+            }
+            let rest = &self.shared.schedule(level)[LENGTHS[level - 1]..];
+            posted = engine.resume(name, rest, points).map(Posted::of)?;
+        }
+        Ok(posted)
     }
 
     /// Posts many lines, each as `post` does, with one reading of the book for
@@ -94,7 +161,7 @@ impl Schedules {
     fn go_on(
         &self,
         first: Posted,
-        engine: &mut Engine,
+        runner: &mut impl Runner,
         form: Form,
         request: &Request,
     ) -> Result<Posted, Refusal> {
@@ -102,12 +169,12 @@ impl Schedules {
             return Ok(first);
         }
         let levels = 1..LENGTHS.len();
-        let shared = self.shared.go_on(first, engine, form, request, levels)?;
+        let shared = self.shared.go_on(first, runner, form, request, levels)?;
         let ending = shared.answer.ending;
         if self.shared.units == 1 || !matches!(ending, Ending::Full | Ending::Cut) {
             return Ok(shared);
         }
-        let alone = self.alone.post(engine, form, request, LENGTHS.len())?;
+        let alone = self.alone.post(runner, form, request, LENGTHS.len())?;
         Ok(match alone.answer.ending {
             Ending::Finished => Posted {
                 instead_of: Some(ending),
@@ -186,20 +253,20 @@ impl Turns {
     /// The first run that isn't cut, or that of the last of so many lengths.
     fn post(
         &self,
-        engine: &mut Engine,
+        runner: &mut impl Runner,
         form: Form,
         request: &Request,
         lengths: usize,
     ) -> Result<Posted, Refusal> {
-        let first = self.run(engine, form, request, 0)?;
-        self.go_on(first, engine, form, request, 1..lengths)
+        let first = self.run(runner, form, request, 0)?;
+        self.go_on(first, runner, form, request, 1..lengths)
     }
 
     /// The same behind a run, with these lengths.
     fn go_on(
         &self,
         mut posted: Posted,
-        engine: &mut Engine,
+        runner: &mut impl Runner,
         form: Form,
         request: &Request,
         levels: Range<usize>,
@@ -208,29 +275,21 @@ impl Turns {
             if posted.answer.ending != Ending::Cut {
                 break;
             }
-            posted = self.run(engine, form, request, level)?;
+            posted = self.run(runner, form, request, level)?;
         }
         Ok(posted)
     }
 
     fn run(
         &self,
-        engine: &mut Engine,
+        runner: &mut impl Runner,
         form: Form,
         request: &Request,
         level: usize,
     ) -> Result<Posted, Refusal> {
         let schedule = self.schedule(level);
-        once(engine, form, &request.units(self.units).schedule(schedule))
+        runner.run(form, &request.units(self.units).schedule(schedule))
     }
-}
-
-fn once(engine: &mut Engine, form: Form, request: &Request) -> Result<Posted, Refusal> {
-    let posting = match form {
-        Form::Line => engine.post(request),
-        Form::Text => engine.post_payee(request),
-    };
-    posting.map(Posted::of)
 }
 
 /// A run of each line. What is too long to stand among many, as a payee between
@@ -246,7 +305,7 @@ fn each(
     let mut runs = together(engine, form, batch, &many).into_iter();
     let run = |(line, among): (&&[u8], bool)| match among {
         true => runs.next().expect("a run of each line among many"),
-        false => once(engine, form, &batch.line(line)),
+        false => engine.run(form, &batch.line(line)),
     };
     lines.iter().zip(among).map(run).collect()
 }

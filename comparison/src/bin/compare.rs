@@ -1,7 +1,8 @@
 //! Compares the static library, or the programs, with the model on random
 //! cases: lines and, every third one, texts. Some have many lines for their book
 //! besides, some have fees, some another order of the book's rules; only the
-//! library is asked those, and of each book whether it is strict.
+//! library is asked those, and of each book whether it is strict. Behind them come
+//! calls on buffers of points, of which only the library knows too.
 
 use std::ops::Range;
 use std::path::PathBuf;
@@ -9,23 +10,35 @@ use std::process::ExitCode;
 use std::time::Instant;
 
 use comparison::broken::{BrokenModel, Slip, SLIPS};
+use comparison::broken_points::{slips as slips_of_points, BrokenPoints, PointSlip};
 use comparison::compare::compare;
+use comparison::compare_points::compare_points;
 use comparison::library::Library;
 use comparison::program::{compare_pages, Pages, Programs};
-use comparison::subject::Subject;
+use comparison::subject::{Parking, Subject};
 
 /// So many cases meet every ending and every refusal, of lines and of texts, every
 /// kind of batch and of charge, and all that the strict profile tells.
 const ENOUGH: u64 = 10_000;
+
+/// For so many cases there is one of several calls on points; of those that come
+/// with enough cases, every kind is met.
+const POINTS_EVERY: u64 = 5;
 
 struct Options {
     count: u64,
     seed: u64,
     /// The number of the first case.
     from: u64,
-    slip: Option<Slip>,
+    slip: Option<AnySlip>,
     /// The folder of the programs, if they are compared.
     programs: Option<PathBuf>,
+}
+
+#[derive(Clone, Copy)]
+enum AnySlip {
+    Of(Slip),
+    OfPoints(PointSlip),
 }
 
 fn main() -> ExitCode {
@@ -33,11 +46,12 @@ fn main() -> ExitCode {
         Ok(options) => run(&options),
         Err(message) => {
             let slips: Vec<&str> = SLIPS.iter().map(|(name, _)| *name).collect();
+            let of_points: Vec<String> = slips_of_points().map(PointSlip::name).collect();
             eprintln!("{message}");
             eprintln!(
                 "usage: compare [--count N] [--seed S] [--from CASE] [--break [SLIP] | --programs FOLDER]"
             );
-            eprintln!("slips: {}", slips.join(", "));
+            eprintln!("slips: {}, {}", slips.join(", "), of_points.join(", "));
             ExitCode::from(2)
         }
     }
@@ -76,22 +90,16 @@ fn number(value: Option<String>) -> Result<u64, String> {
 }
 
 /// `--break` alone takes the first slip.
-fn slip(value: Option<String>) -> Result<Slip, String> {
+fn slip(value: Option<String>) -> Result<AnySlip, String> {
     let Some(value) = value else {
-        return Ok(SLIPS[0].1);
+        return Ok(AnySlip::Of(SLIPS[0].1));
     };
     let found = SLIPS.iter().find(|(name, _)| *name == value);
+    let of_points = || slips_of_points().find(|slip| slip.name() == value);
     found
-        .map(|(_, slip)| *slip)
+        .map(|(_, slip)| AnySlip::Of(*slip))
+        .or_else(|| of_points().map(AnySlip::OfPoints))
         .ok_or(format!("unknown slip {value}"))
-}
-
-/// A broken model shows what the comparison finds.
-fn subject(slip: Option<Slip>) -> Box<dyn Subject> {
-    match slip {
-        Some(slip) => Box::new(BrokenModel { slip }),
-        None => Box::new(Library),
-    }
 }
 
 fn run(options: &Options) -> ExitCode {
@@ -101,10 +109,20 @@ fn run(options: &Options) -> ExitCode {
             Programs::of(folder).map(|programs| run_pages(&programs, options, numbers))
         }
         // A slip of the page shows in no answer.
-        (None, Some(slip)) if slip.is_of_pages() => {
+        (None, Some(AnySlip::Of(slip))) if slip.is_of_pages() => {
             Ok(run_pages(&BrokenModel { slip }, options, numbers))
         }
-        (None, _) => Ok(run_subject(options, numbers)),
+        (None, Some(AnySlip::Of(slip))) => {
+            Ok(run_subject(&mut BrokenModel { slip }, options, numbers))
+        }
+        (None, Some(AnySlip::OfPoints(slip))) => {
+            Ok(run_points(&mut BrokenPoints { slip }, options, numbers))
+        }
+        (None, None) => {
+            let fewer = numbers.start / POINTS_EVERY..numbers.end / POINTS_EVERY;
+            let same = run_subject(&mut Library, options, numbers);
+            Ok(same && run_points(&mut Library, options, fewer))
+        }
     };
     match same {
         Ok(true) => {
@@ -120,9 +138,9 @@ fn run(options: &Options) -> ExitCode {
 }
 
 /// Answers whether the library, or a broken model, did as the model does.
-fn run_subject(options: &Options, numbers: Range<u64>) -> bool {
+fn run_subject(subject: &mut dyn Subject, options: &Options, numbers: Range<u64>) -> bool {
     let start = Instant::now();
-    let (tally, difference) = compare(subject(options.slip).as_mut(), options.seed, numbers);
+    let (tally, difference) = compare(subject, options.seed, numbers);
     print!("{tally}");
     tell_speed(options.seed, tally.cases, start);
     if let Some(difference) = difference {
@@ -131,6 +149,25 @@ fn run_subject(options: &Options, numbers: Range<u64>) -> bool {
     }
     let missing = tally.missing();
     if tally.cases >= ENOUGH && !missing.is_empty() {
+        println!("no difference, but never met: {}", missing.join(", "));
+        return false;
+    }
+    true
+}
+
+/// The same of calls on points.
+fn run_points(subject: &mut dyn Parking, options: &Options, numbers: Range<u64>) -> bool {
+    let start = Instant::now();
+    let count = numbers.end - numbers.start;
+    let (tally, difference) = compare_points(subject, options.seed, numbers);
+    print!("{tally}");
+    tell_speed(options.seed, count, start);
+    if let Some(difference) = difference {
+        print!("{difference}");
+        return false;
+    }
+    let missing = tally.missing();
+    if count >= ENOUGH / POINTS_EVERY && !missing.is_empty() {
         println!("no difference, but never met: {}", missing.join(", "));
         return false;
     }

@@ -1,10 +1,13 @@
--- A run of a term by an open book: what run_schedule asks for, that what it leaves is the definition's answer, and how that answers a line. Assumes nothing.
+-- A run of a term by an open book, and a parked one that goes on: what run_schedule asks for, that what it leaves is the definition's answer, and how that answers a
+-- line. Assumes nothing.
 use mathlib.Core.Bool.{true, false}
 use mathlib.Core.List.{List, _++_, map}
 use mathlib.Core.Path.{_≡_, refl, sym, ap, ap₂, _∙_, subst}
 use Prim.Native.Nat.{ℕ, _≤_, _<_}
 use native.Mathlib.Omega.{arith}
-use lib.ListN.{length, take, drop, replicate}
+use lib.ListN.{length, take, drop, replicate, length-set}
+use lib.ListN.{set as put}
+use lib.Seq.{getD-set-same}
 use borrow.Author.Tests.{le-ltb}
 use Rattle.paper.specs.Result.{accepted}
 use Rattle.paper.specs.Tree.{Correct, size, preorder}
@@ -24,9 +27,11 @@ use Rattle.paper.proofs.Demand3.{demand-3, forks-within}
 use Rattle.paper.proofs.Longest.{picks-longest}
 use Rattle.paper.proofs.OneUnit.{grants, accounted}
 use Rattle.paper.proofs.Queue.{queued-throughout}
-use Rattle.flat.specs.Machine.{FlatState, flat-start}
+use Rattle.flat.specs.Machine.{FlatState, with-placed, flat-start}
+use Rattle.flat.specs.Meets.{PointRules}
+use Rattle.flat.specs.Parts.{from-zero}
 use Rattle.flat.specs.Rules.{spells}
-use Rattle.flat.specs.Run.{FlatAnswer, flat-run, flat-run-from, Reached, flatten}
+use Rattle.flat.specs.Run.{FlatAnswer, flat-run, Reached, flatten}
 use Rattle.flat.specs.Sizes as flat
 use Rattle.flat.proofs.Run.{same-run-read}
 use Rattle.flat.proofs.Sizes.{correct-spells}
@@ -42,19 +47,31 @@ use Rattle.net.specs.Layout.{day-of}
 use Rattle.net.specs.Net.{book-by}
 use Rattle.net.proofs.Laws.{tables-by}
 use Rattle.insertion.specs.Contracts.{Built}
+use Rattle.placing.specs.Order.{pending-in, latest-first, Order-fits}
 use Rattle.units.specs.Stacks.{store}
 use Rattle.units.specs.Contracts.{Started}
 use Rattle.whole.specs.declared.Limits.{Limits}
 use Rattle.entry.specs.State.{limited, state, Arrays}
 use Rattle.run.specs.Contracts as Run
-use Rattle.run.specs.Contracts.{beginning, Runnable, Bounded}
+use Rattle.run.specs.Contracts.{begun, Runnable, Ran}
 use Rattle.run.specs.declared.Run as R
 use Rattle.engine.specs.Spec.{Values, values, values-of, request, Reduced}
+use Rattle.engine.specs.Contracts as C
 use Rattle.engine.specs.Contracts.{Framed, Opened, Given, Asked, Posted}
 use Rattle.engine.specs.declared.Answer as D
 use Rattle.engine.proofs.Schedule.{named}
 use Rattle.engine.proofs.Frame.{framed}
 use Rattle.engine.proofs.Answers.{by-run, accepts}
+
+-- an order of placing with no part in it
+pub record Empty (order : List ℕ) : Type 0 where
+  pub fits : Order-fits order
+  pub none : pending-in order ≡ 0
+
+pub emptied : (order : List ℕ) → length order ≡ 1024 → Empty (put order 0 0)
+emptied order long =
+    let e = getD-set-same order 0 0 0 (omega (arith, long)) in
+    record { fits = record { long = length-set order 0 0 ∙ long; few = omega (arith, e) }; none = e }
 
 module _ {l : Limits} {schedule book table net bytes : List ℕ} {n work : ℕ} (o : Opened book table net) (g : Given (book-by book net) bytes n)
     (q : Asked l schedule work) where
@@ -96,10 +113,11 @@ module _ {l : Limits} {schedule book table net bytes : List ℕ} {n work : ℕ} 
   unfolding flat-start
   known-first = of-line .3
 
-  -- behind load and start: the line's symbols, unmarked, with their sizes, and the units of the start, as many as there are
-  module _ {symbols w cells : List ℕ} (loaded : T.Loaded (arity-in table) line (map (λ o. false) line) n symbols) (started : Started (store w cells)) where
+  -- behind load and start, with no part pending: the line's symbols, unmarked, with their sizes, and the units of the start, as many as there are
+  module _ {symbols w cells order : List ℕ} (loaded : T.Loaded (arity-in table) line (map (λ o. false) line) n symbols) (started : Started (store w cells))
+      (empty : Empty order) where
     abbrev first : FlatState
-    first = state symbols w cells beginning l
+    first = state symbols w cells order (begun 0) l
 
     operators-are : operators-in symbols ≡ line
     operators-are = loaded-operators (arity-in table) line n symbols (g .most) one-term loaded
@@ -113,15 +131,20 @@ module _ {l : Limits} {schedule book table net bytes : List ℕ} {n work : ℕ} 
         ∙ sizes-book B table-is line (of-line .3)
 
     first-is : first ≡ flat-start (arity B) units line
-    unfolding flat-start
-    first-is = rw (operators-are, sizes-are, marks-are, started .units units (q .some-units) (q .few))
+    unfolding flat-start latest-first
+    first-is =
+        rw (operators-are, sizes-are, marks-are, started .units units (q .some-units) (q .few)) (ap (λ (k : ℕ). placing (latest-first order k)) (empty .none))
+      where
+        placing : List ℕ → FlatState
+        placing vs = with-placed (flat-start (arity B) units line) vs
 
-    arrays : (scratch : List ℕ) → length scratch ≡ 1024 → Arrays symbols scratch w cells l
+    arrays : (scratch : List ℕ) → length scratch ≡ 1024 → Arrays symbols scratch w cells order l
     arrays scratch k = record {
       symbols-long = loaded .long;
       scratch-long = k;
       most = omega (arith, loaded-length (arity-in table) line n symbols (g .most) one-term loaded, g .most);
       fit = started .fit;
+      order-fits = empty .fits;
       few = omega (arith, q .few);
     }
 
@@ -137,73 +160,91 @@ module _ {l : Limits} {schedule book table net bytes : List ℕ} {n work : ℕ} 
       small = q .small;
     }
 
-    pub ready : (scratch : List ℕ) → length scratch ≡ 1024 → Arrays symbols scratch w cells l × Runnable book table net l schedule first
+    pub ready : (scratch : List ℕ) → length scratch ≡ 1024 → Arrays symbols scratch w cells order l × Runnable book table net l schedule first
     ready scratch k = (arrays scratch k, runnable)
 
-    module _ {symbols′ : List ℕ} {r : R.Run} (is : Run.answer r symbols′ ≡ flat-run-from B (limited budget) 0 schedule first)
-        (bounded : Bounded l schedule symbols′ r) where
-      abbrev A : Answer
-      A = run B (limited budget) units schedule (g .term)
+    pub ran-first : {symbols′ scratch′ w′ cells′ order′ : List ℕ} {r : R.Run} → Ran book net l schedule first symbols′ scratch′ w′ cells′ order′ r →
+        Ran book net l schedule (C.first B l line) symbols′ scratch′ w′ cells′ order′ r
+    ran-first {symbols′} {scratch′} {w′} {cells′} {order′} {r} h =
+        subst (λ (x : FlatState). Ran book net l schedule x symbols′ scratch′ w′ cells′ order′ r) first-is h
 
-      -- the run's answer is the definition's
-      answer-is : Run.answer r symbols′ ≡ flatten A
-      unfolding flat-run
-      answer-is =
-          is ∙ ap (flat-run-from B (limited budget) 0 schedule) first-is
-          ∙ same-run-read book line (any-book book) (day-of net) (g .term) (o .netted .tables .read) (g .term-read) (limited budget) units schedule
+  module _ {symbols′ scratch′ w′ cells′ order′ : List ℕ} {r : R.Run} (ran : Ran book net l schedule (C.first B l line) symbols′ scratch′ w′ cells′ order′ r) where
+    abbrev A : Answer
+    A = run B (limited budget) units schedule (g .term)
 
-      term-is : operators (take (r .length) symbols′) ≡ preorder (A .term)
-      unfolding flatten
-      term-is = ap (λ (k : ℕ). operators (take k symbols′)) (bounded .root) ∙ ap (λ (a : FlatAnswer). a .symbols) answer-is
+    -- the run's answer is the definition's
+    answer-is : Run.answer r symbols′ ≡ flatten A
+    unfolding flat-run
+    answer-is =
+        ran .is
+        ∙ same-run-read book line (any-book book) (day-of net) (g .term) (o .netted .tables .read) (g .term-read) (limited budget) units schedule
 
-      length-is : r .length ≡ length (preorder (A .term))
-      length-is = sym (front-length operator (r .length) symbols′ (omega (arith, bounded .most, bounded .long))) ∙ ap length term-is
+    term-is : operators (take (r .length) symbols′) ≡ preorder (A .term)
+    unfolding flatten
+    term-is = ap (λ (k : ℕ). operators (take k symbols′)) (ran .bounded .root) ∙ ap (λ (a : FlatAnswer). a .symbols) answer-is
 
-      rewrites-are : r .rewrites ≡ A .rewrites
-      unfolding flatten
-      rewrites-are = ap (λ (a : FlatAnswer). a .rewrites) answer-is
+    length-is : r .length ≡ length (preorder (A .term))
+    length-is = sym (front-length operator (r .length) symbols′ (omega (arith, ran .bounded .most, ran .bounded .long))) ∙ ap length term-is
 
-      entries-are : r .entries ≡ A .entries
-      unfolding flatten
-      entries-are = ap (λ (a : FlatAnswer). a .entries) answer-is
+    rewrites-are : r .rewrites ≡ A .rewrites
+    unfolding flatten
+    rewrites-are = ap (λ (a : FlatAnswer). a .rewrites) answer-is
 
-      -- the code's values are the answer's
-      values-are : values (D.Answer.Ran r) ≡ values-of (accepted A)
-      unfolding flatten
-      values-are =
-          ap₂ (λ (a : FlatAnswer) (n : ℕ).
-          accepted (record { ending = a .ending; rewrites = a .rewrites; entries = a .entries; granted = a .granted; kept = a .kept; length = n })) answer-is length-is
+    entries-are : r .entries ≡ A .entries
+    unfolding flatten
+    entries-are = ap (λ (a : FlatAnswer). a .entries) answer-is
 
-      pub posted : Posted B line l schedule symbols′ r
-      unfolding run moments
-      posted =
-          let read = o .netted .tables .read in
-          let d = demand-3 book line (any-book book) (day-of net) (g .term) read (g .term-read) units budget schedule in
-          let sound = day-sound book (any-book book) read (day-of net) in
-          record {
-            term = g .term;
-            term-read = g .term-read;
-            answer = A;
-            holds = record {
-              is = refl;
-              demand-3 = d;
-              helps = helps book line (any-book book) (day-of net) (g .term) read (g .term-read) units budget schedule;
-              queued = queued-throughout in-force B (limited budget) units schedule (g .term);
-              picks = picks-longest in-force B (limited budget) units schedule (g .term);
-              posting = d .posting;
-              grants = grants B sound (g .term) (of-line .0) (limited budget) units schedule;
-              accounted = accounted B sound (g .term) (of-line .0) (limited budget) units schedule;
-              change-10 = change-10 book line (any-book book) (day-of net) (g .term) read (g .term-read) units budget schedule;
-              allowed = omega (arith, rewrites-are, bounded .allowed);
-              used = omega (arith, entries-are, bounded .used);
-              forks-within = forks-within B sound (g .term) (of-line .0) (limited budget) units schedule;
-              fits = omega (arith, length-is, bounded .most);
-            };
-            values-are = values-are;
-            present = term-is;
-            long = bounded .long;
-            most = bounded .most;
-          }
+    -- the code's values are the answer's
+    values-are : values (D.Answer.Ran r) ≡ values-of (accepted A)
+    unfolding flatten
+    values-are =
+        ap₂ (λ (a : FlatAnswer) (n : ℕ).
+        accepted (record { ending = a .ending; rewrites = a .rewrites; entries = a .entries; granted = a .granted; kept = a .kept; length = n })) answer-is length-is
+
+    pub posted : Posted B line l schedule symbols′ r
+    unfolding run moments
+    posted =
+        let read = o .netted .tables .read in
+        let d = demand-3 book line (any-book book) (day-of net) (g .term) read (g .term-read) units budget schedule in
+        let sound = day-sound book (any-book book) read (day-of net) in
+        record {
+          term = g .term;
+          term-read = g .term-read;
+          answer = A;
+          holds = record {
+            is = refl;
+            demand-3 = d;
+            helps = helps book line (any-book book) (day-of net) (g .term) read (g .term-read) units budget schedule;
+            queued = queued-throughout in-force B (limited budget) units schedule (g .term);
+            picks = picks-longest in-force B (limited budget) units schedule (g .term);
+            posting = d .posting;
+            grants = grants B sound (g .term) (of-line .0) (limited budget) units schedule;
+            accounted = accounted B sound (g .term) (of-line .0) (limited budget) units schedule;
+            change-10 = change-10 book line (any-book book) (day-of net) (g .term) read (g .term-read) units budget schedule;
+            allowed = omega (arith, rewrites-are, ran .bounded .allowed);
+            used = omega (arith, entries-are, ran .bounded .used);
+            forks-within = forks-within B sound (g .term) (of-line .0) (limited budget) units schedule;
+            fits = omega (arith, length-is, ran .bounded .most);
+          };
+          values-are = values-are;
+          present = term-is;
+          long = ran .bounded .long;
+          most = ran .bounded .most;
+        }
+
+-- a line's run begins with nothing counted
+pub first-zero : (B : Book) (l : Limits) (line : List ℕ) → from-zero (C.first B l line) ≡ C.first B l line
+unfolding flat-start
+first-zero B l line = refl
+
+-- A PARKED RUN goes on from a point that meets the rules
+pub resumable : {l : Limits} {schedule book table net : List ℕ} {s : FlatState} {work : ℕ} → Opened book table net →
+    PointRules (book-by book net) (limited (l .budget)) s → Asked l schedule work → Runnable book table net l schedule s
+resumable {l} {schedule} o p q = record {
+  running = record { netted = o .netted; short = o .short; reached = Reached.resumed (p .meets); known = p .known };
+  named = named (l .units) schedule (q .named);
+  small = q .small;
+}
 
 -- THE ANSWER to a line: the run of its term by the net of the book's rules, behind which the present term was handed out and both areas cleared
 pub reduced : {l : Limits} {book table rules line schedule symbols ways work net output work′ net′ output′ : List ℕ} {r : R.Run} →

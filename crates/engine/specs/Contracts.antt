@@ -7,10 +7,11 @@ use Prim.Native.Nat.{ℕ, _^_, _≤_, _<_}
 use lib.ListN.{length, take}
 use Rattle.paper.specs.Result.{refused, accepted}
 use Rattle.paper.specs.Tree.{preorder}
-use Rattle.paper.specs.Book.{Term, Book}
+use Rattle.paper.specs.Book.{Term, Book, arity}
 use Rattle.paper.specs.Line.{readLine}
 use Rattle.paper.specs.Run.{Answer}
 use Rattle.paper.specs.Page.{Request, LineReader, all-below, frame-fault}
+use Rattle.flat.specs.Machine.{FlatState, flat-start}
 use Rattle.symbol.specs.Record.{operators}
 use Rattle.tables.specs.Layout.{day-in}
 use Rattle.tables.specs.Tables.{book-of, Operators, TablesOf}
@@ -80,6 +81,17 @@ pub record Asked (l : Limits) (schedule : List ℕ) (work : ℕ) : Type 0 where
   pub named : all-below (l .units) schedule ≡ true
   pub small : l .budget < 2 ^ 32
   pub long : published .work ≤ work
+
+-- arrays for a run's state, whatever they hold, and scratch
+pub record Lent (symbols scratch cells order : List ℕ) : Type 0 where
+  pub symbols-long : length symbols ≡ 1024
+  pub scratch-long : length scratch ≡ 1024
+  pub cells-long : length cells ≡ 8
+  pub order-long : length order ≡ 1024
+
+-- the first state of a line's run
+abbrev pub first : Book → Limits → List ℕ → FlatState
+first B l line = flat-start (arity B) (l .units) line
 
 -- r is the run of the line's term, and the present term is left in front of the symbols
 pub record Posted (B : Book) (line : List ℕ) (l : Limits) (schedule symbols : List ℕ) (r : Run) : Type 0 where

@@ -10,9 +10,13 @@ ghost use mathlib.Core.Path.{_≡_};
 ghost use Prim.Native.Nat.{ℕ, _^_, _≤_, _<_};
 ghost use lib.ListN.{length, take, drop, replicate};
 ghost use Rattle.paper.specs.Page.{all-below};
+ghost use Rattle.flat.specs.Machine.{FlatState};
+ghost use Rattle.flat.specs.Meets.{PointRules};
 ghost use Rattle.symbol.specs.Record as S;
 ghost use Rattle.tables.specs.Layout.{day-in};
 ghost use Rattle.net.specs.Net.{book-by};
+ghost use Rattle.entry.specs.State as E;
+ghost use Rattle.run.specs.Contracts.{begun, Ran};
 ghost use Rattle.engine.specs.Spec as R;
 ghost use Rattle.engine.specs.Contracts as C;
 ghost use Rattle.engine.specs.declared.Answer as D;
@@ -69,7 +73,7 @@ fn load(symbols: &mut [u8; 1024], line: &[u8])
 }
 
 // The operators of the first n symbols, to the front of the output.
-fn hand_out(symbols: &[u32; 1024], n: usize, output: &mut [u8])
+pub fn hand_out(symbols: &[u32; 1024], n: usize, output: &mut [u8])
     requires { ⌜ (length (now symbols) ≡ 1024) × (n ≤ 1024) × (1024 ≤ length (now output)) ⌝ }
     ensures { λ _. ⌜ now (output .exit) ≡ S.operators (take n (now (symbols .entry))) ++ drop n (now (output .entry)) ⌝ }
 {
@@ -91,8 +95,50 @@ pub fn clear(area: &mut [u8])
     }
 }
 
-// The run of the term that the line's first n symbols are, by a book's operators and the net of its rules. The present term is left in the symbols; nothing
-// depends on what symbols, scratch and work area held.
+// The run of the term that the line's first n symbols are, by a book's operators and the net of its rules. The arrays are left where the run stands, the present term
+// in the symbols; nothing depends on what they held.
+pub fn post_into(
+    book: &[u8],
+    operators: &[u8; 4352],
+    net: &[u8],
+    line: &[u8; 1024],
+    n: usize,
+    limits: Limits,
+    schedule: &[u8],
+    symbols: &mut [u32; 1024],
+    scratch: &mut [u32; 1024],
+    work: &mut [u8],
+    cells: &mut [u32; 8],
+    order: &mut [u16; 1024],
+) -> Run
+    requires { ⌜ C.Opened (now book) (now operators) (now net) ⌝ }
+    requires { ⌜ C.Given (book-by (now book) (now net)) (now line) n ⌝ }
+    requires { ⌜ C.Asked limits (now schedule) (length (now work)) ⌝ }
+    requires { ⌜ C.Lent (now symbols) (now scratch) (now cells) (now order) ⌝ }
+    ensures { λ r. ⌜ C.Posted (book-by (now (book .entry)) (now (net .entry))) (take n (now (line .entry))) limits (now (schedule .entry)) (now (symbols .exit)) r ⌝ }
+    ensures { λ r. ⌜ Ran (now (book .entry)) (now (net .entry)) limits (now (schedule .entry)) (C.first (book-by (now (book .entry)) (now (net .entry))) limits (take n (now (line .entry))))
+        (now (symbols .exit)) (now (scratch .exit)) (now (work .exit)) (now (cells .exit)) (now (order .exit)) r ⌝ }
+{
+    term::load(symbols, operators, line, n);
+    units::start(work, cells);
+    // No part is pending.
+    order[0] = 0;
+    run::run_schedule(
+        book,
+        operators,
+        net,
+        symbols,
+        scratch,
+        work,
+        cells,
+        order,
+        0,
+        limits,
+        schedule,
+    )
+}
+
+// The same run where nobody resumes it: the present term is left in the symbols.
 pub fn post(
     book: &[u8],
     operators: &[u8; 4352],
@@ -113,9 +159,48 @@ pub fn post(
         (now (symbols .exit)) r ⌝ }
     ensures { λ r. ⌜ length (now (scratch .exit)) ≡ 1024 ⌝ }
 {
-    term::load(symbols, operators, line, n);
-    let mut cells = [0; 8];
-    units::start(work, &mut cells);
+    let mut cells = [0u32; 8];
+    let mut order = [0u16; 1024];
+    post_into(
+        book,
+        operators,
+        net,
+        line,
+        n,
+        limits,
+        schedule,
+        symbols,
+        scratch,
+        work,
+        &mut cells,
+        &mut order,
+    )
+}
+
+// A parked run goes on from the point that the arrays hold, with so many rewrites made in the parts before; entries and FORKs are counted from zero. The arrays are left
+// where the run stands.
+pub fn resume(
+    book: &[u8],
+    operators: &[u8; 4352],
+    net: &[u8],
+    rewrites: u32,
+    limits: Limits,
+    schedule: &[u8],
+    symbols: &mut [u32; 1024],
+    scratch: &mut [u32; 1024],
+    work: &mut [u8],
+    cells: &mut [u32; 8],
+    order: &mut [u16; 1024],
+) -> Run
+    ghost { FlatState }
+    requires { λ s. ⌜ E.state (now symbols) (now work) (now cells) (now order) (begun rewrites) limits ≡ s ⌝ }
+    requires { λ s. ⌜ E.Arrays (now symbols) (now scratch) (now work) (now cells) (now order) limits ⌝ }
+    requires { λ s. ⌜ C.Opened (now book) (now operators) (now net) ⌝ }
+    requires { λ s. ⌜ PointRules (book-by (now book) (now net)) (E.limited (limits .budget)) s ⌝ }
+    requires { λ s. ⌜ C.Asked limits (now schedule) (length (now work)) ⌝ }
+    ensures { λ s r. ⌜ Ran (now (book .entry)) (now (net .entry)) limits (now (schedule .entry)) s
+        (now (symbols .exit)) (now (scratch .exit)) (now (work .exit)) (now (cells .exit)) (now (order .exit)) r ⌝ }
+{
     run::run_schedule(
         book,
         operators,
@@ -123,7 +208,9 @@ pub fn post(
         symbols,
         scratch,
         work,
-        &mut cells,
+        cells,
+        order,
+        rewrites,
         limits,
         schedule,
     )

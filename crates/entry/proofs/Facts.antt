@@ -16,12 +16,14 @@ use Rattle.paper.specs.Machine as paper
 use Rattle.paper.specs.Sound.{In, Sound}
 use Rattle.paper.proofs.Books.{good-book-sound}
 use Rattle.flat.specs.Machine.{Frame, FlatUnit, flat-unit, unit, FlatState, going, proceed, carry-out, turn, flat-entry}
+use Rattle.flat.specs.Run.{Reached}
 use Rattle.flat.specs.Rules.{stack, Rules, Numbers}
 use Rattle.flat.proofs.Steps.{Shape, Settled, good-settled, shape-drop}
 use Rattle.flat.proofs.Rules as reached
 use Rattle.flat.proofs.Inside.{room-next}
 use Rattle.flat.proofs.Run.{reached-inv}
 use Rattle.flat.proofs.Tops.{stack-some}
+use Rattle.flat.proofs.Points.{reached-meets, placed-few}
 use Rattle.symbol.specs.Record.{operator}
 use Rattle.symbol.proofs.Record.{front-length, operator-front}
 use Rattle.tables.specs.Layout.{step, step-of, code-in, arity-in, steps-in, Rowed}
@@ -59,8 +61,8 @@ some-behind Step.whole [] q h = absurd q
 some-behind y (s ∷ ss) q h = refl
 
 -- a state of a run, and unit u whose turn it is
-module _ {bytes operators net symbols scratch work units : List ℕ} {u : ℕ} {p : Progress} {l : Limits} (z : Arrays symbols scratch work units l)
-    (r : Running bytes operators net l (state symbols work units p l)) (t : Turn l u (state symbols work units p l)) where
+module _ {bytes operators net symbols scratch work units order : List ℕ} {u : ℕ} {p : Progress} {l : Limits} (z : Arrays symbols scratch work units order l)
+    (r : Running bytes operators net l (state symbols work units order p l)) (t : Turn l u (state symbols work units order p l)) where
   abbrev pub B : Book
   B = book-by bytes net
 
@@ -68,7 +70,7 @@ module _ {bytes operators net symbols scratch work units : List ℕ} {u : ℕ} {
   L = limited (l .budget)
 
   abbrev pub s : FlatState
-  s = state symbols work units p l
+  s = state symbols work units order p l
 
   -- THE STATE
 
@@ -117,6 +119,10 @@ module _ {bytes operators net symbols scratch work units : List ℕ} {u : ℕ} {
   -- after the entry every stack has room
   pub room-after : (s′ : FlatState) → flat-entry B L u s ≡ going s′ → (v : ℕ) → length (stack s′ v) ≤ 1026
   room-after s′ e = room-next B is-sound is-settled L s s′ u (r .reached) e refl
+
+  -- and fewer parts are pending than there are symbols
+  pub placed-after : (s′ : FlatState) → flat-entry B L u s ≡ going s′ → suc (length (s′ .placed)) ≤ length (s′ .symbols)
+  placed-after s′ e = placed-few B is-sound is-settled L s′ (reached-meets B is-sound is-settled L s′ (Reached.next (r .reached) u e))
 
   pub has-frame : Has-frame (store work units) u 0
   has-frame = record { fit = z .fit; unit = unit-small; index = omega (arith, height-is u (t .one), stack-there u) }

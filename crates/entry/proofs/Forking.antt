@@ -1,6 +1,5 @@
 -- FORK as an entry. Assumes nothing.
 use mathlib.Core.Path.{_≡_, refl, sym, ap, subst, _∙_}
-use mathlib.Core.Bool.{Bool, true, false}
 use mathlib.Core.List.{List, _∷_}
 use mathlib.Core.Logic.{_≢_}
 use mathlib.Core.Option.{Option, none, some}
@@ -12,7 +11,7 @@ use lib.Seq.{getD-set-same}
 use Rattle.paper.specs.Strategy.{Step}
 use Rattle.paper.specs.Book.{arity, steps}
 use Rattle.flat.specs.Sizes.{hop}
-use Rattle.flat.specs.Machine.{Frame, FlatUnit, flat-unit, asleep, FlatState, unit, going, first-idle, do-fork, do-step, flat-entry}
+use Rattle.flat.specs.Machine.{Frame, FlatUnit, flat-unit, asleep, FlatState, unit, going, with-placed, first-idle, do-fork, do-step, flat-entry}
 use Rattle.flat.specs.Rules.{stack}
 use Rattle.flat.proofs.Idle.{idle-is, idle-other, leave-stack}
 use Rattle.flat.proofs.Inside.{fork-within}
@@ -20,7 +19,11 @@ use Rattle.symbol.specs.Record.{sizes}
 use Rattle.tables.specs.Layout.{step-of, code-in, steps-in}
 use Rattle.net.proofs.Laws.{tables-by}
 use Rattle.units.specs.Stacks.{store, height-in, units-in}
+use Rattle.units.specs.Contracts.{answer}
+use Rattle.units.specs.declared.Idle as I
 use Rattle.units.specs.declared.frames.Job.{Job}
+use Rattle.placing.specs.Contracts.{Can-place}
+use Rattle.placing.proofs.Order.{placed-length}
 use Rattle.orders.specs.Contracts as O
 use Rattle.orders.proofs.Tables.{argument-by, argument-said}
 use Rattle.orders.proofs.Changes.{argument-found}
@@ -29,14 +32,15 @@ use Rattle.whole.specs.declared.Progress.{Progress}
 use Rattle.whole.specs.declared.Limits.{Limits}
 use Rattle.entry.specs.State.{state, Arrays}
 use Rattle.entry.specs.Contracts.{Running, Turn, Working, forked}
+use Rattle.entry.specs.Contracts as E
 use Rattle.entry.proofs.Facts as F
 use Rattle.entry.proofs.Orders as orders
 
-module _ {bytes operators net symbols scratch work units : List ℕ} {u : ℕ} {p : Progress} {l : Limits} (z : Arrays symbols scratch work units l)
-    (r : Running bytes operators net l (state symbols work units p l)) (t : Turn l u (state symbols work units p l)) {x : Job}
+module _ {bytes operators net symbols scratch work units order : List ℕ} {u : ℕ} {p : Progress} {l : Limits} (z : Arrays symbols scratch work units order l)
+    (r : Running bytes operators net l (state symbols work units order p l)) (t : Turn l u (state symbols work units order p l)) {x : Job}
     (w : Working work units u x) (one : 1 ≤ x .next) {i : ℕ} (e : some (Step.fork i) ≡ step-of (code-in operators (F.o z r t w) (x .next - 1))) where
   abbrev s : FlatState
-  s = state symbols work units p l
+  s = state symbols work units order p l
 
   abbrev ss : List Step
   ss = steps-in operators (F.o z r t w)
@@ -100,10 +104,27 @@ module _ {bytes operators net symbols scratch work units : List ℕ} {u : ℕ} {
         omega (arith, h, F.height-is z r t v (omega (arith, m, F.units-count z r t))),
       )
 
-  -- the state behind a FORK is that of the counts behind it
-  counted : (work′ units′ : List ℕ) (g : Bool) → entries.counted-fork s (units-in (store work′ units′) (l .units)) g ≡ state symbols work′ units′ (forked p g) l
-  counted work′ units′ true = refl
-  counted work′ units′ false = refl
+  -- and a part more has room in the order of placing
+  granted-room : (v : ℕ) → first-idle (s .units) ≡ some v → Can-place order v
+  unfolding do-fork
+  granted-room v q = record {
+    fits = z .order-fits;
+    room = omega (arith, F.placed-after z r t _ (by-idle (some v) q), placed-length order, F.length-is z r t, z .most);
+    small = omega (arith, idle-is (s .units) v q .0, F.units-count z r t, z .few);
+  }
+
+  -- by the answer
+  pub fork-places : {b : ℕ} {work′ units′ : List ℕ} (g : I.Idle) → O.Forked x b (l .units) u (store work units) (store work′ units′) g → E.Can-place g order
+  fork-places (I.the-variants.Unit v) d = record { fits = z .order-fits; room = granted-room v (d .found) }
+  fork-places I.the-variants.None d = record { fits = z .order-fits; room = tt }
+
+  -- the state behind a FORK is that of the counts and of the order behind it
+  counted : (work′ units′ order′ : List ℕ) (g : I.Idle) → E.Placed g order order′ →
+      entries.counted-fork s (units-in (store work′ units′) (l .units)) (answer g) ≡ state symbols work′ units′ order′ (forked p g) l
+  counted work′ units′ order′ (I.the-variants.Unit v) k =
+      ap (with-placed (state symbols work′ units′ order′ (forked p (I.the-variants.Unit v)) l)) (sym (k .is))
+  counted work′ units′ order′ I.the-variants.None k =
+      ap (with-placed (state symbols work′ units′ order′ (forked p I.the-variants.None) l)) (sym (k .is))
 
   -- found at offset b
   module _ {b : ℕ} (eb : b ≡ hop (sizes symbols) i (x .offset + 1)) where
@@ -119,17 +140,19 @@ module _ {bytes operators net symbols scratch work units : List ℕ} {u : ℕ} {
       grant = granted-fits;
     }
 
-    pub fork-entered : {work′ units′ : List ℕ} {g : Bool} → O.Forked x b (l .units) u (store work units) (store work′ units′) g → (p′ : Progress) → p′ ≡ forked p g →
-        (going (state symbols work′ units′ p′ l) ≡ flat-entry (F.B z r t) (F.L z r t) u s) × Arrays symbols scratch work′ units′ l
-    fork-entered {work′} {units′} {g} d p′ h =
-        subst (λ (q : Progress). (going (state symbols work′ units′ q l) ≡ flat-entry (F.B z r t) (F.L z r t) u s) × Arrays symbols scratch work′ units′ l) (sym h) (
+    pub fork-entered : {work′ units′ order′ : List ℕ} {g : I.Idle} → O.Forked x b (l .units) u (store work units) (store work′ units′) g → (p′ : Progress) →
+        (p′ ≡ forked p g) × E.Placed g order order′ →
+        (going (state symbols work′ units′ order′ p′ l) ≡ flat-entry (F.B z r t) (F.L z r t) u s) × Arrays symbols scratch work′ units′ order′ l
+    fork-entered {work′} {units′} {order′} {g} d p′ h =
+        subst (λ (q : Progress). (going (state symbols work′ units′ order′ q l) ≡ flat-entry (F.B z r t) (F.L z r t) u s) × Arrays symbols scratch work′ units′ order′ l)
+        (sym (h .0)) (
           sym (
               F.entry-is z r t (w .busy) (w .top)
               ∙ entries.fork-entry (F.B z r t) (F.L z r t) u (l .units) s (store work units) refl (t .one) _ fs (F.unit-is z r t (w .busy) (w .top)) (tables-by (r .netted))
               (r .known) x (omega (arith, F.offset-inside z r t w, F.length-is z r t)) one (omega (arith, F.next-most z r t w)) (orders.more z r t w one e tt) i
               (subst (λ (q : ℕ). some (Step.fork i) ≡ step-of (code-in operators q (x .next - 1))) (sym (F.operator-is z r t w)) e) there
               (subst (λ (k : ℕ). O.Forked x k (l .units) u (store work units) (store work′ units′) g) at d)
-              ∙ ap (λ (y : FlatState). going y) (counted work′ units′ g)
+              ∙ ap (λ (y : FlatState). going y) (counted work′ units′ order′ g (h .1))
               ),
-          record { symbols-long = z .symbols-long; scratch-long = z .scratch-long; most = z .most; fit = d .fit; few = z .few },
+          record { symbols-long = z .symbols-long; scratch-long = z .scratch-long; most = z .most; fit = d .fit; order-fits = h .1 .fits; few = z .few },
         )

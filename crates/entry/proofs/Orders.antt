@@ -11,7 +11,7 @@ use lib.Seq.{getD-set-same}
 use Rattle.paper.specs.Strategy.{Step}
 use Rattle.paper.specs.Book.{arity, steps}
 use Rattle.paper.specs.Machine.{Ending}
-use Rattle.flat.specs.Machine.{Frame, FlatUnit, flat-unit, asleep, unit, FlatState, going, ended, with-unit, with-units, with-marks, carry-out, flat-entry, mark, do-step, do-visit, visit}
+use Rattle.flat.specs.Machine.{Frame, FlatUnit, flat-unit, asleep, unit, FlatState, going, ended, with-unit, with-units, with-marks, with-placed, carry-out, flat-entry, mark, do-step, do-visit, visit}
 use Rattle.flat.specs.Rules.{stack}
 use Rattle.flat.proofs.Inside.{visit-within, exit-unit}
 use Rattle.flat.proofs.Sizes.{arguments-inside}
@@ -22,6 +22,8 @@ use Rattle.units.specs.Stacks.{store, busy-in, units-in}
 use Rattle.units.specs.Contracts.{Top-is, Stacks-fit, Has-frame, Cell-idled}
 use Rattle.units.specs.declared.frames.Job.{Job}
 use Rattle.units.specs.declared.frames.Exit.{Exit}
+use Rattle.placing.specs.Order.{placed-in, Order-fits}
+use Rattle.placing.specs.Contracts.{Taken-out}
 use Rattle.orders.specs.Contracts as O
 use Rattle.orders.proofs.Tables.{argument-by, visit-by, argument-place, visit-said}
 use Rattle.orders.proofs.Entries as entries
@@ -31,23 +33,30 @@ use Rattle.entry.specs.State.{state, Arrays}
 use Rattle.entry.specs.Contracts.{Running, Turn, Working, Marked-left, Visited, visit-of, Argument-visited}
 use Rattle.entry.proofs.Facts as F
 
-module _ {bytes operators net symbols scratch work units : List ℕ} {u : ℕ} {p : Progress} {l : Limits} (z : Arrays symbols scratch work units l)
-    (r : Running bytes operators net l (state symbols work units p l)) (t : Turn l u (state symbols work units p l)) where
+module _ {bytes operators net symbols scratch work units order : List ℕ} {u : ℕ} {p : Progress} {l : Limits} (z : Arrays symbols scratch work units order l)
+    (r : Running bytes operators net l (state symbols work units order p l)) (t : Turn l u (state symbols work units order p l)) where
   abbrev s : FlatState
-  s = state symbols work units p l
+  s = state symbols work units order p l
 
-  -- the run goes on from other units, and from the symbols symbols′
-  abbrev pub GoesOn : List ℕ → List ℕ → List ℕ → Type 0
-  GoesOn symbols′ work′ units′ = (going (state symbols′ work′ units′ p l) ≡ flat-entry (F.B z r t) (F.L z r t) u s) × Arrays symbols′ scratch work′ units′ l
+  -- the run goes on from other units, from the symbols symbols′ and the order of placing order′
+  abbrev pub GoesOn : List ℕ → List ℕ → List ℕ → List ℕ → Type 0
+  GoesOn symbols′ work′ units′ order′ =
+      (going (state symbols′ work′ units′ order′ p l) ≡ flat-entry (F.B z r t) (F.L z r t) u s) × Arrays symbols′ scratch work′ units′ order′ l
 
+  went-placed : {work′ units′ order′ : List ℕ} → Stacks-fit (store work′ units′) → Order-fits order′ →
+      flat-entry (F.B z r t) (F.L z r t) u s ≡ going (with-placed (with-units s (units-in (store work′ units′) (l .units))) (placed-in order′)) →
+      GoesOn symbols work′ units′ order′
+  went-placed fit q e =
+      (sym e, record { symbols-long = z .symbols-long; scratch-long = z .scratch-long; most = z .most; fit = fit; order-fits = q; few = z .few })
+
+  -- the order stays
   pub went-on : {work′ units′ : List ℕ} → Stacks-fit (store work′ units′) →
-      flat-entry (F.B z r t) (F.L z r t) u s ≡ going (with-units s (units-in (store work′ units′) (l .units))) → GoesOn symbols work′ units′
-  went-on fit e =
-      (sym e, record { symbols-long = z .symbols-long; scratch-long = z .scratch-long; most = z .most; fit = fit; few = z .few })
+      flat-entry (F.B z r t) (F.L z r t) u s ≡ going (with-units s (units-in (store work′ units′) (l .units))) → GoesOn symbols work′ units′ order
+  went-on fit e = went-placed fit (z .order-fits) e
 
   -- the same with a term marked that has no orders left
   module _ {n a : ℕ} {symbols′ : List ℕ} (m : Marked-left n a symbols symbols′) where
-    pub marked-state : (work′ units′ : List ℕ) → state symbols′ work′ units′ p l ≡ with-marks (with-units s (units-in (store work′ units′) (l .units))) (mark n a (s .marks))
+    pub marked-state : (work′ units′ : List ℕ) → state symbols′ work′ units′ order p l ≡ with-marks (with-units s (units-in (store work′ units′) (l .units))) (mark n a (s .marks))
     marked-state work′ units′ =
         let go : List ℕ → List ℕ → List Bool → FlatState = λ xs zs ms. record {
           symbols = xs;
@@ -57,6 +66,7 @@ module _ {bytes operators net symbols scratch work units : List ℕ} {u : ℕ} {
           rewrites = p .rewrites;
           granted = p .granted;
           kept = p .kept;
+          placed = placed-in order;
         } in
         ap₂ (λ (xs zs : List ℕ). go xs zs (marks-in symbols′)) (m .operators-are) (m .sizes-are) ∙ ap (go (s .symbols) (s .sizes)) (m .marks-are)
 
@@ -65,24 +75,24 @@ module _ {bytes operators net symbols scratch work units : List ℕ} {u : ℕ} {
 
     went-marked : {work′ units′ : List ℕ} → Stacks-fit (store work′ units′) →
         flat-entry (F.B z r t) (F.L z r t) u s ≡ going (with-marks (with-units s (units-in (store work′ units′) (l .units))) (mark n a (s .marks))) →
-        GoesOn symbols′ work′ units′
+        GoesOn symbols′ work′ units′ order
     went-marked fit e = (
       ap (λ (y : FlatState). going y) (marked-state _ _) ∙ sym e,
-      record { symbols-long = m .long ∙ z .symbols-long; scratch-long = z .scratch-long; most = marked-most; fit = fit; few = z .few },
+      record { symbols-long = m .long ∙ z .symbols-long; scratch-long = z .scratch-long; most = marked-most; fit = fit; order-fits = z .order-fits; few = z .few },
     )
 
   -- an idle unit
-  pub stayed : busy-in units u ≡ false → GoesOn symbols work units
+  pub stayed : busy-in units u ≡ false → GoesOn symbols work units order
   stayed e = (sym (F.idle-entry z r t e), z)
 
   -- BINGO
   pub finished : busy-in units u ≡ true → Top-is u Frame.bingo (store work units) →
-      (ended Ending.finished s ≡ flat-entry (F.B z r t) (F.L z r t) u s) × Arrays symbols scratch work units l
+      (ended Ending.finished s ≡ flat-entry (F.B z r t) (F.L z r t) u s) × Arrays symbols scratch work units order l
   unfolding carry-out
   finished b top = (sym (F.entry-is z r t b top), z)
 
   -- SLEEP
-  pub slept : busy-in units u ≡ true → Top-is u Frame.sleep (store work units) → {units′ : List ℕ} → Cell-idled (l .units) u units units′ → GoesOn symbols work units′
+  pub slept : busy-in units u ≡ true → Top-is u Frame.sleep (store work units) → {units′ : List ℕ} → Cell-idled (l .units) u units units′ → GoesOn symbols work units′ order
   slept b top d =
       went-on (d .change work (z .fit) .fit)
       (F.entry-is z r t b top
@@ -103,12 +113,12 @@ module _ {bytes operators net symbols scratch work units : List ℕ} {u : ℕ} {
           other = e .0;
         }
 
-    pub exited : {work′ units′ : List ℕ} → O.Exited x u (store work units) (store work′ units′) → GoesOn symbols work′ units′
-    exited d =
-        went-on (d .fit)
+    pub exited : {work′ units′ order′ : List ℕ} → O.Exited x u (store work units) (store work′ units′) → Taken-out u order order′ → GoesOn symbols work′ units′ order′
+    exited {work′} {units′} d k =
+        went-placed (d .fit) (k .fits)
         (F.entry-is z r t b top
         ∙ entries.exit-entry (F.B z r t) (F.L z r t) u (l .units) s (store work units) refl (t .one) _ (F.below z r t b top) (F.unit-is z r t b top) {x = x} joins-there
-        d)
+        d ∙ ap (λ (vs : List ℕ). going (with-placed (with-units s (units-in (store work′ units′) (l .units))) vs)) (sym (k .is)))
 
   -- A JOB
 
@@ -131,7 +141,7 @@ module _ {bytes operators net symbols scratch work units : List ℕ} {u : ℕ} {
     visit-asks = (F.rowed z r t w, F.has-frame z r t, F.offset-inside z r t w, z .most)
 
     pub visited : x .next ≡ 0 → {symbols′ work′ units′ : List ℕ} →
-        Visited operators (x .offset) u symbols symbols′ (store work units) (store work′ units′) → GoesOn symbols′ work′ units′
+        Visited operators (x .offset) u symbols symbols′ (store work units) (store work′ units′) → GoesOn symbols′ work′ units′ order
     visited none d =
         went-marked (d .marks) (d .stack .change .fit)
         (F.entry-is z r t (w .busy) (w .top)
@@ -205,7 +215,7 @@ module _ {bytes operators net symbols scratch work units : List ℕ} {u : ℕ} {
         visit-argument-asks = record { job = F.can-proceed z r t w; room = visit-fits }
 
         pub visited-argument : {symbols′ work′ units′ : List ℕ} →
-            Argument-visited operators x i u symbols symbols′ (store work units) (store work′ units′) → GoesOn symbols′ work′ units′
+            Argument-visited operators x i u symbols symbols′ (store work units) (store work′ units′) → GoesOn symbols′ work′ units′ order
         visited-argument d =
             went-marked (d .marks) (d .stack .change .fit)
             (F.entry-is z r t (w .busy) (w .top)
@@ -215,7 +225,7 @@ module _ {bytes operators net symbols scratch work units : List ℕ} {u : ℕ} {
 
       -- JOIN
       pub joined : {c : ℕ} → some (Step.join c) ≡ step-of (code-in operators o (x .next - 1)) → {work′ units′ : List ℕ} →
-          O.Joined (steps-in operators o) x (l .units) u (store work units) (store work′ units′) → GoesOn symbols work′ units′
+          O.Joined (steps-in operators o) x (l .units) u (store work units) (store work′ units′) → GoesOn symbols work′ units′ order
       joined {c} e {work′} {units′} d =
           went-on (d .change .fit)
           (F.entry-is z r t (w .busy) (w .top)

@@ -23,6 +23,7 @@ use Rattle.lookup.specs.Contracts.{Present}
 use Rattle.units.specs.Stacks.{store, Below, Offsets, units-in}
 use Rattle.units.proofs.Units.{at-is}
 use Rattle.units.specs.declared.frames.Job.{Job}
+use Rattle.placing.specs.Order.{placed-in}
 use Rattle.orders.specs.Contracts as O
 use Rattle.whole.specs.State as whole
 use Rattle.whole.specs.Contracts as W
@@ -54,12 +55,12 @@ offsets-of m fs h = all-of _ fs below
 offsets-inside : {B : Book} {L : paper.Limits} {s : FlatState} → Rules B L s → All (λ (x : FlatUnit). Offsets (length (s .symbols)) (x .stack)) (s .units)
 offsets-inside {s = s} r = all-units _ (s .units) (λ v. offsets-of (length (s .symbols)) (stack s v) (r .offsets v))
 
-module _ {bytes operators net symbols scratch work units : List ℕ} {u : ℕ} {p : Progress} {l : Limits} (z : Arrays symbols scratch work units l)
-    (r : Running bytes operators net l (state symbols work units p l)) (t : Turn l u (state symbols work units p l)) {x : Job}
+module _ {bytes operators net symbols scratch work units order : List ℕ} {u : ℕ} {p : Progress} {l : Limits} (z : Arrays symbols scratch work units order l)
+    (r : Running bytes operators net l (state symbols work units order p l)) (t : Turn l u (state symbols work units order p l)) {x : Job}
     (w : Working work units u x) (n : Next operators symbols x Step.whole) {y : Place} (at : y .unit ≡ u) (off : y .offset ≡ x .offset)
     (named : y .operator ≡ operator (getD symbols (x .offset) 0)) where
   abbrev s : FlatState
-  s = state symbols work units p l
+  s = state symbols work units order p l
 
   -- WHAT IS ASKED
 
@@ -99,32 +100,32 @@ module _ {bytes operators net symbols scratch work units : List ℕ} {u : ℕ} {
     outcome-is : (a : D.Whole) → W.Carried-out (F.B z r t) y p l (whole.arrays symbols work units) (whole.arrays symbols′ work′ units) a →
         flat-entry (F.B z r t) (F.L z r t) u s ≡
         W.outcome y (x .next) (x .count) (drop (x .next) (steps-in operators (F.o z r t w))) (F.below z r t (w .busy) (w .top)) s
-        (whole.state (whole.arrays symbols′ work′ units) (whole.progress p a) l) a
+        (whole.state (whole.arrays symbols′ work′ units) (whole.progress p a) l (placed-in order)) a
     unfolding do-step
     outcome-is a d =
         let ss = drop (x .next) (steps-in operators (F.o z r t w)) in
         let fs = F.below z r t (w .busy) (w .top) in
-        let s′ = whole.state (whole.arrays symbols′ work′ units) (whole.progress p a) l in
+        let s′ = whole.state (whole.arrays symbols′ work′ units) (whole.progress p a) l (placed-in order) in
         orders.step-entry z r t w (n .one) (n .is)
         ∙ subst₂ (λ (v q : ℕ).
         do-whole (F.B z r t) (F.L z r t) v s q (x .next) (x .count) ss fs (rewrite (arity (F.B z r t)) (F.B z r t .rules) q (s .symbols)) ≡
         W.outcome y (x .next) (x .count) ss fs s s′ a) at off
-        (d .is (x .next) (x .count) ss (Frame.job (x .offset) (x .next) (x .count)) fs (rw at (F.unit-is z r t (w .busy) (w .top))))
+        (d .is (placed-in order) (x .next) (x .count) ss (Frame.job (x .offset) (x .next) (x .count)) fs (rw at (F.unit-is z r t (w .busy) (w .top))))
 
     -- the budget is used up; the term would be too long: nothing has changed
     module _ (scratch′ : List ℕ) (long : length scratch′ ≡ 1024) where
       pub whole-spent : W.Carried-out (F.B z r t) y p l (whole.arrays symbols work units) (whole.arrays symbols′ work′ units) D.Whole.Spent →
-          (ended Ending.spent (state symbols′ work′ units p l) ≡ flat-entry (F.B z r t) (F.L z r t) u s) × Arrays symbols′ scratch′ work′ units l
+          (ended Ending.spent (state symbols′ work′ units order p l) ≡ flat-entry (F.B z r t) (F.L z r t) u s) × Arrays symbols′ scratch′ work′ units order l
       whole-spent d = (
-        ap (λ (q : whole.Arrays). ended Ending.spent (whole.state q p l)) (d .stays) ∙ sym (outcome-is D.Whole.Spent d),
-        record { symbols-long = d .long; scratch-long = long; most = d .most; fit = d .fit; few = z .few },
+        ap (λ (q : whole.Arrays). ended Ending.spent (whole.state q p l (placed-in order))) (d .stays) ∙ sym (outcome-is D.Whole.Spent d),
+        record { symbols-long = d .long; scratch-long = long; most = d .most; fit = d .fit; order-fits = z .order-fits; few = z .few },
       )
 
       pub whole-full : W.Carried-out (F.B z r t) y p l (whole.arrays symbols work units) (whole.arrays symbols′ work′ units) D.Whole.Full →
-          (ended Ending.full (state symbols′ work′ units p l) ≡ flat-entry (F.B z r t) (F.L z r t) u s) × Arrays symbols′ scratch′ work′ units l
+          (ended Ending.full (state symbols′ work′ units order p l) ≡ flat-entry (F.B z r t) (F.L z r t) u s) × Arrays symbols′ scratch′ work′ units order l
       whole-full d = (
-        ap (λ (q : whole.Arrays). ended Ending.full (whole.state q p l)) (d .stays) ∙ sym (outcome-is D.Whole.Full d),
-        record { symbols-long = d .long; scratch-long = long; most = d .most; fit = d .fit; few = z .few },
+        ap (λ (q : whole.Arrays). ended Ending.full (whole.state q p l (placed-in order))) (d .stays) ∙ sym (outcome-is D.Whole.Full d),
+        record { symbols-long = d .long; scratch-long = long; most = d .most; fit = d .fit; order-fits = z .order-fits; few = z .few },
       )
 
     -- a rule rewrote the term
@@ -136,11 +137,11 @@ module _ {bytes operators net symbols scratch work units : List ℕ} {u : ℕ} {
           (outcome-is D.Whole.Rewrote d) .allowed
 
       pub whole-rewrote : (scratch′ : List ℕ) → length scratch′ ≡ 1024 → (p′ : Progress) → p′ ≡ whole.progress p D.Whole.Rewrote →
-          (going (state symbols′ work′ units p′ l) ≡ flat-entry (F.B z r t) (F.L z r t) u s) × Arrays symbols′ scratch′ work′ units l
+          (going (state symbols′ work′ units order p′ l) ≡ flat-entry (F.B z r t) (F.L z r t) u s) × Arrays symbols′ scratch′ work′ units order l
       whole-rewrote scratch′ long p′ e =
-          subst (λ (q : Progress). (going (state symbols′ work′ units q l) ≡ flat-entry (F.B z r t) (F.L z r t) u s) × Arrays symbols′ scratch′ work′ units l) (sym e) (
+          subst (λ (q : Progress). (going (state symbols′ work′ units order q l) ≡ flat-entry (F.B z r t) (F.L z r t) u s) × Arrays symbols′ scratch′ work′ units order l) (sym e) (
             sym (outcome-is D.Whole.Rewrote d),
-            record { symbols-long = d .long; scratch-long = long; most = d .most; fit = d .fit; few = z .few },
+            record { symbols-long = d .long; scratch-long = long; most = d .most; fit = d .fit; order-fits = z .order-fits; few = z .few },
           )
 
     -- no rule matches: nothing has changed yet, and the job goes on
@@ -166,7 +167,7 @@ module _ {bytes operators net symbols scratch work units : List ℕ} {u : ℕ} {
       pub whole-missed : (scratch′ : List ℕ) → length scratch′ ≡ 1024 → {symbols″ work″ units″ : List ℕ} →
           O.Proceeded (steps-in operators (F.o z r t w)) x u (store work′ units) (store work″ units″) →
           Marked-left (length (drop (x .next) (steps-in operators (F.o z r t w)))) (y .offset) symbols′ symbols″ →
-          (going (state symbols″ work″ units″ p l) ≡ flat-entry (F.B z r t) (F.L z r t) u s) × Arrays symbols″ scratch′ work″ units″ l
+          (going (state symbols″ work″ units″ order p l) ≡ flat-entry (F.B z r t) (F.L z r t) u s) × Arrays symbols″ scratch′ work″ units″ order l
       whole-missed scratch′ long {symbols″} {work″} {units″} q k =
           let ss = steps-in operators (F.o z r t w) in
           let fs = F.below z r t (w .busy) (w .top) in
@@ -185,6 +186,7 @@ module _ {bytes operators net symbols scratch work units : List ℕ} {u : ℕ} {
               scratch-long = long;
               most = orders.marked-most z r t m;
               fit = c .change .fit;
+              order-fits = z .order-fits;
               few = z .few;
             },
           )

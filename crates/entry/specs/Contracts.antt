@@ -1,6 +1,6 @@
 -- One entry (document 01, 'Orders of a unit'): what it asks of the state, and that its outcome is the machine's on lists. Assumes nothing.
-use mathlib.Core.Bool.{Bool, true, false}
-use mathlib.Core.List.{List}
+use mathlib.Core.Bool.{true}
+use mathlib.Core.List.{List, _∷_}
 use mathlib.Core.Option.{some}
 use mathlib.Core.Path.{_≡_}
 use Prim.Native.Nat.{ℕ, suc, _+_, _-_, _^_, _≤_, _<_}
@@ -16,7 +16,10 @@ use Rattle.term.specs.Present.{length-in, operators-in, marks-in, sizes-in}
 use Rattle.net.specs.Net.{book-by, NetOf}
 use Rattle.units.specs.Stacks.{busy-in, Store, store}
 use Rattle.units.specs.Contracts.{Top-is}
+use Rattle.units.specs.declared.Idle as I
 use Rattle.units.specs.declared.frames.Job.{Job}
+use Rattle.placing.specs.Order.{placed-in, Order-fits}
+use Rattle.placing.specs.Contracts as C
 use Rattle.orders.specs.Contracts as O
 use Rattle.whole.specs.declared.Progress.{Progress}
 use Rattle.whole.specs.declared.Limits.{Limits}
@@ -51,10 +54,28 @@ outcome Entry.Finished s = ended Ending.finished s
 outcome Entry.Spent s = ended Ending.spent s
 outcome Entry.Full s = ended Ending.full s
 
--- the progress behind a FORK that was granted or kept
-abbrev pub forked : Progress → Bool → Progress
-forked p true = record { rewrites = p .rewrites; granted = suc (p .granted); kept = p .kept }
-forked p false = record { rewrites = p .rewrites; granted = p .granted; kept = suc (p .kept) }
+-- the progress behind a FORK that a unit got, or that was kept
+abbrev pub forked : Progress → I.Idle → Progress
+forked p (I.the-variants.Unit v) = record { rewrites = p .rewrites; granted = suc (p .granted); kept = p .kept }
+forked p I.the-variants.None = record { rewrites = p .rewrites; granted = p .granted; kept = suc (p .kept) }
+
+-- the order of placing behind it
+abbrev pub placed-by : I.Idle → List ℕ → List ℕ
+placed-by (I.the-variants.Unit v) vs = v ∷ vs
+placed-by I.the-variants.None vs = vs
+
+-- there is room for a part that a unit got; it has been placed
+abbrev pub Room-for : I.Idle → List ℕ → Type 0
+Room-for (I.the-variants.Unit v) order = C.Can-place order v
+Room-for I.the-variants.None order = Unit {0}
+
+pub record Can-place (got : I.Idle) (order : List ℕ) : Type 0 where
+  pub fits : Order-fits order
+  pub room : Room-for got order
+
+pub record Placed (got : I.Idle) (order order′ : List ℕ) : Type 0 where
+  pub fits : Order-fits order′
+  pub is : placed-in order′ ≡ placed-by got (placed-in order)
 
 -- the unit u is busy with the job x on top of its stack
 pub record Working (work units : List ℕ) (u : ℕ) (x : Job) : Type 0 where

@@ -11,6 +11,7 @@ use Rattle.flat.specs.Machine.{FlatState}
 use Rattle.term.specs.Present.{length-in}
 use Rattle.units.specs.Stacks.{store}
 use Rattle.units.specs.Contracts.{Stacks-fit}
+use Rattle.placing.specs.Order.{placed-in, Order-fits}
 use Rattle.whole.specs.State as whole
 use Rattle.whole.specs.declared.Progress.{Progress}
 use Rattle.whole.specs.declared.Limits.{Limits}
@@ -19,13 +20,14 @@ use Rattle.whole.specs.declared.Limits.{Limits}
 abbrev pub limited : ℕ → paper.Limits
 limited budget = record { budget = budget; symbols = some symbol-limit }
 
-abbrev pub state : List ℕ → List ℕ → List ℕ → Progress → Limits → FlatState
-state symbols work units p l = whole.state (whole.arrays symbols work units) p l
+abbrev pub state : List ℕ → List ℕ → List ℕ → List ℕ → Progress → Limits → FlatState
+state symbols work units order p l = whole.state (whole.arrays symbols work units) p l (placed-in order)
 
 -- the arrays' lengths, and that what is kept lies within them; scratch is room for a filled right side
-pub record Arrays (symbols scratch work units : List ℕ) (l : Limits) : Type 0 where
+pub record Arrays (symbols scratch work units order : List ℕ) (l : Limits) : Type 0 where
   pub symbols-long : length symbols ≡ 1024
   pub scratch-long : length scratch ≡ 1024
   pub most : length-in symbols ≤ 1024
   pub fit : Stacks-fit (store work units)
+  pub order-fits : Order-fits order
   pub few : l .units ≤ 8

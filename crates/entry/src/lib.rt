@@ -1,6 +1,7 @@
 // One schedule entry (document 01, 'Orders of a unit'): a busy unit carries out the order of its top frame, for an idle one nothing happens.
 use tables::Step;
 use units::Frame;
+use units::Idle;
 use units::Job;
 use whole::Limits;
 use whole::Place;
@@ -38,16 +39,20 @@ struct Task {
     operator: u8,
 }
 
-// A FORK has been carried out.
-fn forked(p: Progress, granted: bool) -> Progress
-    requires { ⌜ p .granted + p .kept + 1 < 2 ^ 64 ⌝ }
-    ensures { λ r. ⌜ r ≡ E.forked p granted ⌝ }
+// A FORK has been carried out: a part that a unit got is placed, any other was kept.
+fn forked(order: &mut [u16; 1024], p: Progress, got: Idle) -> Progress
+    requires { ⌜ (p .granted + p .kept + 1 < 2 ^ 64) × E.Can-place got (now order) ⌝ }
+    ensures { λ r. ⌜ (r ≡ E.forked p got) × E.Placed got (now (order .entry)) (now (order .exit)) ⌝ }
 {
     let mut next = p;
-    if granted {
-        next.granted = p.granted + 1;
-    } else {
-        next.kept = p.kept + 1;
+    match got {
+        Idle::Unit(v) => {
+            placing::place(order, v);
+            next.granted = p.granted + 1;
+        }
+        Idle::None => {
+            next.kept = p.kept + 1;
+        }
     }
     next
 }
@@ -123,7 +128,7 @@ fn visit_argument(
     mark_last(operators, symbols, p, 0, at);
 }
 
-// WHOLE of the job.
+// WHOLE of the job. The order of placing stays: it is lent for the state that the contract names.
 fn rewrite(
     book: &[u8],
     operators: &[u8; 4352],
@@ -132,17 +137,18 @@ fn rewrite(
     scratch: &mut [u32; 1024],
     work: &mut [u8],
     units: &mut [u32; 8],
+    order: &[u16; 1024],
     task: Task,
     p: Progress,
     l: Limits,
 ) -> Entry
     ghost { FlatState }
-    requires { λ s. ⌜ S.state (now symbols) (now work) (now units) p l ≡ s ⌝ }
-    requires { λ s. ⌜ S.Arrays (now symbols) (now scratch) (now work) (now units) l ⌝ }
+    requires { λ s. ⌜ S.state (now symbols) (now work) (now units) (now order) p l ≡ s ⌝ }
+    requires { λ s. ⌜ S.Arrays (now symbols) (now scratch) (now work) (now units) (now order) l ⌝ }
     requires { λ s. ⌜ E.Running (now book) (now operators) (now net) l s × E.Turn l (task .unit) s × E.Working (now work) (now units) (task .unit) (task .job) × (task .operator ≡ operator (getD (now symbols) (task .job .offset) 0)) ⌝ }
     requires { λ s. ⌜ E.Next (now operators) (now symbols) (task .job) P.Step.whole ⌝ }
-    ensures { λ s r. ⌜ E.outcome r (S.state (now (symbols .exit)) (now (work .exit)) (now (units .exit)) (E.after p r) l) ≡ E.entered (now (book .entry)) (now (net .entry)) l (task .unit) s ⌝ }
-    ensures { λ s r. ⌜ S.Arrays (now (symbols .exit)) (now (scratch .exit)) (now (work .exit)) (now (units .exit)) l ⌝ }
+    ensures { λ s r. ⌜ E.outcome r (S.state (now (symbols .exit)) (now (work .exit)) (now (units .exit)) (now (order .entry)) (E.after p r) l) ≡ E.entered (now (book .entry)) (now (net .entry)) l (task .unit) s ⌝ }
+    ensures { λ s r. ⌜ S.Arrays (now (symbols .exit)) (now (scratch .exit)) (now (work .exit)) (now (units .exit)) (now (order .entry)) l ⌝ }
 {
     let u = task.unit;
     let job = task.job;
@@ -185,17 +191,18 @@ fn step(
     scratch: &mut [u32; 1024],
     work: &mut [u8],
     units: &mut [u32; 8],
+    order: &mut [u16; 1024],
     task: Task,
     p: Progress,
     l: Limits,
 ) -> Entry
     ghost { FlatState }
-    requires { λ s. ⌜ S.state (now symbols) (now work) (now units) p l ≡ s ⌝ }
-    requires { λ s. ⌜ S.Arrays (now symbols) (now scratch) (now work) (now units) l ⌝ }
+    requires { λ s. ⌜ S.state (now symbols) (now work) (now units) (now order) p l ≡ s ⌝ }
+    requires { λ s. ⌜ S.Arrays (now symbols) (now scratch) (now work) (now units) (now order) l ⌝ }
     requires { λ s. ⌜ E.Running (now book) (now operators) (now net) l s × E.Turn l (task .unit) s × E.Working (now work) (now units) (task .unit) (task .job) × (task .operator ≡ operator (getD (now symbols) (task .job .offset) 0)) ⌝ }
     requires { λ s. ⌜ 1 ≤ task .job .next ⌝ }
-    ensures { λ s r. ⌜ E.outcome r (S.state (now (symbols .exit)) (now (work .exit)) (now (units .exit)) (E.after p r) l) ≡ E.entered (now (book .entry)) (now (net .entry)) l (task .unit) s ⌝ }
-    ensures { λ s r. ⌜ S.Arrays (now (symbols .exit)) (now (scratch .exit)) (now (work .exit)) (now (units .exit)) l ⌝ }
+    ensures { λ s r. ⌜ E.outcome r (S.state (now (symbols .exit)) (now (work .exit)) (now (units .exit)) (now (order .exit)) (E.after p r) l) ≡ E.entered (now (book .entry)) (now (net .entry)) l (task .unit) s ⌝ }
+    ensures { λ s r. ⌜ S.Arrays (now (symbols .exit)) (now (scratch .exit)) (now (work .exit)) (now (units .exit)) (now (order .exit)) l ⌝ }
 {
     let u = task.unit;
     let job = task.job;
@@ -207,8 +214,8 @@ fn step(
         }
         Step::Fork(i) => {
             let b = orders::argument(symbols, job, i);
-            let granted = orders::fork(work, units, l.units, u, job, b);
-            Entry::Going(forked(p, granted))
+            let got = orders::fork(work, units, l.units, u, job, b);
+            Entry::Going(forked(order, p, got))
         }
         Step::Join(_) => {
             orders::join(operators, work, units, l.units, u, o, job);
@@ -223,6 +230,7 @@ fn step(
             scratch,
             work,
             units,
+            order,
             task,
             p,
             l,
@@ -239,16 +247,17 @@ fn carry_out(
     scratch: &mut [u32; 1024],
     work: &mut [u8],
     units: &mut [u32; 8],
+    order: &mut [u16; 1024],
     task: Task,
     p: Progress,
     l: Limits,
 ) -> Entry
     ghost { FlatState }
-    requires { λ s. ⌜ S.state (now symbols) (now work) (now units) p l ≡ s ⌝ }
-    requires { λ s. ⌜ S.Arrays (now symbols) (now scratch) (now work) (now units) l ⌝ }
+    requires { λ s. ⌜ S.state (now symbols) (now work) (now units) (now order) p l ≡ s ⌝ }
+    requires { λ s. ⌜ S.Arrays (now symbols) (now scratch) (now work) (now units) (now order) l ⌝ }
     requires { λ s. ⌜ E.Running (now book) (now operators) (now net) l s × E.Turn l (task .unit) s × E.Working (now work) (now units) (task .unit) (task .job) × (task .operator ≡ operator (getD (now symbols) (task .job .offset) 0)) ⌝ }
-    ensures { λ s r. ⌜ E.outcome r (S.state (now (symbols .exit)) (now (work .exit)) (now (units .exit)) (E.after p r) l) ≡ E.entered (now (book .entry)) (now (net .entry)) l (task .unit) s ⌝ }
-    ensures { λ s r. ⌜ S.Arrays (now (symbols .exit)) (now (scratch .exit)) (now (work .exit)) (now (units .exit)) l ⌝ }
+    ensures { λ s r. ⌜ E.outcome r (S.state (now (symbols .exit)) (now (work .exit)) (now (units .exit)) (now (order .exit)) (E.after p r) l) ≡ E.entered (now (book .entry)) (now (net .entry)) l (task .unit) s ⌝ }
+    ensures { λ s r. ⌜ S.Arrays (now (symbols .exit)) (now (scratch .exit)) (now (work .exit)) (now (units .exit)) (now (order .exit)) l ⌝ }
 {
     if task.job.next == 0 {
         visit(operators, symbols, work, units, task);
@@ -262,6 +271,7 @@ fn carry_out(
         scratch,
         work,
         units,
+        order,
         task,
         p,
         l,
@@ -277,16 +287,17 @@ pub fn enter(
     scratch: &mut [u32; 1024],
     work: &mut [u8],
     units: &mut [u32; 8],
+    order: &mut [u16; 1024],
     u: usize,
     p: Progress,
     l: Limits,
 ) -> Entry
     ghost { FlatState }
-    requires { λ s. ⌜ S.state (now symbols) (now work) (now units) p l ≡ s ⌝ }
-    requires { λ s. ⌜ S.Arrays (now symbols) (now scratch) (now work) (now units) l ⌝ }
+    requires { λ s. ⌜ S.state (now symbols) (now work) (now units) (now order) p l ≡ s ⌝ }
+    requires { λ s. ⌜ S.Arrays (now symbols) (now scratch) (now work) (now units) (now order) l ⌝ }
     requires { λ s. ⌜ E.Running (now book) (now operators) (now net) l s × E.Turn l u s ⌝ }
-    ensures { λ s r. ⌜ E.outcome r (S.state (now (symbols .exit)) (now (work .exit)) (now (units .exit)) (E.after p r) l) ≡ E.entered (now (book .entry)) (now (net .entry)) l u s ⌝ }
-    ensures { λ s r. ⌜ S.Arrays (now (symbols .exit)) (now (scratch .exit)) (now (work .exit)) (now (units .exit)) l ⌝ }
+    ensures { λ s r. ⌜ E.outcome r (S.state (now (symbols .exit)) (now (work .exit)) (now (units .exit)) (now (order .exit)) (E.after p r) l) ≡ E.entered (now (book .entry)) (now (net .entry)) l u s ⌝ }
+    ensures { λ s r. ⌜ S.Arrays (now (symbols .exit)) (now (scratch .exit)) (now (work .exit)) (now (units .exit)) (now (order .exit)) l ⌝ }
 {
     if !units::is_busy(units, u) {
         return Entry::Going(p);
@@ -302,6 +313,7 @@ pub fn enter(
                 scratch,
                 work,
                 units,
+                order,
                 Task {
                     unit: u,
                     job,
@@ -313,6 +325,7 @@ pub fn enter(
         }
         Frame::Exit(exit) => {
             orders::exit(work, units, u, exit);
+            placing::take_out(order, u);
             Entry::Going(p)
         }
         Frame::Sleep => {

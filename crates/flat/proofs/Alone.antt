@@ -35,18 +35,22 @@ module _ (B : Book) where
     abbrev No-exits : List Placed → Type 0
     No-exits gs = (w i : ℕ) (p : Position) (j : ℕ) → In (Placed.exit w i p j) gs → ⊥
 
+    around : (p q : Position) (o k c m : ℕ) (gs : List Placed) → Under B p (Placed.job q o k c m ∷ gs) → Child q p
+    around p q o zero c m gs u = absurd u
+    around p q o (suc k) c m gs u = (u .0, u .1)
+
     -- the jobs of a stack on which the job of the term at p stands are before it
     before : (p : Position) (gs : List Placed) → Under B p gs → Stacked B gs → GoodFrames B t gs → No-exits gs → (x j d : ℕ) →
         In (Frame.job x j d) (stack-of t gs) → x < offset p t
     unfolding frame-of
     before p [] u s g n x j d h = absurd u
     before p (Placed.job q o k c m ∷ gs) u s g n x j d (inl e) =
-        let e₁ : x ≡ offset q t = cc in omega (arith, e₁, child-behind q p t (rooted-of q o k c m (g .0) .0) u)
+        let e₁ : x ≡ offset q t = cc in omega (arith, e₁, child-behind q p t (rooted-of q o k c m (g .0) .0) (around p q o k c m gs u))
     before p (Placed.job q o k c m ∷ gs) u s g n x j d (inr h) =
         omega (
           arith,
           before q gs (s .0) (s .1) (g .1) (λ w i r z a. n w i r z (inr a)) x j d h,
-          child-behind q p t (rooted-of q o k c m (g .0) .0) u,
+          child-behind q p t (rooted-of q o k c m (g .0) .0) (around p q o k c m gs u),
         )
     before p (Placed.exit w i q m ∷ gs) u s g n x j d h = absurd (n w i q m (inl refl))
     before p (Placed.sleep ∷ gs) u s g n x j d h = absurd u

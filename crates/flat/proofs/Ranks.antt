@@ -94,10 +94,10 @@ pub place-past : (v w : ℕ) (q : List ℕ) → v ≢ w → place v (w ∷ q) �
 unfolding place
 place-past v w q e = rw (eqb-false v w e, place)
 
-times-here : (v w : ℕ) (q : List ℕ) → v ≡ w → times v (w ∷ q) ≡ suc (times v q)
+pub times-here : (v w : ℕ) (q : List ℕ) → v ≡ w → times v (w ∷ q) ≡ suc (times v q)
 times-here v w q e = omega (arith, times-cons v w q, same-is v w 1 e)
 
-times-past : (v w : ℕ) (q : List ℕ) → v ≢ w → times v (w ∷ q) ≡ times v q
+pub times-past : (v w : ℕ) (q : List ℕ) → v ≢ w → times v (w ∷ q) ≡ times v q
 times-past v w q e = omega (arith, times-cons v w q, other-is v w 1 e)
 
 behind-back : (r : ℕ) → 1 ≤ behind r → 1 ≤ r
@@ -105,7 +105,7 @@ unfolding behind
 behind-back zero l = l
 behind-back (suc r) l = omega arith
 
-behind-some : (r : ℕ) → 1 ≤ r → behind r ≡ suc r
+pub behind-some : (r : ℕ) → 1 ≤ r → behind r ≡ suc r
 unfolding behind
 behind-some zero l = absurd (omega arith)
 behind-some (suc r) l = refl

@@ -17,7 +17,7 @@ use Rattle.flat.specs.Machine.{FlatUnit, FlatState}
 use Rattle.flat.specs.Rules.{stack}
 use Rattle.flat.specs.Relation.{Placed, at, list-of}
 use Rattle.flat.proofs.Stacks.{stack-length, list-at, unit-at}
-use Rattle.flat.proofs.Run.{FlatInv, flat-inv}
+use Rattle.flat.proofs.Course.{FlatInv, flat-inv}
 
 -- the orders of a unit's blocks are some
 root-some : (D : Ghost) (bs : List Block) → Same bs (all D) → 1 ≤ length (Blocks.list-of 0 bs)

@@ -1,6 +1,10 @@
 pub mod Symbols
 pub mod Sizes
 pub mod Machine
-pub mod Run
 pub mod Rules
 pub mod Relation
+pub mod Meets
+pub mod Run
+pub mod Parts
+pub mod Tested
+pub mod Form

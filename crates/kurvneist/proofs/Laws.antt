@@ -24,6 +24,7 @@ use Rattle.batch.specs.Spec.{doneBy}
 use Rattle.batch.specs.declared.Batch as D
 use Rattle.fees.specs.Spec as F
 use Rattle.fees.specs.declared.Charged as G
+use Rattle.points.specs.Spec as P
 use Rattle.settlement.specs.Spec as S
 use Rattle.settlement.specs.declared.Settled as T
 use Rattle.writer.specs.Spec.{Answers}
@@ -46,6 +47,22 @@ pub reduced : {read : LineReader} {book line : List ℕ} {units budget day : ℕ
     (n ≡ X.refusal (R.values r)) × (answer′ ≡ X.value-numbers (R.values r)) →
     X.Reduced-in-numbers-by read book line units budget day schedule work net output work′ net′ output′ answer′ n
 reduced {r = r} q e =
+    record { number = e .0 ∙ ap X.refusal (q .answer); values = e .1 ∙ ap X.value-numbers (q .answer); answer = r; buffers = q }
+
+-- of a run with a name, and of a resumption
+pub parked : {read : LineReader} {book line : List ℕ} {units budget day : ℕ} {schedule name work net points output work′ net′ points′ output′ answer′ : List ℕ} {n : ℕ}
+    {r : A.Answer} →
+    P.ParkedBy read book line units budget day schedule name work net points output work′ net′ points′ output′ r →
+    (n ≡ X.refusal (R.values r)) × (answer′ ≡ X.value-numbers (R.values r)) →
+    X.Parked-in-numbers-by read book line units budget day schedule name work net points output work′ net′ points′ output′ answer′ n
+parked {r = r} q e =
+    record { number = e .0 ∙ ap X.refusal (q .answer); values = e .1 ∙ ap X.value-numbers (q .answer); answer = r; buffers = q }
+
+pub resumed : {name schedule work net points output work′ net′ points′ output′ answer′ : List ℕ} {n : ℕ} {r : A.Answer} →
+    P.ResumedBy name schedule work net points output work′ net′ points′ output′ r →
+    (n ≡ X.refusal (R.values r)) × (answer′ ≡ X.value-numbers (R.values r)) →
+    X.Resumed-in-numbers name schedule work net points output work′ net′ points′ output′ answer′ n
+resumed {r = r} q e =
     record { number = e .0 ∙ ap X.refusal (q .answer); values = e .1 ∙ ap X.value-numbers (q .answer); answer = r; buffers = q }
 
 -- the answer of many lines as numbers

@@ -19,6 +19,7 @@ use Rattle.batch.specs.declared.Batch as D
 use Rattle.fees.specs.Fees.{charge}
 use Rattle.fees.specs.Spec as F
 use Rattle.fees.specs.declared.Charged as G
+use Rattle.points.specs.Spec as P
 use Rattle.settlement.specs.Spec as S
 use Rattle.settlement.specs.declared.Settled as T
 use Rattle.writer.specs.Spec.{Answers}
@@ -51,6 +52,29 @@ Reduced-in-numbers = Reduced-in-numbers-by readLine
 -- of a payee's text
 abbrev pub Payee-in-numbers : List ℕ → List ℕ → ℕ → ℕ → ℕ → List ℕ → List ℕ → List ℕ → List ℕ → List ℕ → List ℕ → List ℕ → List ℕ → ℕ → Type 0
 Payee-in-numbers = Reduced-in-numbers-by readText
+
+-- RUNS WITH A NAME: of a line or text that is given, and of one that was parked
+
+module _ (read : LineReader) (book line : List ℕ) (units budget day : ℕ) (schedule name work net points output : List ℕ) where
+  pub record Parked-in-numbers-by (work′ net′ points′ output′ answer′ : List ℕ) (r : ℕ) : Type 0 where
+    -- the definition's number and values
+    pub number : r ≡ refusal (R.values-of (P.told (P.parked read book line units budget day schedule name work net points output)))
+    pub values : answer′ ≡ value-numbers (R.values-of (P.told (P.parked read book line units budget day schedule name work net points output)))
+    -- what becomes of the lent buffers, clause by clause
+    pub answer : A.Answer
+    pub buffers : P.ParkedBy read book line units budget day schedule name work net points output work′ net′ points′ output′ answer
+
+abbrev pub Parked-in-numbers : List ℕ → List ℕ → ℕ → ℕ → ℕ → List ℕ → List ℕ → List ℕ → List ℕ → List ℕ → List ℕ → List ℕ → List ℕ → List ℕ → List ℕ → List ℕ → ℕ → Type 0
+Parked-in-numbers = Parked-in-numbers-by readLine
+
+abbrev pub Payee-parked-in-numbers : List ℕ → List ℕ → ℕ → ℕ → ℕ → List ℕ → List ℕ → List ℕ → List ℕ → List ℕ → List ℕ → List ℕ → List ℕ → List ℕ → List ℕ → List ℕ → ℕ → Type 0
+Payee-parked-in-numbers = Parked-in-numbers-by readText
+
+pub record Resumed-in-numbers (name schedule work net points output work′ net′ points′ output′ answer′ : List ℕ) (r : ℕ) : Type 0 where
+  pub number : r ≡ refusal (P.flat-values-of (P.told (P.resumed name schedule work net points output)))
+  pub values : answer′ ≡ value-numbers (P.flat-values-of (P.told (P.resumed name schedule work net points output)))
+  pub answer : A.Answer
+  pub buffers : P.ResumedBy name schedule work net points output work′ net′ points′ output′ answer
 
 -- MANY LINES: lines done, bytes of the lines, bytes of records, the stop's number
 abbrev pub done-numbers : Result B.Values → List ℕ

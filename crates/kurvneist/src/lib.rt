@@ -13,6 +13,7 @@ ghost use mathlib.Core.Path.{_≡_};
 ghost use mathlib.Core.List.{_∷_, []};
 ghost use lib.ListN.{length};
 ghost use Rattle.engine.specs.Spec.{published, values};
+ghost use Rattle.parking.specs.Points.{points-length};
 ghost use Rattle.records.specs.Record.{longest};
 ghost use Rattle.batch.specs.Lines.{stop-number};
 ghost use Rattle.batch.specs.Spec as B;
@@ -130,6 +131,107 @@ pub extern "C" fn kurvneist_payee(
         (now (net .entry)) (now (output .entry)) (now (work .exit)) (now (net .exit)) (now (output .exit)) (now (answer .exit)) r ⌝ }
 {
     let a = engine::payee(book, text, units, budget, day, schedule, work, net, output);
+    put_answer(a, answer)
+}
+
+// The bytes of a buffer of named points.
+#[no_mangle]
+pub extern "C" fn kurvneist_points_length() -> usize
+    ensures { λ r. ⌜ r ≡ points-length ⌝ }
+{
+    points::POINTS
+}
+
+// A run of a line under a name: if it ends cut, it is saved in the points.
+#[no_mangle]
+pub extern "C" fn kurvneist_park(
+    book: &[u8],
+    line: &[u8],
+    units: u8,
+    budget: u32,
+    day: u16,
+    schedule: &[u8],
+    name: &[u8],
+    work: &mut [u8],
+    net: &mut [u8],
+    points: &mut [u8],
+    output: &mut [u8],
+    answer: &mut [u64; 6],
+) -> u8
+    requires { ⌜ length (now answer) ≡ 6 ⌝ }
+    ensures { λ r. ⌜ X.Parked-in-numbers (now (book .entry)) (now (line .entry)) units budget day (now (schedule .entry)) (now (name .entry)) (now (work .entry))
+        (now (net .entry)) (now (points .entry)) (now (output .entry)) (now (work .exit)) (now (net .exit)) (now (points .exit)) (now (output .exit)) (now (answer .exit)) r ⌝ }
+{
+    let a = points::park(
+        Form::Term,
+        book,
+        line,
+        units,
+        budget,
+        day,
+        schedule,
+        name,
+        work,
+        net,
+        points,
+        output,
+    );
+    put_answer(a, answer)
+}
+
+// The same of a payee's text.
+#[no_mangle]
+pub extern "C" fn kurvneist_park_payee(
+    book: &[u8],
+    text: &[u8],
+    units: u8,
+    budget: u32,
+    day: u16,
+    schedule: &[u8],
+    name: &[u8],
+    work: &mut [u8],
+    net: &mut [u8],
+    points: &mut [u8],
+    output: &mut [u8],
+    answer: &mut [u64; 6],
+) -> u8
+    requires { ⌜ length (now answer) ≡ 6 ⌝ }
+    ensures { λ r. ⌜ X.Payee-parked-in-numbers (now (book .entry)) (now (text .entry)) units budget day (now (schedule .entry)) (now (name .entry)) (now (work .entry))
+        (now (net .entry)) (now (points .entry)) (now (output .entry)) (now (work .exit)) (now (net .exit)) (now (points .exit)) (now (output .exit)) (now (answer .exit)) r ⌝ }
+{
+    let a = points::park(
+        Form::Text,
+        book,
+        text,
+        units,
+        budget,
+        day,
+        schedule,
+        name,
+        work,
+        net,
+        points,
+        output,
+    );
+    put_answer(a, answer)
+}
+
+// The run that was saved under a name goes on.
+#[no_mangle]
+pub extern "C" fn kurvneist_resume(
+    name: &[u8],
+    schedule: &[u8],
+    work: &mut [u8],
+    net: &mut [u8],
+    points: &mut [u8],
+    output: &mut [u8],
+    answer: &mut [u64; 6],
+) -> u8
+    requires { ⌜ length (now answer) ≡ 6 ⌝ }
+    ensures { λ r. ⌜ X.Resumed-in-numbers (now (name .entry)) (now (schedule .entry)) (now (work .entry)) (now (net .entry)) (now (points .entry)) (now (output .entry))
+        (now (work .exit)) (now (net .exit)) (now (points .exit)) (now (output .exit)) (now (answer .exit)) r ⌝ }
+{
+    let a = resumption::resume(name, schedule, work, net, points, output);
     put_answer(a, answer)
 }
 

@@ -1,7 +1,7 @@
 -- The orders as entries of the machine on lists: what each function ensures is the state that the machine goes on with, by the book whose tables the
 -- code has. Assumes nothing.
 use mathlib.Core.Path.{_≡_, refl, sym, ap, ap₂, _∙_}
-use mathlib.Core.Bool.{Bool, true, false}
+use mathlib.Core.Bool.{Bool, true}
 use mathlib.Core.List.{List, _∷_}
 use mathlib.Core.Logic.{_≢_}
 use mathlib.Core.Option.{Option, none, some}
@@ -11,15 +11,16 @@ use lib.ListN.{length, getD, drop}
 use lib.ListN.{set as put}
 use Rattle.paper.specs.Strategy.{Step}
 use Rattle.paper.specs.Book.{Book}
-use Rattle.paper.specs.Machine.{Limits}
+use Rattle.paper.specs.Machine.{Limits, take-out}
 use Rattle.paper.specs.Sound.{All}
-use Rattle.flat.specs.Machine.{Frame, FlatUnit, flat-unit, unit, FlatState, FlatOutcome, going, with-units, with-marks, next-count, proceed, mark, visit, idle-count, first-idle, leave, arrive, do-visit, do-fork, do-join, do-step, carry-out}
+use Rattle.flat.specs.Machine.{Frame, FlatUnit, flat-unit, unit, FlatState, FlatOutcome, going, with-units, with-marks, with-placed, next-count, proceed, mark, visit, idle-count, first-idle, leave, arrive, do-visit, do-fork, do-join, do-step, carry-out}
 use Rattle.tables.specs.Layout.{step-of, code-in, steps-in}
 use Rattle.tables.specs.Tables.{Tables}
 use Rattle.tables.proofs.Rows.{here-is}
 use Rattle.flat.proofs.Idle.{idle-other}
 use Rattle.units.specs.Stacks.{height-in, Store, units-in}
-use Rattle.units.specs.Contracts.{Stacks-fit, dropped, at, Changed, Cell-idled}
+use Rattle.units.specs.Contracts.{Stacks-fit, dropped, at, Changed, Cell-idled, answer}
+use Rattle.units.specs.declared.Idle.{Idle}
 use Rattle.units.specs.declared.frames.Job.{Job}
 use Rattle.units.specs.declared.frames.Exit.{Exit}
 use Rattle.units.proofs.Units.{height-at, at-is, at-else}
@@ -41,18 +42,33 @@ use Rattle.orders.specs.Contracts.{
   keeps,
   given,
   forks,
-  grants,
   Forked,
 }
 use Rattle.orders.proofs.Steps.{proceed-some}
 use Rattle.orders.proofs.Tables.{rowed-said, steps-said, argument-by, argument-said, to-do-said, visit-said}
 
--- the state with other units, after a FORK that was granted or kept
-abbrev pub counted-fork : FlatState → List FlatUnit → Bool → FlatState
-counted-fork s us true =
-    record { symbols = s .symbols; sizes = s .sizes; marks = s .marks; units = us; rewrites = s .rewrites; granted = suc (s .granted); kept = s .kept }
-counted-fork s us false =
-    record { symbols = s .symbols; sizes = s .sizes; marks = s .marks; units = us; rewrites = s .rewrites; granted = s .granted; kept = suc (s .kept) }
+-- the state with other units, after a FORK that unit v got, or that was kept
+abbrev pub counted-fork : FlatState → List FlatUnit → Option ℕ → FlatState
+counted-fork s us (some v) = record {
+  symbols = s .symbols;
+  sizes = s .sizes;
+  marks = s .marks;
+  units = us;
+  rewrites = s .rewrites;
+  granted = suc (s .granted);
+  kept = s .kept;
+  placed = v ∷ s .placed;
+}
+counted-fork s us none = record {
+  symbols = s .symbols;
+  sizes = s .sizes;
+  marks = s .marks;
+  units = us;
+  rewrites = s .rewrites;
+  granted = s .granted;
+  kept = suc (s .kept);
+  placed = s .placed;
+}
 
 -- unit u, one of n, is busy with the frame f on top of fs; t is how the units are kept
 module _ (B : Book) (L : Limits) (u n : ℕ) (s : FlatState) (t : Store) (us : s .units ≡ units-in t n) (l : u < n) (f : Frame) (fs : List Frame)
@@ -85,9 +101,9 @@ module _ (B : Book) (L : Limits) (u n : ℕ) (s : FlatState) (t : Store) (us : s
   sleep-entry q z d = changed (flat-unit last (Frame.sleep ∷ fs)) (d .change (t .work) z) (ap₂ (λ (r : ℕ) (y : Frame). flat-unit r (y ∷ fs)) last-is (sym q))
 
   pub exit-entry : {x : Exit} {t′ : Store} → x .unit < n → Exited x u t t′ →
-      carry-out B L u s fs (Frame.exit (x .unit) (x .index)) ≡ going (with-units s (units-in t′ n))
+      carry-out B L u s fs (Frame.exit (x .unit) (x .index)) ≡ going (with-placed (with-units s (units-in t′ n)) (take-out u (s .placed)))
   unfolding carry-out
-  exit-entry {x} k d = ap (λ (y : List FlatUnit). going (with-units s y)) (ap (arrive (x .unit) (x .index)) (at-here dropped) ∙ sym (d .units n k))
+  exit-entry {x} k d = ap (λ (y : List FlatUnit). going (with-placed (with-units s y) (take-out u (s .placed)))) (ap (arrive (x .unit) (x .index)) (at-here dropped) ∙ sym (d .units n k))
 
   -- a job: the operator of its term is the book's
   module _ {bytes operators rules : List ℕ} (T : Tables bytes operators rules B) (known : All (λ o. o < length (B .operators)) (s .symbols)) where
@@ -167,28 +183,28 @@ module _ (B : Book) (L : Limits) (u n : ℕ) (s : FlatState) (t : Store) (us : s
 
         by-idle : (b : ℕ) (r : Option ℕ) → ((v : ℕ) → r ≡ some v → v ≢ u) →
             do-fork B L u s (x .offset) b (x .next) (x .count) (drop (x .next) ss) fs r
-            ≡ going (counted-fork s (forks x b u (height-in (t .cells) u) (units-in t n) r) (grants r))
+            ≡ going (counted-fork s (forks x b u (height-in (t .cells) u) (units-in t n) r) r)
         unfolding do-fork
         by-idle b none q =
-            ap (λ (y : List FlatUnit). going (counted-fork s y false))
+            ap (λ (y : List FlatUnit). going (counted-fork s y none))
             (ap (λ (gs : List Frame). put (s .units) u (flat-unit 0 (Frame.job b 0 0 ∷ gs))) (goes (pred (x .count))) ∙ at-here (restack (keeps x b)))
         by-idle b (some v) q =
             let g : FlatUnit → FlatUnit = restack (advances x (x .count)) in
             let m : unit (s .units) v ≡ unit (at u g (units-in t n)) v =
             ap (λ (y : List FlatUnit). unit y v) us ∙ sym (at-else u (units-in t n) g v (q v refl)) in
-            ap (λ (y : List FlatUnit). going (counted-fork s y true))
+            ap (λ (y : List FlatUnit). going (counted-fork s y (some v)))
             (ap₂ (λ (y : List FlatUnit) (z : FlatUnit). leave 1 (put y v z)) (ap (λ (gs : List Frame). put (s .units) u (flat-unit 0 gs)) (goes (x .count)) ∙ at-here g)
             (ap₂ (λ (z : FlatUnit) (j : ℕ). given u j b z) m (sym height-here)))
 
-        pub fork-entry : (i : ℕ) {t′ : Store} {r : Bool} → some (Step.fork i) ≡ step-of (code-in operators (operator (x .offset)) (x .next - 1)) →
+        pub fork-entry : (i : ℕ) {t′ : Store} {r : Idle} → some (Step.fork i) ≡ step-of (code-in operators (operator (x .offset)) (x .next - 1)) →
             argument-by B (s .symbols) x i .offset < length (s .symbols) → Forked x (argument-of operators (s .symbols) x i .offset) n u t t′ r →
-            carry-out B L u s fs (Frame.job (x .offset) (x .next) (x .count)) ≡ going (counted-fork s (units-in t′ n) r)
+            carry-out B L u s fs (Frame.job (x .offset) (x .next) (x .count)) ≡ going (counted-fork s (units-in t′ n) (answer r))
         unfolding do-step
         fork-entry i q la d =
             let h = height-in (t .cells) u in
             step-entry (Step.fork i) q
             ∙ by-idle (argument-by B (s .symbols) x i .offset) (first-idle (s .units))
             (λ v z. idle-other (s .units) u v z (ap (λ (y : FlatUnit). y .rank) e))
-            ∙ ap₂ (λ (y : List FlatUnit) (a : Argument). going (counted-fork s (forks x (a .offset) u h (units-in t n) (first-idle y)) (grants (first-idle y)))) us
+            ∙ ap₂ (λ (y : List FlatUnit) (a : Argument). going (counted-fork s (forks x (a .offset) u h (units-in t n) (first-idle y)) (first-idle y))) us
             (sym (argument-said T (s .symbols) known x i la))
-            ∙ ap₂ (λ (y : List FlatUnit) (z : Bool). going (counted-fork s y z)) (sym (d .units)) (sym (d .answer))
+            ∙ ap₂ (λ (y : List FlatUnit) (z : Option ℕ). going (counted-fork s y z)) (sym (d .units)) (d .found)

@@ -1,6 +1,5 @@
 -- Laws of FORK: the argument is kept, or an idle unit gets it. Assumes nothing.
 use mathlib.Core.Path.{_≡_, sym, ap, ap₂, subst, _∙_}
-use mathlib.Core.Bool.{true, false}
 use mathlib.Core.List.{List}
 use mathlib.Core.Option.{none, some}
 use Prim.Native.Nat.{ℕ, _-_, pred}
@@ -8,6 +7,7 @@ use native.Mathlib.Omega.{arith}
 use Rattle.flat.specs.Machine.{Frame, FlatUnit, first-idle, leave}
 use Rattle.units.specs.Stacks.{height-in, Store, store, units-in}
 use Rattle.units.specs.Contracts.{Has-room, pushed, at, Changed, Cells-left}
+use Rattle.units.specs.declared.Idle as I
 use Rattle.units.specs.declared.frames.Job.{Job}
 use Rattle.units.proofs.Units.{changed-then, height-is, height-same, height-other}
 use Rattle.orders.specs.Contracts.{
@@ -62,16 +62,16 @@ module _ {x : Job} {u : ℕ} {s s₁ : Store} (p : Advanced x u s s₁) where
 
 -- by the search
 module _ {x : Job} {b n u : ℕ} {s s′ : Store} where
-  pub fork-grants : {v : ℕ} → first-idle (units-in s n) ≡ some v → Granted x b v u s s′ → Forked x b n u s s′ true
+  pub fork-grants : {v : ℕ} → first-idle (units-in s n) ≡ some v → Granted x b v u s s′ → Forked x b n u s s′ (I.the-variants.Unit v)
   fork-grants z g = record {
     fit = g .fit;
     units = g .units n ∙ ap (forks x b u (height-in (s .cells) u) (units-in s n)) (sym z);
-    answer = rw z;
+    found = z;
   }
 
-  pub fork-keeps : first-idle (units-in s n) ≡ none → Argument-kept x b u s s′ → Forked x b n u s s′ false
+  pub fork-keeps : first-idle (units-in s n) ≡ none → Argument-kept x b u s s′ → Forked x b n u s s′ I.the-variants.None
   fork-keeps z d = record {
     fit = d .change .fit;
     units = d .change .units n ∙ ap (forks x b u (height-in (s .cells) u) (units-in s n)) (sym z);
-    answer = rw z;
+    found = z;
   }

@@ -14,7 +14,8 @@ use Rattle.flat.specs.Machine.{Frame, FlatUnit, flat-unit, next-count, proceed,
 use Rattle.tables.specs.Layout.{arity-in, steps-in, Rowed}
 use Rattle.term.specs.Present.{length-in, operators-in, Sized}
 use Rattle.units.specs.Stacks.{height, height-in, Store, units-in, unit-in}
-use Rattle.units.specs.Contracts.{Stacks-fit, Has-frame, dropped, idled, at, Changed}
+use Rattle.units.specs.Contracts.{Stacks-fit, Has-frame, dropped, idled, at, Changed, answer}
+use Rattle.units.specs.declared.Idle.{Idle}
 use Rattle.units.specs.declared.frames.Job.{Job}
 use Rattle.units.specs.declared.frames.Exit.{Exit}
 
@@ -169,10 +170,6 @@ abbrev pub forks : Job → ℕ → ℕ → ℕ → List FlatUnit → Option ℕ 
 forks x b u h us none = at u (restack (keeps x b)) us
 forks x b u h us (some v) = leave 1 (at v (given u (h - 1) b) (at u (restack (advances x (x .count))) us))
 
-abbrev pub grants : Option ℕ → Bool
-grants none = false
-grants (some v) = true
-
 -- unit v is another, and has room for two frames
 pub record Can-grant (x : Job) (b v u : ℕ) (s : Store) : Type 0 where
   pub job : Can-proceed x u s
@@ -185,7 +182,7 @@ pub record Granted (x : Job) (b v u : ℕ) (s s′ : Store) : Type 0 where
   pub fit : Stacks-fit s′
   pub units : (n : ℕ) → units-in s′ n ≡ forks x b u (height-in (s .cells) u) (units-in s n) (some v)
 
--- there is room on unit u's stack if no unit of n is idle, and for two frames on the idle unit's, which is another
+-- there is room on unit u's stack if no unit of n is idle, and for two frames on the idle unit's, which is another; the answer is the unit that got the term
 pub record Can-fork (x : Job) (b n u : ℕ) (s : Store) : Type 0 where
   pub job : Can-proceed x u s
   pub offset : b < 1024
@@ -193,7 +190,7 @@ pub record Can-fork (x : Job) (b n u : ℕ) (s : Store) : Type 0 where
   pub keep : first-idle (units-in s n) ≡ none → Room-for (keeps x b) u s
   pub grant : (v : ℕ) → first-idle (units-in s n) ≡ some v → (v ≢ u) × (height-in (s .cells) v + 2 ≤ height)
 
-pub record Forked (x : Job) (b n u : ℕ) (s s′ : Store) (r : Bool) : Type 0 where
+pub record Forked (x : Job) (b n u : ℕ) (s s′ : Store) (r : Idle) : Type 0 where
   pub fit : Stacks-fit s′
   pub units : units-in s′ n ≡ forks x b u (height-in (s .cells) u) (units-in s n) (first-idle (units-in s n))
-  pub answer : r ≡ grants (first-idle (units-in s n))
+  pub found : first-idle (units-in s n) ≡ answer r

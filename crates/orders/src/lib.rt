@@ -289,8 +289,8 @@ fn grant(work: &mut [u8], units: &mut [u32; 8], u: usize, job: Job, b: u16, v: u
     );
 }
 
-// FORK of the argument at offset b, by unit u of so many: the first of the idle queue gets it, or it is kept; whether it was granted.
-pub fn fork(work: &mut [u8], units: &mut [u32; 8], count: usize, u: usize, job: Job, b: u16) -> bool
+// FORK of the argument at offset b, by unit u of so many: the first of the idle queue gets it, or it is kept; which unit got it.
+pub fn fork(work: &mut [u8], units: &mut [u32; 8], count: usize, u: usize, job: Job, b: u16) -> Idle
     ghost { K.Store }
     requires { λ s. ⌜ K.store (now work) (now units) ≡ s ⌝ }
     requires { λ s. ⌜ O.Can-fork job b count u s ⌝ }
@@ -299,11 +299,11 @@ pub fn fork(work: &mut [u8], units: &mut [u32; 8], count: usize, u: usize, job: 
     match units::first_idle(units, count) {
         Idle::Unit(v) => {
             grant(work, units, u, job, b, v);
-            true
+            Idle::Unit(v)
         }
         Idle::None => {
             keep(work, units, u, job, b);
-            false
+            Idle::None
         }
     }
 }

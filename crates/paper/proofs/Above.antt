@@ -479,7 +479,7 @@ module _ (G : Grant) (only : OnlyIdle G) (B : Book) (L : Limits) where
       go : (x : Outcome) → Next B L u s D bs x → QueuedAfter x → Gives s x → Keeps Owns (λ p j. ⊥) s x →
           ((s′ : State) (D′ : Ghost) (bs′ : List Block) → Inv B L s′ D′ bs′ → Queued s′ → AllOwn s′ → EachTaken s′ (moments-from-by G B L us s′)) →
           EachTaken s (on (moments-from-by G B L us) x)
-      go (going ev s′) (n-going D′ bs′ inv′ sh cn mv ln sw) qd′ g k r =
+      go (going ev s′) (n-going D′ bs′ inv′ hn sh cn mv ln sw) qd′ g k r =
           unfold on in let own′ = owned ev s′ k in (taken ev s′ qd′ g own′, r s′ D′ bs′ inv′ qd′ own′)
       go (ended e s′) n qd′ g k r = unfold on in tt
 
@@ -495,7 +495,7 @@ course-done (c-cut inv) e = let z : _≡_ {A = ℕ} 0 1 = cc in absurd (omega ar
 course-done (c-end inv (e-finished h)) e = still-done _ _ _ _ _ inv h
 course-done (c-end inv (e-spent q h)) e = let z : _≡_ {A = ℕ} 0 1 = cc in absurd (omega arith)
 course-done (c-end inv (e-full k q)) e = let z : _≡_ {A = ℕ} 0 1 = cc in absurd (omega arith)
-course-done (c-more inv sh cn mv ln sw c) e = course-done c e
+course-done (c-more inv hn sh cn mv ln sw c) e = course-done c e
 
 pub helps-of : (G : Grant) → OnlyIdle G → (B : Book) → Sound B → (t : Term) → Correct (arity B) t → (L : Limits) (units : ℕ) (schedule : List ℕ) →
     Helps G B L units schedule t

@@ -16,9 +16,10 @@ use Rattle.paper.specs.Demand3.{Throughout, trace}
 use Rattle.paper.specs.Idle.{OnlyIdle}
 use Rattle.paper.specs.Change10.{TrueMarks, Outside, Lasting, Between, Change10}
 use Rattle.paper.proofs.Again.{reduced-again}
-use Rattle.paper.proofs.Course.{course-states}
+use Rattle.paper.proofs.Course.{course-honest}
 use Rattle.paper.proofs.Dated.{day-sound}
 use Rattle.paper.proofs.Demand3.{whole-course}
+use Rattle.paper.proofs.Honest.{bare-honest}
 use Rattle.paper.proofs.Idle.{longest-idle}
 use Rattle.paper.proofs.Lasting.{visit-dropped, marks-last}
 use Rattle.paper.proofs.Line.{line-correct}
@@ -29,7 +30,7 @@ use Rattle.paper.proofs.Text.{text-line}
 -- EVERY RUN, by any grant rule that answers idle units only
 module _ (G : Grant) (only-idle : OnlyIdle G) (B : Book) (sound : Sound B) (t : Term) (c : Correct (arity B) t) (L : Limits) (units : ℕ) (schedule : List ℕ) where
   outside : Throughout Outside (start units t) (trace G B L units schedule t)
-  outside = course-states Outside (orders-clear B L) (whole-course G only-idle B sound t c L units schedule)
+  outside = course-honest Outside (orders-clear B L) (bare-honest B t) (whole-course G only-idle B sound t c L units schedule)
 
   lasting : Between (Lasting B) (start units t) (trace G B L units schedule t)
   unfolding moments-by
@@ -39,7 +40,7 @@ module _ (G : Grant) (only-idle : OnlyIdle G) (B : Book) (sound : Sound B) (t : 
   change-10-of = record {
     alike = reduced-again B sound;
     dropped = visit-dropped B L;
-    marks = course-states (TrueMarks B) (marks-true B L) (whole-course G only-idle B sound t c L units schedule);
+    marks = course-honest (TrueMarks B) (marks-true B L) (bare-honest B t) (whole-course G only-idle B sound t c L units schedule);
     outside = outside;
     lasting = lasting;
     account = accounted-by B sound t c G only-idle L units schedule;

@@ -17,8 +17,9 @@ use Rattle.paper.specs.Writer.{writeBook}
 use Rattle.paper.specs.Line.{readLine}
 use Rattle.paper.specs.Match.{rewrite-over, rewrite}
 use Rattle.paper.specs.Marks.{cell, Marked, cells}
-use Rattle.paper.specs.Machine.{Order, unit-state, Event, Ending, lowest}
-use Rattle.paper.specs.Run.{Answer, run, run-by, Moment, moments, events}
+use Rattle.paper.specs.Machine.{Order, unit-state, Event, Ending, lowest, start}
+use Rattle.paper.specs.Run.{Answer, run, run-by, run-from, Moment, moments, events}
+use Rattle.paper.specs.Parts.{from-point, parked, parked-parts}
 use Rattle.paper.specs.Page.{Lengths, answerBy, answerOf, pageOf, writtenOf}
 use Rattle.paper.proofs.Starred.{ascii, P-bytes, input-on, input, turns, none-of, one-of, two-of, x, y, P-operators, P, end, tick, both, Q, dup, limits}
 
@@ -568,6 +569,27 @@ pub record Runs : Type 0 where
       ∷ (1 ∷ [])
       ∷ (1 ∷ 0 ∷ [])
       ∷ []
+  -- the parts pending after each entry of that run, by their units, the latest first: unit 1's was placed before unit 2's, and exits before it
+  pub placings : map (λ (m : Moment). m .state .placed) (moments P (limits 9) 3 (replicate 7 0 ++ (1 ∷ 1 ∷ 1 ∷ 1 ∷ 0 ∷ [])) (both end (both end end))) ≡
+      []
+      ∷ (1 ∷ [])
+      ∷ (1 ∷ [])
+      ∷ (2 ∷ 1 ∷ [])
+      ∷ (2 ∷ 1 ∷ [])
+      ∷ (2 ∷ 1 ∷ [])
+      ∷ (2 ∷ 1 ∷ [])
+      ∷ (2 ∷ 1 ∷ [])
+      ∷ (2 ∷ 1 ∷ [])
+      ∷ (2 ∷ [])
+      ∷ (2 ∷ [])
+      ∷ (2 ∷ [])
+      ∷ []
+  -- the page's run, parked after 10 entries, after 8 more, and resumed: it ends at entry 22 as the unbroken one does
+  pub resumed : from-point none (λ s. some (run-from P (limits 9) 18 (replicate 9 0) s))
+      (parked-parts P (limits 9) (replicate 10 0 ∷ replicate 8 0 ∷ []) (start 1 (both (tick end) (tick end)))) ≡
+      some (record { ending = Ending.finished; rewrites = 2; entries = 22; granted = 0; kept = 2; term = tick (tick end) })
+  -- at its end it isn't cut, so it isn't parked
+  pub not-parked : parked P (limits 9) (replicate 22 0) (start 1 (both (tick end) (tick end))) ≡ none
   -- unit 0 waits at its JOIN, and takes the FORK of unit 1
   pub unit-0-helps : pageOf (input (2 ∷ 2 ∷ 0 ∷ 0 ∷ 0 ∷ []) 2 9 (0 ∷ 0 ∷ 0 ∷ 0 ∷ 0 ∷ 1 ∷ 1 ∷ [])) ≡
       ascii "REDUCE 1\nend 3\nrewrites 0\nentries 7\ngranted 2\nkept 0\nterm 2 2 0 0 0\n"
@@ -599,7 +621,7 @@ pub record Runs : Type 0 where
       Event.exited (0 ∷ []) 0 ∷ Event.waited ∷ []
 
 pub runs : Runs
-unfolding ascii input turns pageOf readBook writtenOf rewrite run run-by lowest moments events strategies grow-page tree-after lists-page done three-page
+unfolding ascii input turns pageOf readBook writtenOf rewrite run run-by run-from lowest moments events parked parked-parts from-point start strategies grow-page tree-after lists-page done three-page
 runs = record {
   first-general = refl;
   first-special = refl;
@@ -616,6 +638,9 @@ runs = record {
   longest-idle = refl;
   lowest-idle = refl;
   queues = refl;
+  placings = refl;
+  resumed = refl;
+  not-parked = refl;
   unit-0-helps = refl;
   forks-of-two = refl;
   forks-of-one = refl;

@@ -14,6 +14,7 @@ pub mod Bytes
 pub mod Lengths
 pub mod Books
 pub mod Dated
+pub mod BookBytes
 pub mod Prefix
 pub mod Matching
 pub mod Compatible
@@ -46,8 +47,10 @@ pub mod Fork
 pub mod Queue
 pub mod Idle
 pub mod Longest
+pub mod Owners
 pub mod Exit
 pub mod Entry
+pub mod Parts
 pub mod Progress
 pub mod Course
 pub mod Outside
@@ -55,6 +58,7 @@ pub mod Lasting
 pub mod Joined
 pub mod Waits
 pub mod Demand3
+pub mod Placing
 pub mod Above
 pub mod OneUnit
 pub mod Change10

@@ -1,4 +1,4 @@
--- In every state of a run the marks are true, and no order stands in a marked part. Assumes nothing.
+-- Where the marks are true, no order stands in a marked part. Assumes nothing.
 use mathlib.Core.Bool.{false}
 use mathlib.Core.List.{List, [], _∷_, _++_}
 use mathlib.Core.Path.{_≡_, _∙_, ap, subst}
@@ -26,9 +26,9 @@ use Rattle.paper.proofs.View.{Block, list, lists, parts, all-parts, sti
 
 -- TRUE MARKS
 
-pub marks-true : (B : Book) (L : Limits) (s : State) (D : Ghost) (bs : List Block) → Inv B L s D bs → TrueMarks B s
-marks-true B L s D bs inv p e =
-    let h : Honest B (s .term) = rw (inv .is-term) (ghost-honest B D (inv .honest)) in
+pub marks-true : (B : Book) (L : Limits) (s : State) (D : Ghost) (bs : List Block) → Inv B L s D bs → HonestGhost B D → TrueMarks B s
+marks-true B L s D bs inv hn p e =
+    let h : Honest B (s .term) = rw (inv .is-term) (ghost-honest B D hn) in
     run-figure (normal-run (marked-normal B (subterm p (s .term)) (part-honest B p (s .term) h) e))
 
 -- NO ORDER IN A MARKED PART
@@ -125,9 +125,9 @@ module _ (B : Book) (t : Marked) where
   all-outside D h e =
       (all-append (OrderOutside t) (list [] D) (Order.bingo ∷ []) (list-outside D [] h tt e) (tt, tt), parts-outside D [] h tt e)
 
-pub orders-clear : (B : Book) (L : Limits) (s : State) (D : Ghost) (bs : List Block) → Inv B L s D bs → Outside s
-orders-clear B L s D bs inv =
+pub orders-clear : (B : Book) (L : Limits) (s : State) (D : Ghost) (bs : List Block) → Inv B L s D bs → HonestGhost B D → Outside s
+orders-clear B L s D bs inv hn =
     let t : Marked = s .term in
     all-orders (OrderOutside t) inv tt
     (all-of (BlockOutside t) bs
-    (λ x m. all-in (BlockOutside t) x (all D) (all-outside B t D (inv .honest) (inv .is-term)) (same-in bs (all D) (inv .same) x m)))
+    (λ x m. all-in (BlockOutside t) x (all D) (all-outside B t D hn (inv .is-term)) (same-in bs (all D) (inv .same) x m)))

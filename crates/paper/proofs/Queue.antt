@@ -32,7 +32,7 @@ times-cons v w q =
       | inr p ↦ rw (p .0, times) (omega (arith, other-is v w 1 (p .1)))
     ]
 
-times-append : (v : ℕ) (q r : List ℕ) → times v (q ++ r) ≡ times v q + times v r
+pub times-append : (v : ℕ) (q r : List ℕ) → times v (q ++ r) ≡ times v q + times v r
 unfolding times
 times-append v [] r = omega arith
 times-append v (w ∷ q) r = omega (arith, times-cons v w (q ++ r), times-cons v w q, times-append v q r)

@@ -18,8 +18,10 @@ pub mod Reduction
 pub mod Walk
 pub mod Machine
 pub mod Run
+pub mod Parts
 pub mod OneUnit
 pub mod Demand3
 pub mod Idle
+pub mod Placing
 pub mod Change10
 pub mod Page

@@ -1,14 +1,11 @@
-// The run over a schedule (document 01, 'How a run ends').
+// The run over a schedule (document 01, 'How a run ends'), whole or in parts (document 02, Change 11).
 use entry::Entry;
 use whole::Limits;
 use whole::Progress;
 ghost use mathlib.Core.Path.{_≡_};
-ghost use Prim.Native.Nat.{_≤_, _<_};
-ghost use lib.ListN.{length};
+ghost use Prim.Native.Nat.{_<_};
 ghost use Rattle.paper.specs.Page.{ending-number};
 ghost use Rattle.flat.specs.Machine.{FlatState};
-ghost use Rattle.flat.specs.Run.{flat-run-from};
-ghost use Rattle.net.specs.Net.{book-by};
 ghost use Rattle.entry.specs.State as S;
 ghost use Rattle.run.specs.Contracts as R;
 
@@ -56,7 +53,8 @@ fn ended(ending: Ending, entries: usize, p: Progress, symbols: &[u32; 1024]) -> 
     }
 }
 
-// The run of a schedule from the term in the symbols, with nothing counted yet: the present term is left in the symbols, and scratch as it comes.
+// The run of a schedule from where the arrays stand, with so many rewrites made before and nothing else counted yet: what it counts is of this part alone, but for
+// the rewrites, which the budget bounds over all parts. The arrays are left where the run stands, and scratch as it comes.
 pub fn run_schedule(
     book: &[u8],
     operators: &[u8; 4352],
@@ -65,19 +63,19 @@ pub fn run_schedule(
     scratch: &mut [u32; 1024],
     work: &mut [u8],
     units: &mut [u32; 8],
+    order: &mut [u16; 1024],
+    rewrites: u32,
     l: Limits,
     schedule: &[u8],
 ) -> Run
     ghost { FlatState }
-    requires { λ s. ⌜ S.state (now symbols) (now work) (now units) R.beginning l ≡ s ⌝ }
-    requires { λ s. ⌜ S.Arrays (now symbols) (now scratch) (now work) (now units) l ⌝ }
+    requires { λ s. ⌜ S.state (now symbols) (now work) (now units) (now order) (R.begun rewrites) l ≡ s ⌝ }
+    requires { λ s. ⌜ S.Arrays (now symbols) (now scratch) (now work) (now units) (now order) l ⌝ }
     requires { λ s. ⌜ R.Runnable (now book) (now operators) (now net) l (now schedule) s ⌝ }
-    ensures { λ s r. ⌜ R.answer r (now (symbols .exit)) ≡ flat-run-from (book-by (now (book .entry)) (now (net .entry))) (S.limited (l .budget)) 0 (now (schedule .entry)) s ⌝ }
-    ensures { λ s r. ⌜ R.Bounded l (now (schedule .entry)) (now (symbols .exit)) r ⌝ }
-    ensures { λ s r. ⌜ length (now (scratch .exit)) ≡ 1024 ⌝ }
+    ensures { λ s r. ⌜ R.Ran (now (book .entry)) (now (net .entry)) l (now (schedule .entry)) s (now (symbols .exit)) (now (scratch .exit)) (now (work .exit)) (now (units .exit)) (now (order .exit)) r ⌝ }
 {
     let mut p = Progress {
-        rewrites: 0,
+        rewrites,
         granted: 0,
         kept: 0,
     };
@@ -91,6 +89,7 @@ pub fn run_schedule(
             scratch,
             work,
             units,
+            order,
             casts::index(schedule[i]),
             p,
             l,

@@ -65,7 +65,7 @@ module _ (s s′ : Store) (u x t y : ℕ) (ec : s′ .cells ≡ set (s .cells) u
       height-in (s .cells) v ≤ height → unit-in s′ v ≡ unit-in s v
   store-other k m q p r v n l = rw (at-v v n, outside-unit q u v (height-in (s .cells) v) p r n l)
 
-  set-fit : Stacks-fit s → u < 8 → length (s′ .work) ≡ length (s .work) → y ≤ height → Stacks-fit s′
+  pub set-fit : Stacks-fit s → u < 8 → length (s′ .work) ≡ length (s .work) → y ≤ height → Stacks-fit s′
   set-fit a l e ly =
       let lc : u < length (s .cells) = omega (arith, a .regions .eight) in
       record {

@@ -74,7 +74,7 @@ fn rank_of(cell: u32) -> usize
     casts::position(cell / 65536)
 }
 
-fn load(units: &[u32; 8], u: usize) -> Unit
+pub fn load(units: &[u32; 8], u: usize) -> Unit
     requires { ⌜ u < 8 ⌝ }
     ensures { λ r. ⌜ U.State-of (now (units .entry)) u r ⌝ }
 {
@@ -93,7 +93,7 @@ pub fn is_busy(units: &[u32; 8], u: usize) -> bool
     units[u] < 65536
 }
 
-fn store(units: &mut [u32; 8], u: usize, x: Unit)
+pub fn store(units: &mut [u32; 8], u: usize, x: Unit)
     requires { ⌜ (u < 8) × U.Small x ⌝ }
     ensures { λ _. ⌜ now (units .exit) ≡ set (now (units .entry)) u (K.cell (x .rank) (x .end)) ⌝ }
 {

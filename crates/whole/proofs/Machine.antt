@@ -31,12 +31,12 @@ use Rattle.whole.specs.declared.Whole as W
 use Rattle.whole.proofs.Terms.{length-is, new-term, new-sizes}
 
 -- do-whole by its conditions
-module _ (B : Book) (x : Pl.Place) (p : P.Progress) (l : L.Limits) (s : Arrays) (k c : ℕ) (ss : List Step) (fs : List Frame) where
+module _ (B : Book) (x : Pl.Place) (p : P.Progress) (l : L.Limits) (s : Arrays) (placed : List ℕ) (k c : ℕ) (ss : List Step) (fs : List Frame) where
   abbrev a : ℕ
   a = x .offset
 
   abbrev t : FlatState
-  t = state s p l
+  t = state s p l placed
 
   abbrev found : Hit
   found = rewrite (arity B) (B .rules) a (t .symbols)
@@ -64,7 +64,7 @@ module _ (B : Book) (x : Pl.Place) (p : P.Progress) (l : L.Limits) (s : Arrays) 
         unit (t .units) (x .unit) ≡ flat-unit 0 (f ∷ fs) → xs ≡ splice a e new (t .symbols) → zs ≡ resize a e (flat.sizes (arity B) new) (t .sizes) →
         ms ≡ splice a e (fill-marks right b (t .marks)) (t .marks) →
         us ≡ map (shift-unit a e (length new)) (at (x .unit) (topped (Frame.job a 0 0)) (t .units)) →
-        whole ≡ going (record { symbols = xs; sizes = zs; marks = ms; units = us; rewrites = suc (t .rewrites); granted = t .granted; kept = t .kept })
+        whole ≡ going (record { symbols = xs; sizes = zs; marks = ms; units = us; rewrites = suc (t .rewrites); granted = t .granted; kept = t .kept; placed = placed })
     unfolding do-whole do-rewrite
     on-rewritten xs zs ms us f i j top q w m r =
         let z : at (x .unit) (topped (Frame.job a 0 0)) (t .units) ≡ put (t .units) (x .unit) (flat-unit 0 (Frame.job a 0 0 ∷ fs)) =
@@ -82,11 +82,11 @@ module _ {bytes operators net : List ℕ} (x : Pl.Place) (p : P.Progress) (l : L
   -- nothing has changed
   module _ (fit : Stacks-fit (s .store)) where
     pub missed : rewrite (arity B) (B .rules) (x .offset) xs ≡ Hit.miss → Carried-out B x p l s s W.Whole.Missed
-    missed h = record { is = λ k c ss f fs top. on-miss B x p l s k c ss fs h; stays = refl; long = here .sized .long; most = here .sized .most; fit = fit }
+    missed h = record { is = λ vs k c ss f fs top. on-miss B x p l s vs k c ss fs h; stays = refl; long = here .sized .long; most = here .sized .most; fit = fit }
 
     pub spends : Rule-gives B (x .offset) xs (λ ys e. spent p l ≡ true) → Carried-out B x p l s s W.Whole.Spent
     spends g = record {
-      is = λ k c ss f fs top. on-spent B x p l s k c ss fs (g .hit) (g .so);
+      is = λ vs k c ss f fs top. on-spent B x p l s vs k c ss fs (g .hit) (g .so);
       stays = refl;
       long = here .sized .long;
       most = here .sized .most;
@@ -95,7 +95,7 @@ module _ {bytes operators net : List ℕ} (x : Pl.Place) (p : P.Progress) (l : L
 
     pub fills : Rule-gives B (x .offset) xs (λ ys e. (spent p l ≡ false) × (over (x .offset) xs ys e ≡ true)) → Carried-out B x p l s s W.Whole.Full
     fills g = record {
-      is = λ k c ss f fs top. on-full B x p l s k c ss fs (g .hit) (g .so .0) (g .so .1);
+      is = λ vs k c ss f fs top. on-full B x p l s vs k c ss fs (g .hit) (g .so .0) (g .so .1);
       stays = refl;
       long = here .sized .long;
       most = here .sized .most;
@@ -147,8 +147,8 @@ module _ {bytes operators net : List ℕ} (x : Pl.Place) (p : P.Progress) (l : L
 
     pub rewrote : Carried-out B x p l s s′ W.Whole.Rewrote
     rewrote = record {
-      is = λ k c ss h fs top.
-          on-rewritten B x p l s k c ss fs (r .hit) _ _ _ _ h (r .left) fits top new-operators
+      is = λ vs k c ss h fs top.
+          on-rewritten B x p l s vs k c ss fs (r .hit) _ _ _ _ h (r .left) fits top new-operators
           (new-sized .true-sizes ∙ ap (flat.sizes (arity B)) new-operators ∙ new-sizes here (r .hit))
           (loaded-marks (arity B) _ n (s′ .symbols) (r .replaceable .fits) (new-term here (r .hit)) loaded) (rw size-is (q .units));
       stays = tt;

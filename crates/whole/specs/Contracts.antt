@@ -106,11 +106,11 @@ Stays s s′ W.Whole.Missed = s′ ≡ s
 Stays s s′ W.Whole.Spent = s′ ≡ s
 Stays s s′ W.Whole.Full = s′ ≡ s
 
--- do-whole, for a unit that is busy with a job's frame on its stack
+-- do-whole, for a unit that is busy with a job's frame on its stack; the order of placing stays
 pub record Carried-out (B : Book) (x : Pl.Place) (p : P.Progress) (l : L.Limits) (s s′ : Arrays) (r : W.Whole) : Type 0 where
-  pub is : (k c : ℕ) (ss : List Step) (f : Frame) (fs : List Frame) → unit (state s p l .units) (x .unit) ≡ flat-unit 0 (f ∷ fs) →
-      do-whole B (limits l) (x .unit) (state s p l) (x .offset) k c ss fs (rewrite (arity B) (B .rules) (x .offset) (state s p l .symbols))
-      ≡ outcome x k c ss fs (state s p l) (state s′ (progress p r) l) r
+  pub is : (placed : List ℕ) (k c : ℕ) (ss : List Step) (f : Frame) (fs : List Frame) → unit (state s p l placed .units) (x .unit) ≡ flat-unit 0 (f ∷ fs) →
+      do-whole B (limits l) (x .unit) (state s p l placed) (x .offset) k c ss fs (rewrite (arity B) (B .rules) (x .offset) (state s p l placed .symbols))
+      ≡ outcome x k c ss fs (state s p l placed) (state s′ (progress p r) l placed) r
   pub stays : Stays s s′ r
   pub long : length (s′ .symbols) ≡ 1024
   pub most : length-in (s′ .symbols) ≤ 1024

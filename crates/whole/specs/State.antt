@@ -20,8 +20,9 @@ pub record Arrays : Type 0 where
 abbrev pub arrays : List ℕ → List ℕ → List ℕ → Arrays
 arrays symbols work cells = record { symbols = symbols; store = store work cells }
 
-abbrev pub state : Arrays → Progress → Limits → FlatState
-state s p l = record {
+-- the last is the order in which the pending parts were placed, which no order of this crate changes
+abbrev pub state : Arrays → Progress → Limits → List ℕ → FlatState
+state s p l placed = record {
   symbols = operators-in (s .symbols);
   sizes = sizes-in (s .symbols);
   marks = marks-in (s .symbols);
@@ -29,6 +30,7 @@ state s p l = record {
   rewrites = p .rewrites;
   granted = p .granted;
   kept = p .kept;
+  placed = placed;
 }
 
 -- the budget, and the term's 1,024 symbols

@@ -19,6 +19,7 @@ static uint64_t done[KURVNEIST_DONE_LENGTH];
 static int64_t parts[KURVNEIST_MOST_OWNERS];
 static int64_t fee;
 static uint64_t charged;
+static uint8_t points[KURVNEIST_POINTS_LENGTH];
 static int wrong = 0;
 
 static void due(const char *what, uint8_t expected, uint8_t told) {
@@ -32,6 +33,7 @@ static void due(const char *what, uint8_t expected, uint8_t told) {
 #define NET net, sizeof net
 #define OUTPUT output, sizeof output
 #define ANSWERS answers, sizeof answers
+#define POINTS points, sizeof points
 #define NOTHING NULL, 0
 
 static void lines(void) {
@@ -129,6 +131,33 @@ static void strict(void) {
     due("the pair of nothing", 0, (uint8_t)(pair[0] | pair[1]));
 }
 
+static void names(void) {
+    static const uint8_t name[] = {'n'};
+    due("no name", KURVNEIST_BAD_POINT_OR_NAME,
+        kurvneist_park(constant, sizeof constant, line, sizeof line, 1, 9, 0, NOTHING, NOTHING, WORK, NET,
+                       POINTS, OUTPUT, answer));
+    due("no points", KURVNEIST_OUTPUT_TOO_SHORT,
+        kurvneist_park(constant, sizeof constant, line, sizeof line, 1, 9, 0, NOTHING, name, sizeof name,
+                       WORK, NET, NOTHING, OUTPUT, answer));
+    due("no schedule for a name", KURVNEIST_ACCEPTED,
+        kurvneist_park(constant, sizeof constant, line, sizeof line, 1, 9, 0, NOTHING, name, sizeof name,
+                       WORK, NET, POINTS, OUTPUT, answer));
+    due("no text for a name", KURVNEIST_ACCEPTED,
+        kurvneist_park_payee(letters, sizeof letters, NOTHING, 1, 9, 0, NOTHING, name, sizeof name, WORK, NET,
+                       POINTS, OUTPUT, answer));
+    due("no schedule to resume with", KURVNEIST_ACCEPTED,
+        kurvneist_resume(name, sizeof name, NOTHING, WORK, NET, POINTS, OUTPUT, answer));
+    due("no name to resume", KURVNEIST_BAD_POINT_OR_NAME,
+        kurvneist_resume(NOTHING, NOTHING, WORK, NET, POINTS, OUTPUT, answer));
+    due("no points to resume", KURVNEIST_OUTPUT_TOO_SHORT,
+        kurvneist_resume(name, sizeof name, NOTHING, WORK, NET, NOTHING, OUTPUT, answer));
+    due("nothing to resume", KURVNEIST_WORK_TOO_SHORT,
+        kurvneist_resume(NOTHING, NOTHING, NOTHING, NOTHING, NOTHING, NOTHING, answer));
+    due("nothing to park", KURVNEIST_BAD_UNITS,
+        kurvneist_park(NOTHING, NOTHING, 0, 0, 0, NOTHING, NOTHING, NOTHING, NOTHING, NOTHING, NOTHING,
+                       answer));
+}
+
 int main(void) {
     lines();
     texts();
@@ -136,5 +165,6 @@ int main(void) {
     fees();
     books();
     strict();
+    names();
     return wrong != 0;
 }

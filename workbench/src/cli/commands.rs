@@ -7,6 +7,7 @@ use kurvneist::{Ending, Engine, Refusal, Request};
 
 use crate::cli::files;
 use crate::cli::options::Parsed;
+use crate::cli::parking::{self, Place};
 use crate::cli::{say, Status, Stop};
 use crate::compose::composed;
 use crate::items::Reason;
@@ -15,6 +16,7 @@ use crate::letters;
 use crate::line;
 use crate::names::Names;
 use crate::outcome::Outcome;
+use crate::points;
 use crate::posting::{Posted, Schedules};
 use crate::progress::Progress;
 use crate::text::check::{self, Named};
@@ -147,7 +149,7 @@ pub fn status(ending: Ending) -> Status {
 }
 
 /// A line without a run: told as a message or, with --json, as an object.
-fn not_posted(parsed: &Parsed, outcome: &Outcome, message: String) -> Stop {
+pub fn not_posted(parsed: &Parsed, outcome: &Outcome, message: String) -> Stop {
     if !parsed.has("--json") {
         return Stop::new(Status::NotPosted, message);
     }
@@ -172,29 +174,42 @@ pub fn failed(parsed: &Parsed, failure: trace::Failure) -> Stop {
 }
 
 pub fn post(parsed: &Parsed) -> Result<Status, Stop> {
+    let place = Place::of_post(parsed)?;
     let asked = Asked::read(parsed)?;
+    if let Some(place) = place {
+        return parking::post(parsed, &asked, &place);
+    }
     let schedules = &asked.schedules;
     let posted = schedules.post(&mut Engine::new(), asked.form, &asked.request(&[]));
     let posted = posted.map_err(|refusal| refused(parsed, refusal))?;
     let answer = posted.answer;
-    let page = match parsed.has("--json") {
-        true => object(&Outcome::ran(&posted, &asked.named.names)),
-        false => format!(
-            "end {}\nrewrites {}\nentries {}\ngranted {}\nkept {}\nterm {}\n",
-            answer.ending,
-            answer.rewrites,
-            answer.entries,
-            answer.granted,
-            answer.kept,
-            printer::term(&posted.term, &asked.named.names)
-        ),
-    };
-    files::print(page.as_bytes())?;
+    files::print(page(parsed, &posted, &asked.named.names, None).as_bytes())?;
     asked.say_instead(&posted);
     if answer.ending == Ending::Cut {
         say(&cut(answer.entries, schedules.advice()));
     }
     Ok(status(answer.ending))
+}
+
+/// What is printed of a run, with the name that it was parked under.
+pub fn page(parsed: &Parsed, posted: &Posted, names: &Names, parked: Option<&[u8]>) -> String {
+    if parsed.has("--json") {
+        let mut fields = Outcome::ran(posted, names).fields();
+        fields.extend(parked.map(|name| ("parked", points::name_json(name))));
+        return format!("{}\n", Json::from(fields));
+    }
+    let answer = posted.answer;
+    let parked = parked.map(|name| format!("parked {}\n", points::told(name)));
+    format!(
+        "end {}\nrewrites {}\nentries {}\ngranted {}\nkept {}\nterm {}\n{}",
+        answer.ending,
+        answer.rewrites,
+        answer.entries,
+        answer.granted,
+        answer.kept,
+        printer::term(&posted.term, names),
+        parked.unwrap_or_default()
+    )
 }
 
 fn cut(entries: u64, advice: &str) -> String {

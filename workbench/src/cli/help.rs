@@ -7,15 +7,15 @@ use crate::schedule;
 
 pub const STATUS: &str = "\
 Exit status
-  0  done; in post, explain, trace, batch and fees: every run finished, or the
-     reader of the postings went away, as head does
-  1  a line was refused, mistyped, or its run didn't finish
+  0  done; in post, resume, explain, trace, batch and fees: every run finished,
+     or the reader of the postings went away, as head does, but not in resume
+  1  a line or a name was refused, mistyped, or its run didn't finish
   2  the command line is wrong
   3  a book is mistaken or refused, has a warning in check --strict, or isn't
      admitted by check --strict-profile; a fee table or owners' shares are
-     mistaken; or a file can't be used
-  4  a trace, explanation or profile differs from the engine, or a text from its
-     book
+     mistaken; points finds a broken rule; or a file can't be used
+  4  a trace, explanation, profile or list of points differs from the engine, or
+     a text from its book
 ";
 
 const FORM: &str = "\
@@ -187,6 +187,44 @@ With --json, one object: end, rewrites, entries, granted, kept and term, and
 instead_of, an ending, if one unit posted in the place of several whose run ended
 so; or error, an object with kind (mistyped or refused), column or refusal, and
 message. Terms are by names, as in the text.
+
+With --park the run has a name, of 1 to 16 bytes, and if it is cut it is saved in
+FILE, to be gone on with by resume: a line parked NAME says so, in JSON the field
+parked. FILE has room for eight names and is made if it isn't there. A run of an
+old name replaces its point; one that isn't cut leaves FILE as it is. FILE is
+written beside and renamed: it is whole, the old one or the new one, also when
+the disk is full or the machine stops. If another program changed it meanwhile,
+it is left so, and this is told. A name to which no slot is left is refused by
+21, and any name by 20 while a point in FILE breaks a rule.
+";
+
+pub const RESUME: &str = "\
+Goes on with a run that post --park saved in FILE, by its own book, day, units
+and budget, and shows what post shows; a schedule is one for its units. Without
+--schedule these act in turn, for at most 16777216 entries more. Rewrites,
+entries and FORKs are those of all parts together: however often it was parked,
+the run ends exactly like the unbroken one. If it is cut again, its new point
+replaces the old one. At any other ending its point goes away, but only when what
+is shown is on standard output, and on the disk if that is a file; so a posting
+isn't lost where that is full, or who reads it went away.
+
+Points keep no names of operators: --names takes them from a text, which must
+declare as many, with the same arities, as the book of the post has. Without it
+they are f0, f1 and so on, or those of letters, if the book has letters' arities.
+";
+
+pub const POINTS: &str = "\
+A row for each point: its slot, the bytes of its book, the day if that is dated,
+units, budget, the entries, rewrites and FORKs granted and kept so far, and the
+present term's symbols. Behind them, each rule that a slot breaks is told by its
+name and in the words of docs/FORMAT.md; while there is one, every run by FILE is
+refused by 20. The rules are looked at by a plain model; that the proved engine
+refuses the points exactly if one is broken is tried each time.
+
+With --json, one object: file, errors, points and diagnostics. A point has slot,
+name, name_bytes, book_bytes, day, date, units, budget, entries, rewrites,
+granted, kept and symbols; name is null where it is no UTF-8, day and date where
+the book is undated. Each of diagnostics has slot, name, rule, message and refusal.
 ";
 
 pub const TRACE: &str = "\

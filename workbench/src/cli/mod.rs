@@ -7,6 +7,7 @@ mod explaining;
 mod files;
 pub mod help;
 pub mod options;
+mod parking;
 mod places;
 mod reading;
 
@@ -24,11 +25,11 @@ pub enum Status {
     NotPosted = 1,
     /// The command line is wrong.
     Usage = 2,
-    /// A book, a fee table or shares are mistaken or refused, or a file can't be
-    /// used.
+    /// A book, a fee table or shares are mistaken or refused, a point breaks a
+    /// rule, or a file can't be used.
     Input = 3,
-    /// A trace, explanation or profile differs from the engine, or a text from
-    /// its book.
+    /// A trace, explanation, profile or list of points differs from the engine,
+    /// or a text from its book.
     Difference = 4,
 }
 
@@ -98,6 +99,8 @@ fn run_command(command: &Command, rest: &[OsString]) -> Result<Status, Stop> {
         "text" => commands::text,
         "check" => checking::check,
         "post" => commands::post,
+        "resume" => parking::resume,
+        "points" => parking::points,
         "explain" => explaining::explain,
         "trace" => commands::trace,
         "batch" => batching::batch,

@@ -27,9 +27,9 @@ pub struct Command {
 }
 
 impl Flag {
-    /// Whether its value names a file, in any bytes, or may do so.
+    /// Whether its value may have any bytes, as the name of a file or a point.
     fn names(&self) -> bool {
-        matches!(self.value, Some("FILE" | "TEXT" | "FORM"))
+        matches!(self.value, Some("FILE" | "TEXT" | "FORM" | "NAME"))
     }
 }
 
@@ -47,6 +47,16 @@ const NAMES: Flag = flag(
     "--names",
     Some("TEXT"),
     "take the operators' names from this text (with --packed)",
+);
+const TEXT_NAMES: Flag = flag(
+    "--names",
+    Some("TEXT"),
+    "take the operators' names from this text (default f0, f1, ..)",
+);
+const POINTS: Flag = flag(
+    "--points",
+    Some("FILE"),
+    "the file in which runs are parked, at most eight",
 );
 const PAYEE: Flag = flag(
     "--payee",
@@ -147,15 +157,7 @@ pub const COMMANDS: &[Command] = &[
         name: "text",
         about: "turn a packed book into a text",
         arguments: &[("BOOK", "a packed book; - is standard input")],
-        flags: &[
-            flag(
-                "--names",
-                Some("TEXT"),
-                "take the operators' names from this text (default f0, f1, ..)",
-            ),
-            ENCODING,
-            OUTPUT,
-        ],
+        flags: &[TEXT_NAMES, ENCODING, OUTPUT],
         more: super::help::TEXT,
     },
     Command {
@@ -189,9 +191,37 @@ pub const COMMANDS: &[Command] = &[
         about: "reduce one line and show its posting",
         arguments: &[BOOK, LINE],
         flags: &[
-            PAYEE, DAY, JSON, UNITS, BUDGET, SCHEDULE, PACKED, NAMES, ENCODING,
+            PAYEE,
+            DAY,
+            JSON,
+            flag(
+                "--park",
+                Some("NAME"),
+                "if the run is cut, save it under this name (with --points)",
+            ),
+            POINTS,
+            UNITS,
+            BUDGET,
+            SCHEDULE,
+            PACKED,
+            NAMES,
+            ENCODING,
         ],
         more: super::help::POST,
+    },
+    Command {
+        name: "resume",
+        about: "go on with a run that was parked",
+        arguments: &[("NAME", "the name that it was parked under")],
+        flags: &[POINTS, JSON, SCHEDULE, TEXT_NAMES, ENCODING],
+        more: super::help::RESUME,
+    },
+    Command {
+        name: "points",
+        about: "list the runs that are parked in a file, and check it",
+        arguments: &[("FILE", "a file of points; - is standard input")],
+        flags: &[JSON],
+        more: super::help::POINTS,
     },
     Command {
         name: "explain",
@@ -424,7 +454,7 @@ impl Parsed {
         self.values.get(name)?.to_str()
     }
 
-    /// An option's value that names a file.
+    /// An option's value that names a file or a point.
     pub fn name(&self, name: &str) -> Option<&OsStr> {
         self.values.get(name).map(OsString::as_os_str)
     }

@@ -65,11 +65,11 @@ fn same(one: &Named, two: &Named) -> bool {
     one.place.is_some() && one.place == two.place
 }
 
-/// All arguments but a LINE, the texts of options, and a schedule's file.
+/// All arguments but a LINE or a NAME, the texts of options, and a schedule's file.
 fn inputs(command: &Command, parsed: &Parsed) -> Vec<Named> {
     let arguments = command.arguments.iter().zip(&parsed.arguments);
     let arguments = arguments
-        .filter(|((what, _), _)| *what != "LINE")
+        .filter(|((what, _), _)| !matches!(*what, "LINE" | "NAME"))
         .map(|((what, _), name)| (*what, name.as_os_str()));
     let schedule = parsed.name("--schedule").and_then(schedule::file);
     let schedule = schedule.map(|name| ("--schedule", name));

@@ -25,7 +25,7 @@ returns c =
 
 step-requires : tie.Need-step-requires
 step-requires c κs =
-    let i = c .before .before .before .before in
+    let i = c .before .before .before .before .before in
     let q = i .before .before .before .before .before .pre in
     (q .0, (q .1, omega (arith, i .if1 .left)))
 

@@ -36,7 +36,7 @@ operator-at-requires c κs =
 
 carry-out-requires : tie.Need-carry-out-requires
 carry-out-requires c κs =
-    let x = c .before .before .before .before in
+    let x = c .before .before .before .before .before in
     let m = x .before .before .before .before in
     let o = m .before .before in
     let i = o .before .before .before in
@@ -83,13 +83,13 @@ same-length-2 c = search needs
 
 returns-3 : tie.Need-returns-3
 returns-3 c =
-    let x = c .before .before in
+    let x = c .before .before .before .before in
     let m = x .before .before .before .before in
     let o = m .before .before in
     let i = o .before .before .before in
     let b = i .before in
     let q = b .before .before .before .before .before .pre in
-    exited (q .0) (q .1 .0) (q .1 .1) (sym (b .is-busy .ensures) ∙ not-false _ (i .if1 .left)) (rw (m .exit .given .1) at (o .top .ensures)) (x .exit2 .ensures)
+    exited (q .0) (q .1 .0) (q .1 .1) (sym (b .is-busy .ensures) ∙ not-false _ (i .if1 .left)) (rw (m .exit .given .1) at (o .top .ensures)) (x .exit2 .ensures) (c .take-out .ensures)
 
 same-length-3 : tie.Need-same-length-3
 same-length-3 c = search needs
@@ -127,6 +127,7 @@ enter-spec =
     carry-out-requires
     enum-known-exit
     exit-requires
+    (λ c κs. search needs)
     enum-told
     sleep-unit-requires
     enum-told-2

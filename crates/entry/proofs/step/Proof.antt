@@ -4,7 +4,7 @@ use borrow.Author.Needs.{needs}
 use Rattle.orders.proofs.Changes.{argument-asks}
 use Rattle.entry.proofs.Facts.{next-most, rowed, can-proceed, whole-there}
 use Rattle.entry.proofs.Orders.{visit-place, visit-argument-asks, visited-argument, joined}
-use Rattle.entry.proofs.Forking.{fork-place, fork-asks, fork-entered}
+use Rattle.entry.proofs.Forking.{fork-place, fork-asks, fork-places, fork-entered}
 use Rattle.entry.proofs.step.Statement.{statement}
 use Rattle.entry.proofs.step.Tie as tie
 
@@ -52,7 +52,15 @@ fork-requires c κs =
     fork-asks (q .0) (t .0) (t .1) (t .2) (q .1 .1) e (b .argument .ensures .0) (b .argument .ensures .1)
 
 forked-requires : tie.Need-forked-requires
-forked-requires c κs = search needs
+forked-requires c κs =
+    let v = c .before .before .before in
+    let b = v .before .before .before in
+    let m = b .before .before .before in
+    let k = m .before .before in
+    let q = k .before .before .before .before .before .before .pre in
+    let t = q .1 .0 in
+    let e = rw (m .i2 .given .1, t .3) at (k .step-at .ensures) in
+    (search needs, fork-places (q .0) (t .0) (t .1) (t .2) (q .1 .1) e (v .fork .result) (v .fork .ensures))
 
 enum-told : tie.Need-enum-told
 enum-told c = search needs
@@ -66,7 +74,7 @@ join-requires c κs =
 
 rewrite-requires : tie.Need-rewrite-requires
 rewrite-requires c κs =
-    let m = c .before .before .before .before in
+    let m = c .before .before .before .before .before in
     let k = m .before in
     let q = k .before .before .before .before .before .before .pre in
     let t = q .1 .0 in
@@ -91,7 +99,7 @@ same-length-2 c = search needs
 
 returns-2 : tie.Need-returns-2
 returns-2 c =
-    let v = c .before .before .before in
+    let v = c .before .before .before .before in
     let b = v .before .before .before in
     let m = b .before .before .before in
     let k = m .before .before in

@@ -1,35 +1,35 @@
--- `run::run_schedule` meets its contract. The loop's invariant: after i entries the answer is that of the run over the rest of the schedule from the
--- state that is now kept. The measure is how many entries are left. Assumes nothing.
+-- `run::run_schedule` meets its contract. The loop's invariant: after i entries the answer, and what is parked, are those of the run over the rest of the schedule from
+-- the state that is now kept. The measure is how many entries are left. Assumes nothing.
 use mathlib.Core.Path.{_≡_, refl}
 use Prim.Native.Nat.{_+_, _-_, _^_, _<_}
 use native.Mathlib.Omega.{arith}
 use lib.ListN as L
 use borrow.Author.Needs.{needs}
 use Rattle.entry.specs.State.{state}
-use Rattle.run.specs.Contracts.{beginning}
+use Rattle.run.specs.Contracts.{begun}
 use Rattle.run.specs.declared.Ending.{Ending}
 use Rattle.run.proofs.Entries.{Along, along-start, along-turn, along-goes, along-ends, along-cut}
 use Rattle.run.proofs.run_schedule.Statement.{statement}
 use Rattle.run.proofs.run_schedule.Tie as tie
 
 abbrev Inv-loop : tie.InvT-loop
-Inv-loop book operators net symbols₀ scratch₀ work₀ units₀ l schedule p₀ i₀ symbols scratch work units p i =
-    Along book operators net l schedule (state symbols₀ work₀ units₀ beginning l) symbols scratch work units p i
+Inv-loop book operators net symbols₀ scratch₀ work₀ units₀ order₀ rewrites l schedule p₀ i₀ symbols scratch work units order p i =
+    Along book operators net l schedule (state symbols₀ work₀ units₀ order₀ (begun rewrites) l) symbols scratch work units order p i
     × (L.length work ≡ L.length work₀)
 
 abbrev μ-loop : tie.MeasureT-loop
-μ-loop book operators net symbols₀ scratch₀ work₀ units₀ l schedule p₀ i₀ symbols scratch work units p i = L.length schedule - i
+μ-loop book operators net symbols₀ scratch₀ work₀ units₀ order₀ rewrites l schedule p₀ i₀ symbols scratch work units order p i = L.length schedule - i
 
 -- where the loop's body begins
 abbrev turn : tie.After-index Inv-loop μ-loop → tie.In-loop Inv-loop μ-loop
-turn c = c .before .before .before .before .before .before
+turn c = c .before .before .before .before .before .before .before
 
 -- there is a next number, since a slice's length is one
 room : (b : tie.In-loop Inv-loop μ-loop) → b .before .loop .i + 1 < 2 ^ 64
 room b = omega arith
 
 loop-holds : tie.Need-loop-holds Inv-loop μ-loop
-loop-holds c = let s = c .before .before .before .before in (along-start (s .pre .0) (s .pre .1), refl)
+loop-holds c = let s = c .before .before .before .before in (along-start _ (s .pre .0) (s .pre .1), refl)
 
 enter-requires : tie.Need-enter-requires Inv-loop μ-loop
 enter-requires c κs =
@@ -44,8 +44,7 @@ returns c =
     let q = m .before .before .before .before in
     let b = turn (q .before) in
     let e = rw (m .enum-told .given .1) at (q .enter .ensures) in
-    let (x, y) = along-ends (b .before .loop .inv .0) (b .loop-test .taken) _ (q .before .index .ensures .0) Ending.Finished (e .0) (e .1) _ (c .ended .ensures) in
-    (x, (y, e .1 .scratch-long))
+    along-ends (b .before .loop .inv .0) (b .loop-test .taken) _ (q .before .index .ensures .0) Ending.Finished (λ s. refl) (e .0) (e .1) _ (c .ended .ensures)
 
 returns-2 : tie.Need-returns-2 Inv-loop μ-loop
 returns-2 c =
@@ -53,8 +52,7 @@ returns-2 c =
     let q = m .before .before .before .before in
     let b = turn (q .before) in
     let e = rw (m .enum-told2 .given .1) at (q .enter .ensures) in
-    let (x, y) = along-ends (b .before .loop .inv .0) (b .loop-test .taken) _ (q .before .index .ensures .0) Ending.Spent (e .0) (e .1) _ (c .ended2 .ensures) in
-    (x, (y, e .1 .scratch-long))
+    along-ends (b .before .loop .inv .0) (b .loop-test .taken) _ (q .before .index .ensures .0) Ending.Spent (λ s. refl) (e .0) (e .1) _ (c .ended2 .ensures)
 
 returns-3 : tie.Need-returns-3 Inv-loop μ-loop
 returns-3 c =
@@ -62,8 +60,7 @@ returns-3 c =
     let q = m .before .before .before .before in
     let b = turn (q .before) in
     let e = rw (m .enum-told3 .given .1) at (q .enter .ensures) in
-    let (x, y) = along-ends (b .before .loop .inv .0) (b .loop-test .taken) _ (q .before .index .ensures .0) Ending.Full (e .0) (e .1) _ (c .ended3 .ensures) in
-    (x, (y, e .1 .scratch-long))
+    along-ends (b .before .loop .inv .0) (b .loop-test .taken) _ (q .before .index .ensures .0) Ending.Full (λ s. refl) (e .0) (e .1) _ (c .ended3 .ensures)
 
 loop-again : tie.Need-loop-again Inv-loop μ-loop
 loop-again c =
@@ -75,8 +72,7 @@ loop-again c =
 returns-4 : tie.Need-returns-4 Inv-loop μ-loop
 returns-4 c =
     let a = c .before .before .before .loop .inv .0 in
-    let (x, y) = along-cut a (c .before .before .loop-test .left) _ (c .ended4 .ensures) in
-    (x, (y, a .arrays .scratch-long))
+    along-cut a (c .before .before .loop-test .left) _ (c .ended4 .ensures)
 
 pub run-schedule-spec : {M : Type 1} → statement M
 run-schedule-spec =

@@ -1,0 +1,10 @@
+pub mod Buffer
+pub mod Slots
+pub mod Form
+pub mod Endings
+pub mod Checks
+pub mod Parking
+pub mod Resuming
+pub mod Refusals
+pub mod Unbroken
+pub mod Samples

@@ -1,0 +1,3 @@
+pub mod Form
+pub mod Points
+pub mod Change11

@@ -1,0 +1,9 @@
+pub mod Fields
+pub mod Lacking
+pub mod Parts
+pub mod Numbers
+pub mod Term
+pub mod Frames
+pub mod Units
+pub mod Order
+pub mod Loading

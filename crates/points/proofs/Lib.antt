@@ -1,0 +1,4 @@
+pub mod Slots
+pub mod Part
+pub mod Parks
+pub mod Named

@@ -1,0 +1,2 @@
+pub mod Spec
+pub mod Contracts

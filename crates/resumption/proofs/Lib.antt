@@ -1,0 +1,3 @@
+pub mod Slot
+pub mod Going
+pub mod Answers
