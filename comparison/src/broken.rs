@@ -14,10 +14,11 @@ use crate::model::{
 use crate::nets::Walker;
 use crate::program::Pages;
 use crate::subject::{
-    hand_over, hand_over_charge, hand_over_records, hand_over_settled, Charged, Done, Lent,
-    ModelSubject, Parts, Profile, Question, Settled, Subject, Told, Written, MODEL_PUBLISHED,
+    hand_over, hand_over_bound, hand_over_charge, hand_over_records, hand_over_settled, Bounded,
+    Charged, Done, Lent, ModelSubject, Parts, Profile, Question, Settled, Subject, Told, Written,
+    MODEL_PUBLISHED,
 };
-use crate::{broken_fees, broken_lines, broken_marks, broken_strict};
+use crate::{broken_bounds, broken_fees, broken_lines, broken_marks, broken_strict};
 
 #[derive(Clone, Copy, Debug, PartialEq, Eq)]
 pub enum Slip {
@@ -200,9 +201,23 @@ pub enum Slip {
     Formless,
     /// The pair is not zeroed where a book is admitted.
     Stale,
+    /// S is told without BINGO.
+    Unended,
+    /// F is told as the FORKs granted alone.
+    Granted,
+    /// S and F are told also where one unit ends full.
+    Filled,
+    /// S and F are those of a run without marks.
+    Unmarked,
+    /// The budget doesn't count for S and F.
+    Unpaid,
+    /// How long a schedule suffices is refused by 13 too.
+    Crew,
+    /// The work area is not left zero when S and F are told.
+    Leftover,
 }
 
-pub const SLIPS: [(&str, Slip); 89] = [
+pub const SLIPS: [(&str, Slip); 96] = [
     ("join", Slip::Join),
     ("list", Slip::List),
     ("zeros", Slip::Zeros),
@@ -292,6 +307,13 @@ pub const SLIPS: [(&str, Slip); 89] = [
     ("repeating", Slip::Repeating),
     ("formless", Slip::Formless),
     ("stale", Slip::Stale),
+    ("unended", Slip::Unended),
+    ("granted", Slip::Granted),
+    ("filled", Slip::Filled),
+    ("unmarked", Slip::Unmarked),
+    ("unpaid", Slip::Unpaid),
+    ("crew", Slip::Crew),
+    ("leftover", Slip::Leftover),
 ];
 
 impl Slip {
@@ -318,6 +340,16 @@ impl Slip {
                 Even | Upward | Dropped | First | Signed | Higher | Gross | Hasty | Limit
             )
             || matches!(self, Inverted | Severed | Wrapped | Cleared)
+    }
+
+    /// Does it show only in how long a schedule suffices? The others don't show
+    /// there.
+    pub fn is_of_bounds(self) -> bool {
+        use Slip::*;
+        matches!(
+            self,
+            Unended | Granted | Filled | Unmarked | Unpaid | Crew | Leftover
+        )
     }
 
     /// Does it show only where a line is reduced before it is charged?
@@ -387,6 +419,15 @@ impl Subject for BrokenModel {
 
     fn profile(&mut self, book: &[u8]) -> Profile {
         broken_strict::profile(self.slip, book)
+    }
+
+    fn bound(&mut self, question: &Question, lent: &mut Lent) -> Bounded {
+        let told = broken_bounds::told(self.slip, question, lent.lengths());
+        let bounded = hand_over_bound(&told, lent);
+        if let (Slip::Leftover, 0, [.., last]) = (self.slip, bounded.refusal, &mut *lent.work) {
+            *last = 1;
+        }
+        bounded
     }
 }
 

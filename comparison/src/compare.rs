@@ -4,6 +4,7 @@ use std::fmt::{self, Debug, Display, Formatter};
 use std::ops::Range;
 
 use crate::batches::{self, Batches};
+use crate::bounds::{self, Bounds};
 use crate::buffers::{hexadecimal, Lenders, PartsLender};
 use crate::charges::{self, Charges};
 use crate::days::{self, Days};
@@ -20,7 +21,7 @@ use crate::records;
 use crate::repeats::{self, Repeats};
 use crate::shrink::shrink;
 use crate::strict;
-use crate::subject::{Charged, Done, Profile, Question, Settled, Subject, Told, Written};
+use crate::subject::{Bounded, Charged, Done, Profile, Question, Settled, Subject, Told, Written};
 
 /// Those of a run that are not its book's. Refusal 17 is about the program's
 /// input, which a subject never sees.
@@ -45,6 +46,7 @@ pub struct Tally {
     pub batches: Batches,
     pub charges: Charges,
     pub profiles: Profiles,
+    pub bounds: Bounds,
 }
 
 impl Tally {
@@ -79,6 +81,7 @@ impl Tally {
             unmet_kinds("batches", &batches::KINDS, &self.batches.counts),
             unmet_kinds("charges", &charges::KINDS, &self.charges.counts),
             unmet_kinds("books", &profiles::KINDS, &self.profiles.counts),
+            unmet_kinds("lines", &bounds::KINDS, &self.bounds.counts),
         ]
         .concat()
     }
@@ -172,6 +175,8 @@ impl<'a> Comparison<'a> {
     pub fn check(&mut self, case: &Case) -> Option<String> {
         let book = case.book();
         let run = self.check_run(case, &book);
+        let rounds = case.rounds;
+        let bound = rounds.and_then(|seed| self.check_bound(case, &book, seed));
         let writer = self.check_writer(case, &book);
         let batch = case.batch.as_ref();
         let batch = batch.and_then(|batch| self.check_batch(case, batch, &book));
@@ -181,7 +186,8 @@ impl<'a> Comparison<'a> {
         let profile = self.check_profile(&book);
         let rearranged = case.rearranged;
         let rearranged = rearranged.and_then(|seed| self.check_rearranged(case, &book, seed));
-        run.or(writer)
+        run.or(bound)
+            .or(writer)
             .or(batch)
             .or(charge)
             .or(settled)
@@ -202,6 +208,35 @@ impl<'a> Comparison<'a> {
             self.tally.marks.count(&question);
         }
         self.compare_run("values", &question, case, &expected)
+    }
+
+    /// How long a schedule suffices; and that so many rounds do, of the model's
+    /// runs and of the subject's.
+    fn check_bound(&mut self, case: &Case, book: &[u8], seed: u64) -> Option<String> {
+        let published = self.subject.published();
+        let lengths = case.lengths(published);
+        let question = Question::of(case, book);
+        let expected = bounds::answer(&question, lengths, published);
+        self.tally.bounds.count(&expected);
+        let mut lent = self.lent.lend(lengths, case.junk);
+        let found = self.subject.bound(&question, &mut lent);
+        let front = expected.is_ok().then_some(&[][..]);
+        let told = compare_values("bound", &Bounded::of(&expected), &found)
+            .or_else(|| self.lent.difference("output beside a bound", front));
+        if told.is_some() {
+            return told;
+        }
+        let enough = bounds::enough(&question, &expected, seed)?;
+        let claim = self.tally.bounds.try_claim(&question, &enough);
+        claim.or_else(|| {
+            let schedule = &enough.rounds;
+            let question = Question {
+                schedule,
+                ..question
+            };
+            let expected = question.answer(lengths, published);
+            self.compare_run("values of enough rounds", &question, case, &expected)
+        })
     }
 
     /// Puts a question in the case's buffers to the subject, of which this is
@@ -390,6 +425,9 @@ fn write_case(text: &mut Formatter, case: &Case) -> fmt::Result {
     if let Some(seed) = case.rearranged {
         writeln!(text, "rules    rearranged from seed {seed}")?;
     }
+    if let Some(seed) = case.rounds {
+        writeln!(text, "rounds   from seed {seed}")?;
+    }
     if let Some(batch) = &case.batch {
         write_batch(text, batch)?;
     }
@@ -437,14 +475,15 @@ impl Display for Tally {
         }
         write!(
             text,
-            "{}{}{}{}{}{}{}",
+            "{}{}{}{}{}{}{}{}",
             self.repeats,
             self.days,
             self.nets,
             self.marks,
             self.batches,
             self.charges,
-            self.profiles
+            self.profiles,
+            self.bounds
         )
     }
 }

@@ -225,6 +225,8 @@ pub struct Case {
     pub fees: Option<Fees>,
     /// Seeds another order of the rules, which is asked besides.
     pub rearranged: Option<u64>,
+    /// Seeds rounds; how long a schedule suffices is asked besides.
+    pub rounds: Option<u64>,
 }
 
 impl Case {
@@ -248,6 +250,7 @@ impl Case {
             batch: None,
             fees: None,
             rearranged: None,
+            rounds: None,
         }
     }
 

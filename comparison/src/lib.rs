@@ -17,6 +17,7 @@
 //! - `days`: what they try of rules with days.
 //! - `nets`: what they try of a net over the left sides.
 //! - `marks`: what they try of marks.
+//! - `bounds`: how long a schedule suffices, and what they try of it.
 //! - `batches`: random lines for one book, and what they try.
 //! - `charges`: random amounts, rates and shares, and what they try.
 //! - `by_hand`, `foreign`: points that no run saved, by hand and at random.
@@ -25,15 +26,18 @@
 //! - `parted`: random books that are strict, or nearly so; `profiles`: what they
 //!   try.
 //! - `broken`, `broken_lines`, `broken_marks`, `broken_fees`, `broken_strict`,
-//!   `broken_points`: the model with one slip, to show that slips are found.
+//!   `broken_bounds`, `broken_points`: the model with one slip, to show that slips
+//!   are found.
 //! - `library`: the static library as a subject, under the feature `library`.
 //! - `program`: the pages of the programs `reduce` and `payee`.
 //! - `vectors`: pages and written books from outside.
 
 pub mod batches;
 pub mod books;
+pub mod bounds;
 pub mod branching;
 pub mod broken;
+pub mod broken_bounds;
 pub mod broken_fees;
 pub mod broken_lines;
 pub mod broken_marks;

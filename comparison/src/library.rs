@@ -5,7 +5,8 @@ use kurvneist::{raw, Batch, Request};
 use crate::draft::Fees;
 use crate::model::{Form, Lengths};
 use crate::subject::{
-    Charged, Done, Lent, Parking, Parts, Profile, Question, Settled, Subject, Told, Written,
+    Bounded, Charged, Done, Lent, Parking, Parts, Profile, Question, Settled, Subject, Told,
+    Written,
 };
 
 /// What a value holds before the call, so that a zero that is due must be written.
@@ -126,6 +127,22 @@ impl Subject for Library {
         let mut pair = [JUNK; raw::PAIR_LENGTH];
         let refusal = raw::strict_book(book, &mut pair);
         Profile { refusal, pair }
+    }
+
+    fn bound(&mut self, question: &Question, lent: &mut Lent) -> Bounded {
+        let call = match question.form {
+            Form::Line => raw::bound,
+            Form::Text => raw::bound_payee,
+        };
+        let mut values = [JUNK; raw::BOUND_LENGTH];
+        let refusal = call(&request(question), lent.work, lent.net, &mut values);
+        let [ending, orders, forks] = values;
+        Bounded {
+            refusal,
+            ending,
+            orders,
+            forks,
+        }
     }
 }
 

@@ -85,6 +85,9 @@ const STRICT_BEHIND: u64 = 4;
 /// One case in so many has fees.
 const FEES_EVERY: u64 = 3;
 
+/// One case in so many has rounds.
+const ROUNDS_EVERY: u64 = 2;
+
 /// The numbered case of a seed. Every third one is a text.
 pub fn numbered(seed: u64, number: u64) -> Case {
     let mut random = Random::for_case(seed, number);
@@ -104,6 +107,9 @@ pub fn numbered(seed: u64, number: u64) -> Case {
     }
     if number / 3 % FEES_EVERY == 0 {
         case.fees = Some(charges::fees(&mut random, &case));
+    }
+    if number / 2 % ROUNDS_EVERY == 0 {
+        case.rounds = Some(random.draw());
     }
     case
 }

@@ -1,7 +1,8 @@
 //! Makes a case small while it still shows a difference.
 
+use crate::bounds;
 use crate::draft::{Batch, Case, Draft, Fees, RuleDraft, Symbol};
-use crate::model::{squeezed, Form, END, OUTPUT_LEN};
+use crate::model::{squeezed, Form, Lengths, END, OUTPUT_LEN};
 use crate::records::{LONGEST, LONGEST_LINE};
 use crate::subject::Question;
 
@@ -33,6 +34,8 @@ impl Shrinker<'_> {
         // A difference that is none of fees shows without them.
         self.try_change(|case| case.fees = None);
         self.try_change(|case| case.rearranged = None);
+        self.try_change(|case| case.rounds = None);
+        self.rounds_to_schedule();
         self.thin(|case| &mut case.damage);
         self.thin(|case| &mut case.schedule);
         self.fewer_units();
@@ -52,6 +55,22 @@ impl Shrinker<'_> {
             self.smaller_fees();
         }
         self.case != before && self.tries > 0
+    }
+
+    /// What the run of enough rounds shows is shown by a schedule.
+    fn rounds_to_schedule(&mut self) {
+        let Some(seed) = self.case.rounds else {
+            return;
+        };
+        let book = self.case.book();
+        let question = Question::of(&self.case, &book);
+        let told = bounds::answer(&question, Lengths::LEAST, Lengths::LEAST);
+        if let Some(enough) = bounds::enough(&question, &told, seed) {
+            self.try_change(|case| {
+                case.schedule = enough.rounds;
+                case.rounds = None;
+            });
+        }
     }
 
     /// Keeps the candidate if it still differs.

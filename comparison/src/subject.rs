@@ -1,5 +1,6 @@
 //! What an implementation under comparison offers.
 
+use crate::bounds;
 use crate::draft::{Case, Fees};
 use crate::fees::{self, Charge, MOST_OWNERS};
 use crate::model::{self, Answer, Form, Lengths};
@@ -136,6 +137,35 @@ impl Profile {
     }
 }
 
+/// The values that say how long a schedule suffices. Unless the ending is 0 the
+/// other two are 0, and after a refusal all three.
+#[derive(Clone, Copy, Debug, Default, PartialEq, Eq)]
+pub struct Bounded {
+    pub refusal: u8,
+    /// Of one unit.
+    pub ending: u64,
+    pub orders: u64,
+    pub forks: u64,
+}
+
+impl Bounded {
+    pub fn of(told: &bounds::Told) -> Bounded {
+        let none = Bounded::default();
+        match *told {
+            Err(refusal) => Bounded { refusal, ..none },
+            Ok(Err(ending)) => Bounded {
+                ending: ending.into(),
+                ..none
+            },
+            Ok(Ok(bound)) => Bounded {
+                orders: bound.orders,
+                forks: bound.forks,
+                ..none
+            },
+        }
+    }
+}
+
 /// The values that many lines are answered. After a refusal all but its number
 /// are 0.
 #[derive(Clone, Copy, Debug, Default, PartialEq, Eq)]
@@ -247,6 +277,11 @@ pub trait Subject {
 
     /// What the strict profile says of a book.
     fn profile(&mut self, book: &[u8]) -> Profile;
+
+    /// How long a schedule suffices for the question's line; its units and its
+    /// schedule don't count, and the output is not lent. Leaves both areas all
+    /// zero unless it refuses.
+    fn bound(&mut self, question: &Question, lent: &mut Lent) -> Bounded;
 }
 
 /// What an implementation that parks runs offers besides.
@@ -323,6 +358,11 @@ impl Subject for ModelSubject {
     fn profile(&mut self, book: &[u8]) -> Profile {
         Profile::of(&strict::check(book))
     }
+
+    fn bound(&mut self, question: &Question, lent: &mut Lent) -> Bounded {
+        let told = bounds::answer(question, lent.lengths(), MODEL_PUBLISHED);
+        hand_over_bound(&told, lent)
+    }
 }
 
 impl Parking for ModelSubject {
@@ -391,6 +431,14 @@ pub fn hand_over_records(answered: &Result<Answered, u8>, lent: &mut Lent) -> Do
         fill(lent, &answered.records.concat());
     }
     Done::of(answered)
+}
+
+/// Clears both areas and answers the values.
+pub fn hand_over_bound(told: &bounds::Told, lent: &mut Lent) -> Bounded {
+    if told.is_ok() {
+        fill(lent, &[]);
+    }
+    Bounded::of(told)
 }
 
 fn fill(lent: &mut Lent, bytes: &[u8]) {

@@ -25,6 +25,7 @@ fn every_slip_is_found_and_made_small() {
         assert!(shows(slip, small), "{name}");
         check_batch(slip, small, name);
         check_fees(slip, small, name);
+        assert_eq!(small.rounds.is_some(), slip.is_of_bounds(), "{name}");
         // What isn't about texts is shown by a line, also where a text met it.
         assert_eq!(small.form, form_of(slip), "{name}: {difference}");
         let operator_limit = match small.form {
@@ -40,7 +41,7 @@ fn every_slip_is_found_and_made_small() {
         assert_eq!(small.draft.dated, needs_days(slip), "{name}: {difference}");
         // Copies matter only near the symbol limit, and so does what is told at it.
         let line_limit = match slip {
-            Slip::Copies | Slip::Late | Slip::Swapped => 1024,
+            Slip::Copies | Slip::Late | Slip::Swapped | Slip::Filled => 1024,
             _ => 30,
         };
         assert!(small.line.len() <= line_limit, "{name}: {difference}");
@@ -115,7 +116,7 @@ fn what_was_not_met_is_named() {
     let (tally, _) = compare(&mut ModelSubject, 31, 0..0);
     assert_eq!(
         tally.missing().len(),
-        4 + 17 + 4 + 14 + 9 + 7 + 8 + 8 + 6 + 10 + 28 + 20
+        4 + 17 + 4 + 14 + 9 + 7 + 8 + 8 + 6 + 10 + 28 + 20 + 10
     );
     assert_eq!(
         tally.missing()[..5].join(", "),
@@ -135,6 +136,7 @@ fn what_was_not_met_is_named() {
     assert_eq!(tally.missing()[77], "batches done to the end");
     assert_eq!(tally.missing()[87], "charges of payments");
     assert_eq!(tally.missing()[115], "books that are admitted");
+    assert_eq!(tally.missing()[135], "lines that are refused");
     let (tally, _) = compare(&mut ModelSubject, 31, 0..2000);
     assert!(tally.missing().is_empty(), "{tally}");
 }

@@ -51,6 +51,9 @@ extern "C" {
 /* The elements of a pair of rules. */
 #define KURVNEIST_PAIR_LENGTH 2
 
+/* The entries of the one-unit run that tells how long a schedule suffices. */
+#define KURVNEIST_BOUND_ENTRIES 65536
+
 /*
  * The elements of an answer. They are told by name, since a later version may add some. In a finished run granted and kept
  * together are exactly the FORKs of a one-unit run without symbol limit. In any other ending they are the FORKs so far.
@@ -71,6 +74,14 @@ enum kurvneist_ending {
     KURVNEIST_SPENT = 1,    /* a rewrite is due and the budget is used up */
     KURVNEIST_FULL = 2,     /* a rewrite is due that would make over 1,024 symbols */
     KURVNEIST_CUT = 3       /* the schedule has no further entry */
+};
+
+/* The elements of what says how long a schedule suffices. */
+enum kurvneist_bound_answer {
+    KURVNEIST_BOUND_ENDING = 0, /* how the one-unit run ended, an ending's number; 0 if S and F are known */
+    KURVNEIST_BOUND_ORDERS = 1, /* S: the orders that it carries out, BINGO included; otherwise 0 */
+    KURVNEIST_BOUND_FORKS = 2,  /* F: its FORKs; otherwise 0 */
+    KURVNEIST_BOUND_LENGTH = 3
 };
 
 /* The elements of what many lines are answered. */
@@ -366,6 +377,39 @@ uint8_t kurvneist_resume(const uint8_t *name, size_t name_length,
                          uint8_t *points, size_t points_length,
                          uint8_t *output, size_t output_length,
                          uint64_t *answer);
+
+/*
+ * Says how long a schedule suffices for a line, whatever the number of units: S, the orders that a run of one unit without
+ * symbol limit carries out, and F, its FORKs. If that run finishes within the budget, then by the same book, line, budget and
+ * day kurvneist_reduce carries out at most S + 3 * F orders, under any schedule; an entry for an idle unit is none. So
+ * S + 4 * F rounds, each naming every unit, never end cut: they finish, or end full. This holds for runs in parts too, all
+ * parts together.
+ *
+ * The two are told by a run of one unit over KURVNEIST_BOUND_ENTRIES entries, with the symbol limit of every run. If it
+ * finishes, `answer`, of KURVNEIST_BOUND_LENGTH elements, has 0, S and F, and S is at most KURVNEIST_BOUND_ENTRIES. Otherwise
+ * it has the ending and two zeros, and the two are not known: after KURVNEIST_SPENT no schedule finishes the line within the
+ * budget; after KURVNEIST_FULL another order of units might keep the limit of 1,024 symbols; after KURVNEIST_CUT there are
+ * more orders.
+ *
+ * The result is 0, or the number of a refusal: 15; the book, 1 to 5, 7 to 9; the line, 12, 11, 10. After 0 `work` and `net`
+ * are all zero, whatever they held before. After a refusal `answer` is all zero, and `work` and `net` are as they were.
+ *
+ * Schedule and output of that run are its own: it uses some 90,000 bytes of stack.
+ */
+uint8_t kurvneist_bound(const uint8_t *book, size_t book_length,
+                        const uint8_t *line, size_t line_length,
+                        uint32_t budget, uint16_t day,
+                        uint8_t *work, size_t work_length,
+                        uint8_t *net, size_t net_length,
+                        uint64_t *answer);
+
+/* The same for a payee's text, as kurvneist_payee takes it; its refusals are 19 and 18 in the place of the line's. */
+uint8_t kurvneist_bound_payee(const uint8_t *book, size_t book_length,
+                              const uint8_t *text, size_t text_length,
+                              uint32_t budget, uint16_t day,
+                              uint8_t *work, size_t work_length,
+                              uint8_t *net, size_t net_length,
+                              uint64_t *answer);
 
 /*
  * Writes a book with its strategies settled to the front of `output`; the output's other bytes are as they were. A dated

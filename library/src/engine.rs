@@ -1,9 +1,9 @@
 //! An engine with buffers of its own.
 
 use crate::{
-    park, park_payee, payee, payee_lines, reduce, reduce_lines, resume, settle, settle_payee,
-    Answer, Batch, Charge, Done, Fees, Lines, Points, Postings, Refusal, Request, Settlement, Stop,
-    NET_LENGTH, OUTPUT_LENGTH, WORK_LENGTH,
+    bound, bound_payee, park, park_payee, payee, payee_lines, reduce, reduce_lines, resume, settle,
+    settle_payee, Answer, Batch, Bound, Charge, Done, Fees, Lines, Points, Postings, Refusal,
+    Request, Settlement, Stop, NET_LENGTH, OUTPUT_LENGTH, WORK_LENGTH,
 };
 
 /// Owns one work area, one area for the net and one output and lends them to every run, so that posting a line allocates
@@ -53,6 +53,33 @@ impl Engine {
     pub fn post_payee(&mut self, request: &Request) -> Result<Posting<'_>, Refusal> {
         let answer = payee(request, &mut self.work, &mut self.net, &mut self.output)?;
         Ok(self.posting(answer))
+    }
+
+    /// Says how long a schedule suffices for a line that is a term, as [`bound`](crate::bound) does; the request's own units
+    /// and schedule don't count. The refusals 13 to 16 can't come.
+    ///
+    /// ```
+    /// use kurvneist::{Ending, Engine, Request};
+    ///
+    /// // both(end, Y) gives Y; both(tick(X), Y) gives tick(both(X, Y))
+    /// let book = b"\x03\x02\x52\xc0\x94\x80\x10\x08\x01\x18\x80\x80\x30\x88\x04\x05\x08\x80";
+    /// let request = Request::new(book, &[2, 1, 0, 1, 0]).units(2).budget(9);
+    /// let mut engine = Engine::new();
+    /// let enough = engine.bound(&request)?.told().expect("one unit finishes");
+    /// assert_eq!((enough.orders, enough.forks, enough.rounds()), (22, 2, 30));
+    /// let schedule = enough.schedule(2);
+    /// assert_eq!(schedule.len(), 60);
+    /// let posting = engine.post(&request.schedule(&schedule))?;
+    /// assert_eq!((posting.answer.ending, posting.answer.entries), (Ending::Finished, 33));
+    /// # Ok::<(), kurvneist::Refusal>(())
+    /// ```
+    pub fn bound(&mut self, request: &Request) -> Result<Bound, Refusal> {
+        bound(request, &mut self.work, &mut self.net)
+    }
+
+    /// The same for a line that is a payee's text.
+    pub fn bound_payee(&mut self, request: &Request) -> Result<Bound, Refusal> {
+        bound_payee(request, &mut self.work, &mut self.net)
     }
 
     /// Carries out one run whose line is a term, under a name, and if it ends cut saves it there, as [`park`] does. The

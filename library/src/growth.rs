@@ -18,8 +18,8 @@
 //! let fees = kurvneist::Fees { rates: &[], shares: &[] };
 //! ```
 //!
-//! An answer, a posting, what is done, what is settled or why a book is not strict is not taken apart into all its fields;
-//! with `..` it is:
+//! An answer, a posting, what is done, what is settled, what is enough or why a book is not strict is not taken apart into all
+//! its fields; with `..` it is:
 //!
 //! ```compile_fail,E0638
 //! fn rewrites(answer: kurvneist::Answer) -> u32 {
@@ -50,6 +50,13 @@
 //! ```
 //!
 //! ```compile_fail,E0638
+//! fn forks(enough: kurvneist::Enough) -> u64 {
+//!     let kurvneist::Enough { orders: _, forks } = enough;
+//!     forks
+//! }
+//! ```
+//!
+//! ```compile_fail,E0638
 //! fn pair(fault: kurvneist::NotStrict) -> Option<[usize; 2]> {
 //!     let kurvneist::NotStrict { refusal: _, pair } = fault;
 //!     pair
@@ -63,7 +70,7 @@
 //! }
 //! ```
 //!
-//! Endings, stops and refusals have an arm for those to come; then they can be matched:
+//! Endings, stops, bounds and refusals have an arm for those to come; then they can be matched:
 //!
 //! ```compile_fail,E0004
 //! # use kurvneist::Ending;
@@ -81,6 +88,16 @@
 //!     match stop {
 //!         Stop::Room => true,
 //!         Stop::End | Stop::Cut => false,
+//!     }
+//! }
+//! ```
+//!
+//! ```compile_fail,E0004
+//! # use kurvneist::Bound;
+//! fn is_known(bound: Bound) -> bool {
+//!     match bound {
+//!         Bound::Told(_) => true,
+//!         Bound::Unknown(_) => false,
 //!     }
 //! }
 //! ```

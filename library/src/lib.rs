@@ -50,6 +50,8 @@
 //! A run that takes long is given a name and parked: if it ends cut, [`Engine::park`] saves it among [`Points`], which the caller
 //! keeps, and [`Engine::resume`] goes on with it later, to the same end as if it had not been parked.
 //!
+//! How long a schedule suffices is known before the run: [`Engine::bound`] tells it for any number of units, by a run of one.
+//!
 //! Of a book that [`strict_book`] admits no term is matched by two rules, so that their order is free.
 //!
 //! A refusal has a name, a number and a condition, and leaves every buffer as it was:
@@ -63,13 +65,15 @@
 //! ```
 //!
 //! [`Request`], [`Batch`], [`Fees`], [`Answer`], [`Done`], [`Posting`], [`Charge`], [`Settlement`], [`NotStrict`],
-//! [`Ending`], [`Stop`] and [`Refusal`] grow as the engine does: a request is made by [`Request::new`], a batch by
-//! [`Batch::new`], fees by [`Fees::new`], and a `match` on an ending, a stop or a refusal has an arm for what it doesn't know.
+//! [`Enough`], [`Bound`], [`Ending`], [`Stop`] and [`Refusal`] grow as the engine does: a request is made by
+//! [`Request::new`], a batch by [`Batch::new`], fees by [`Fees::new`], and a `match` on a bound, an ending, a stop or a
+//! refusal has an arm for what it doesn't know.
 #![deny(unsafe_code)]
 #![warn(missing_docs)]
 
 mod answer;
 mod batch;
+mod bound;
 mod engine;
 mod fees;
 #[cfg(doctest)]
@@ -84,6 +88,7 @@ mod strict;
 
 pub use answer::{Answer, Ending};
 pub use batch::{payee_lines, reduce_lines, Batch, Done, Stop};
+pub use bound::{bound, bound_payee, Bound, Enough, BOUND_ENTRIES};
 pub use engine::{Engine, Posting};
 pub use fees::{
     charge, settle, settle_payee, Charge, FeeTable, Fees, Settlement, LARGEST_AMOUNT, MOST_OWNERS,

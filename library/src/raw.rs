@@ -207,6 +207,32 @@ mod c {
             output_length: usize,
             answer: *mut u64,
         ) -> u8;
+        pub fn kurvneist_bound(
+            book: *const u8,
+            book_length: usize,
+            line: *const u8,
+            line_length: usize,
+            budget: u32,
+            day: u16,
+            work: *mut u8,
+            work_length: usize,
+            net: *mut u8,
+            net_length: usize,
+            answer: *mut u64,
+        ) -> u8;
+        pub fn kurvneist_bound_payee(
+            book: *const u8,
+            book_length: usize,
+            text: *const u8,
+            text_length: usize,
+            budget: u32,
+            day: u16,
+            work: *mut u8,
+            work_length: usize,
+            net: *mut u8,
+            net_length: usize,
+            answer: *mut u64,
+        ) -> u8;
         pub fn kurvneist_write_book(
             book: *const u8,
             book_length: usize,
@@ -236,6 +262,9 @@ pub struct Settled {
     /// The owners' parts at the front, if the posting was charged. The other elements stay.
     pub parts: [i64; MOST_OWNERS],
 }
+
+/// The numbers that say how long a schedule suffices: the ending of the one-unit run, S and F.
+pub const BOUND_LENGTH: usize = 3;
 
 /// The numbers of a pair of rules that overlap: the first rule's and the second's, from 0.
 pub const PAIR_LENGTH: usize = 2;
@@ -592,6 +621,56 @@ pub fn resume(
             points.len(),
             output.as_mut_ptr(),
             output.len(),
+            answer.as_mut_ptr(),
+        )
+    }
+}
+
+/// A refusal's number, or 0. The answer is all zeros after a refusal, and S and F are zeros unless the ending is 0.
+pub fn bound(
+    request: &Request,
+    work: &mut [u8],
+    net: &mut [u8],
+    answer: &mut [u64; BOUND_LENGTH],
+) -> u8 {
+    // SAFETY: every pointer and length are those of one slice, and `answer` has the three elements that are written.
+    unsafe {
+        c::kurvneist_bound(
+            request.book.as_ptr(),
+            request.book.len(),
+            request.line.as_ptr(),
+            request.line.len(),
+            request.budget,
+            request.day,
+            work.as_mut_ptr(),
+            work.len(),
+            net.as_mut_ptr(),
+            net.len(),
+            answer.as_mut_ptr(),
+        )
+    }
+}
+
+/// The same where the request's line is a text.
+pub fn bound_payee(
+    request: &Request,
+    work: &mut [u8],
+    net: &mut [u8],
+    answer: &mut [u64; BOUND_LENGTH],
+) -> u8 {
+    // SAFETY: as for `bound`, whose parameters these are.
+    unsafe {
+        c::kurvneist_bound_payee(
+            request.book.as_ptr(),
+            request.book.len(),
+            request.line.as_ptr(),
+            request.line.len(),
+            request.budget,
+            request.day,
+            work.as_mut_ptr(),
+            work.len(),
+            net.as_mut_ptr(),
+            net.len(),
             answer.as_mut_ptr(),
         )
     }

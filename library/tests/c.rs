@@ -5,8 +5,9 @@ use std::path::{Path, PathBuf};
 use std::process::Command;
 
 use kurvneist::{
-    raw, Ending, Refusal, Stop, LARGEST_AMOUNT, LONGEST_BOOK, LONGEST_NAME, LONGEST_RECORD,
-    MOST_NAMES, MOST_OWNERS, NET_LENGTH, OUTPUT_LENGTH, POINTS_LENGTH, WHOLE, WORK_LENGTH,
+    raw, Ending, Refusal, Stop, BOUND_ENTRIES, LARGEST_AMOUNT, LONGEST_BOOK, LONGEST_NAME,
+    LONGEST_RECORD, MOST_NAMES, MOST_OWNERS, NET_LENGTH, OUTPUT_LENGTH, POINTS_LENGTH, WHOLE,
+    WORK_LENGTH,
 };
 
 const STRICT: [&str; 5] = ["-std=c99", "-O2", "-Wall", "-Wextra", "-Werror"];
@@ -71,6 +72,8 @@ fn names_of_the_header_have_the_numbers_of_the_crate() {
         ("LargestAmount", LARGEST_AMOUNT as usize),
         ("Whole", WHOLE.into()),
         ("PairLength", raw::PAIR_LENGTH),
+        ("BoundLength", raw::BOUND_LENGTH),
+        ("BoundEntries", BOUND_ENTRIES),
         ("PointsLength", POINTS_LENGTH),
         ("MostNames", MOST_NAMES),
         ("LongestName", LONGEST_NAME),
@@ -125,4 +128,9 @@ fn examples_post_what_they_say() {
     let points = "parked: ending 3, entries 12, rewrites 0, term 2 1 0 1 0\n\
         resumed: ending 0, entries 33, rewrites 2, term 1 1 0\n";
     assert_eq!(run("examples/points.c"), points);
+    let bound = "1 unit: 30 rounds of 1 suffice; ending 0 after 22 entries\n\
+        2 units: 30 rounds of 2 suffice; ending 0 after 33 entries\n\
+        8 units: 30 rounds of 8 suffice; ending 0 after 129 entries\n\
+        not known: one unit ends 2\n";
+    assert_eq!(run("examples/bound.c"), bound);
 }

@@ -7,8 +7,8 @@ use std::fs;
 use common::*;
 use kurvneist::{
     charge, reduce_lines, round_robin, strict_book, written_book, Batch, Ending, Engine, Fees,
-    Points, Posting, Refusal, Request, Stop, LARGEST_AMOUNT, LONGEST_BOOK, LONGEST_RECORD,
-    MOST_OWNERS, NET_LENGTH, OUTPUT_LENGTH, POINTS_LENGTH, WHOLE, WORK_LENGTH,
+    Points, Posting, Refusal, Request, Stop, BOUND_ENTRIES, LARGEST_AMOUNT, LONGEST_BOOK,
+    LONGEST_RECORD, MOST_OWNERS, NET_LENGTH, OUTPUT_LENGTH, POINTS_LENGTH, WHOLE, WORK_LENGTH,
 };
 
 fn format() -> String {
@@ -130,6 +130,70 @@ fn a_strict_book_and_one_that_is_not() {
     assert!(format.contains("refused by 25 with the rules 0 and 2"));
     let dated = strict_book(&bytes(block(&format, "dated"))).unwrap_err();
     assert_eq!((dated.refusal.number(), dated.pair), (24, None));
+}
+
+/// S, F and what comes of them, for each line of the table.
+#[test]
+fn lines_have_their_bounds() {
+    let format = format();
+    let book = bytes(block(&format, "book"));
+    let head = "| Line | S | F | S + 3 × F | S + 4 × F | Entries for two units | Used by two units in turn |";
+    let rows = table(&format, head);
+    assert_eq!(rows.len(), 3);
+    for row in rows {
+        let line = bytes(&row[0]);
+        let request = Request::new(&book, &line).units(2).budget(9);
+        let mut engine = Engine::new();
+        let enough = engine.bound(&request).unwrap().told().unwrap();
+        let schedule = enough.schedule(2);
+        let answer = engine.post(&request.schedule(&schedule)).unwrap().answer;
+        assert_eq!(answer.ending, Ending::Finished);
+        let told = [
+            enough.orders,
+            enough.forks,
+            enough.most_orders(),
+            enough.rounds(),
+            enough.entries(2),
+            answer.entries,
+        ];
+        assert_eq!(row[1..], told.map(|number| number.to_string()), "{row:?}");
+    }
+}
+
+/// The run that carries out S + 3 × F orders.
+#[test]
+fn the_bound_is_sharp() {
+    let format = format();
+    let book = bytes(block(&format, "book"));
+    let schedule = bytes(block(&format, "sharp"));
+    let request = Request::new(&book, &[2, 0, 0]).units(2).budget(9);
+    let mut engine = Engine::new();
+    let enough = engine.bound(&request).unwrap().told().unwrap();
+    assert_eq!(enough.most_orders(), schedule.len() as u64);
+    let answer = engine.post(&request.schedule(&schedule)).unwrap().answer;
+    assert_eq!((answer.ending, answer.entries), (Ending::Finished, 13));
+    assert!(format.contains("each of these 13 entries carries out an order"));
+}
+
+/// What is answered where one unit doesn't finish, and the most that can be told.
+#[test]
+fn bounds_that_are_not_known() {
+    let format = format();
+    let rows = table(&format, "| One unit ends | Then S and F are | Since |");
+    let endings: Vec<String> = (0..4).map(|number: u8| number.to_string()).collect();
+    let numbers: Vec<String> = rows.iter().map(|row| row[0].clone()).collect();
+    assert_eq!(numbers, endings);
+    for row in &rows {
+        let known = row[0] == Ending::Finished.number().to_string();
+        assert_eq!(
+            row[1],
+            ["not known, and 0", "both known"][usize::from(known)]
+        );
+    }
+    let shown = |number: usize| format!("{},{:03}", number / 1000, number % 1000);
+    for most in [BOUND_ENTRIES, 5 * BOUND_ENTRIES] {
+        assert!(format.contains(&shown(most)), "{most}");
+    }
 }
 
 fn page_of(posting: &Posting) -> String {

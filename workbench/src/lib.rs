@@ -10,7 +10,7 @@
 //! - `warnings`: what a book may not mean, and whether its rule order is free.
 //! - `trace`: a run entry by entry, as text and as a picture; `explain`: its
 //!   rewrites.
-//! - `posting`: a line's run, by a given schedule or by longer and longer ones.
+//! - `posting`: a line's run, by a given schedule or by as many rounds as suffice.
 //! - `points`: runs that were parked, in a file.
 //! - `batch`, `lines`, `blocks`, `jobs`, `outcome`, `profile`, `progress`: many
 //!   lines against one book.

@@ -1,17 +1,23 @@
-//! Runs as a command line asks for them: by the schedule that it gives, or by
-//! longer and longer ones; under a name, or without.
+//! Runs as a command line asks for them: by the schedule that it gives, or by as
+//! many rounds as suffice; under a name, or without.
 
 use std::ops::Range;
 use std::sync::OnceLock;
 
 use comparison::model::Form;
 use kurvneist::{
-    round_robin, Answer, Batch, Ending, Engine, Lines, Points, Posting, Refusal, Request,
+    round_robin, Answer, Batch, Bound, Ending, Engine, Enough, Lines, Points, Posting, Refusal,
+    Request, BOUND_ENTRIES,
 };
 
-/// Where no schedule is given, the units take turns, and a run that is cut is
-/// made again with the next of these lengths.
+/// Where no schedule is given, the units take turns. A line's first run has the
+/// least of these lengths. One that is cut is made again with as many rounds as
+/// suffice for it or, where that isn't known, with each next length.
 pub const LENGTHS: [usize; 4] = [1 << 15, 1 << 18, 1 << 21, 1 << 24];
+
+/// The rounds that suffice are at most five for each order of one unit, and so
+/// they stand in the longest schedule.
+const _: () = assert!(8 * 5 * BOUND_ENTRIES <= LENGTHS[3]);
 
 /// So many of them for a trace, whose time grows with the square of the length.
 const TRACED: usize = 2;
@@ -42,6 +48,9 @@ impl Posted {
 /// What makes a run.
 pub trait Runner {
     fn run(&mut self, form: Form, request: &Request) -> Result<Posted, Refusal>;
+
+    /// How long a schedule suffices for the request's line.
+    fn bound(&mut self, form: Form, request: &Request) -> Result<Bound, Refusal>;
 }
 
 impl Runner for Engine {
@@ -51,6 +60,13 @@ impl Runner for Engine {
             Form::Text => self.post_payee(request),
         };
         posting.map(Posted::of)
+    }
+
+    fn bound(&mut self, form: Form, request: &Request) -> Result<Bound, Refusal> {
+        match form {
+            Form::Line => Engine::bound(self, request),
+            Form::Text => self.bound_payee(request),
+        }
     }
 }
 
@@ -75,6 +91,10 @@ impl Runner for Parking<'_> {
             parked: is_cut.then_some(points),
             ..posted
         })
+    }
+
+    fn bound(&mut self, form: Form, request: &Request) -> Result<Bound, Refusal> {
+        Runner::bound(&mut self.engine, form, request)
     }
 }
 
@@ -168,8 +188,10 @@ impl Schedules {
         if self.given.is_some() {
             return Ok(first);
         }
-        let levels = 1..LENGTHS.len();
-        let shared = self.shared.go_on(first, runner, form, request, levels)?;
+        let shared = match first.answer.ending {
+            Ending::Cut => self.again(first, runner, form, request)?,
+            _ => first,
+        };
         let ending = shared.answer.ending;
         if self.shared.units == 1 || !matches!(ending, Ending::Full | Ending::Cut) {
             return Ok(shared);
@@ -182,6 +204,27 @@ impl Schedules {
             },
             _ => shared,
         })
+    }
+
+    /// Makes a run that was cut again, so that it isn't, if it is known how long
+    /// a schedule suffices.
+    fn again(
+        &self,
+        cut: Posted,
+        runner: &mut impl Runner,
+        form: Form,
+        request: &Request,
+    ) -> Result<Posted, Refusal> {
+        match runner.bound(form, request)?.told() {
+            Some(enough) => {
+                let schedule = self.shared.enough(enough);
+                runner.run(form, &request.units(self.shared.units).schedule(schedule))
+            }
+            None => {
+                let levels = 1..LENGTHS.len();
+                self.shared.go_on(cut, runner, form, request, levels)
+            }
+        }
     }
 
     /// The schedule of a trace: the given one, or the entries that the run
@@ -243,6 +286,13 @@ impl Turns {
 
     fn schedule(&self, level: usize) -> &[u8] {
         self.schedules[level].get_or_init(|| round_robin(self.units, LENGTHS[level]))
+    }
+
+    /// As many rounds as suffice.
+    fn enough(&self, enough: Enough) -> &[u8] {
+        let entries = enough.entries(self.units) as usize;
+        let level = LENGTHS.iter().position(|length| *length >= entries);
+        &self.schedule(level.unwrap_or(LENGTHS.len() - 1))[..entries]
     }
 
     fn longest_made(&self) -> &[u8] {

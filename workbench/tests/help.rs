@@ -58,7 +58,7 @@ fn the_helps_example_is_a_book() {
 const WRONG: &[(&[&str], &str)] = &[
     (
         &["bok", "x"],
-        "'bok' is no command; expected book, text, check, post, resume, points, explain, trace, batch, fees or help",
+        "'bok' is no command; expected book, text, check, post, bound, resume, points, explain, trace, batch, fees or help",
     ),
     (&["bok", "x"], "; did you mean 'book'?"),
     (&["halp"], "; did you mean 'help'?"),

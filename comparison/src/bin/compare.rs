@@ -1,8 +1,9 @@
 //! Compares the static library, or the programs, with the model on random
 //! cases: lines and, every third one, texts. Some have many lines for their book
-//! besides, some have fees, some another order of the book's rules; only the
-//! library is asked those, and of each book whether it is strict. Behind them come
-//! calls on buffers of points, of which only the library knows too.
+//! besides, some have fees, some another order of the book's rules, some rounds,
+//! of which it is asked how many suffice; only the library is asked those, and of
+//! each book whether it is strict. Behind them come calls on buffers of points, of
+//! which only the library knows too.
 
 use std::ops::Range;
 use std::path::PathBuf;

@@ -2,6 +2,7 @@
 -- line. Assumes nothing.
 use mathlib.Core.Bool.{true, false}
 use mathlib.Core.List.{List, _++_, map}
+use mathlib.Core.Option.{some}
 use mathlib.Core.Path.{_≡_, refl, sym, ap, ap₂, _∙_, subst}
 use Prim.Native.Nat.{ℕ, _≤_, _<_}
 use native.Mathlib.Omega.{arith}
@@ -24,6 +25,8 @@ use Rattle.paper.proofs.Trees.{size-preorder}
 use Rattle.paper.proofs.Above.{helps}
 use Rattle.paper.proofs.Change10.{change-10}
 use Rattle.paper.proofs.Demand3.{demand-3, forks-within}
+use Rattle.paper.proofs.Enough.{enough, most-orders}
+use Rattle.paper.proofs.Idle.{longest-idle}
 use Rattle.paper.proofs.Longest.{picks-longest}
 use Rattle.paper.proofs.OneUnit.{grants, accounted}
 use Rattle.paper.proofs.Queue.{queued-throughout}
@@ -221,6 +224,8 @@ module _ {l : Limits} {schedule book table net bytes : List ℕ} {n work : ℕ} 
             grants = grants B sound (g .term) (of-line .0) (limited budget) units schedule;
             accounted = accounted B sound (g .term) (of-line .0) (limited budget) units schedule;
             change-10 = change-10 book line (any-book book) (day-of net) (g .term) read (g .term-read) units budget schedule;
+            enough = λ n fin. enough B sound (g .term) (of-line .0) budget n fin in-force longest-idle (some 1024) units;
+            sharp = λ n fin. omega (arith, most-orders B sound (g .term) (of-line .0) budget n fin in-force longest-idle (some 1024) units schedule);
             allowed = omega (arith, rewrites-are, ran .bounded .allowed);
             used = omega (arith, entries-are, ran .bounded .used);
             forks-within = forks-within B sound (g .term) (of-line .0) (limited budget) units schedule;

@@ -1,9 +1,10 @@
 -- The entry points of a run: which definition their answers equal, and what becomes of the lent buffers (document 01, 'What is checked where', 'How a
--- run ends', 'What a reviewer will try, in order'; document 02, Changes 1 to 3, 5 and 8 to 10). Assumes nothing.
+-- run ends', 'What a reviewer will try, in order'; document 02, Changes 1 to 3, 5, 8 to 10 and 14). Assumes nothing.
 use mathlib.Core.Bool.{true}
 use mathlib.Core.List.{List, [], _++_}
+use mathlib.Core.Option.{some}
 use mathlib.Core.Path.{_≡_}
-use Prim.Native.Nat.{ℕ, _+_, _≤_}
+use Prim.Native.Nat.{ℕ, _+_, _*_, _≤_}
 use lib.ListN.{length, drop, replicate}
 use Rattle.paper.specs.Result.{Result, refused, accepted}
 use Rattle.paper.specs.Tree.{preorder}
@@ -14,9 +15,10 @@ use Rattle.paper.specs.Text.{readText}
 use Rattle.paper.specs.Reduction.{rewrites, Reduces}
 use Rattle.paper.specs.Machine.{Ending, in-force, start}
 use Rattle.paper.specs.Run.{Answer, run, moments}
-use Rattle.paper.specs.OneUnit.{Grants, Accounted}
+use Rattle.paper.specs.OneUnit.{alone, Grants, Accounted}
 use Rattle.paper.specs.Demand3.{Demand3, Throughout}
 use Rattle.paper.specs.Change10.{Change10}
+use Rattle.paper.specs.Enough.{carried, orders-alone, forks-alone, Enough}
 use Rattle.paper.specs.Idle.{Queued, PicksLongest, WithPast, Helps}
 use Rattle.paper.specs.Page.{Request, Lengths, LineReader, all-below, answerBy}
 use Rattle.entry.specs.State.{limited}
@@ -109,6 +111,11 @@ pub record RunHolds (rules : Book) (term : Term) (units budget : ℕ) (schedule 
   pub accounted : A .ending ≡ Ending.finished → Accounted rules budget term A
   -- finished parts aren't walked again: what is marked has nothing left to do, no order works in it, and VISIT of it is dropped
   pub change-10 : Change10 in-force rules (limited budget) units schedule term
+  -- If the one-unit run without symbol limit finishes within the budget, over some n entries, at most S + 4 × F orders are carried out under any schedule, so S + 4 × F
+  -- rounds, each naming every unit, never end cut; also for a point that a run saved, counted from its first start. Of this schedule it is at most S + 3 × F.
+  pub enough : (n : ℕ) → alone rules budget term n .ending ≡ Ending.finished → Enough rules budget term n in-force (some 1024) units
+  pub sharp : (n : ℕ) → alone rules budget term n .ending ≡ Ending.finished →
+      carried in-force rules (limited budget) units schedule term ≤ orders-alone rules budget term n + 3 * forks-alone rules budget term n
   -- The papers leave free which ending comes where one order of units ends full and another finishes: it is that of this schedule. Whichever
   -- comes, these hold.
   pub allowed : A .rewrites ≤ budget

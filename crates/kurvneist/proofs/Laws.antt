@@ -22,6 +22,8 @@ use Rattle.engine.specs.declared.Answer as A
 use Rattle.batch.specs.Spec as B
 use Rattle.batch.specs.Spec.{doneBy}
 use Rattle.batch.specs.declared.Batch as D
+use Rattle.bound.specs.Spec as N
+use Rattle.bound.specs.declared.Bound as O
 use Rattle.fees.specs.Spec as F
 use Rattle.fees.specs.declared.Charged as G
 use Rattle.points.specs.Spec as P
@@ -31,6 +33,7 @@ use Rattle.writer.specs.Spec.{Answers}
 use Rattle.writer.specs.declared.Written as W
 use Rattle.writer.proofs.Laws.{write-not-six}
 use Rattle.settlement.proofs.Laws.{line-not-six, payee-settled-not-six as payee-not-six-settled}
+use Rattle.bound.proofs.Laws.{line-not-six as line-bound-not-six, text-not-six as text-bound-not-six}
 use Rattle.kurvneist.specs.Spec as X
 
 -- an array of just as many numbers, stored one after another
@@ -73,6 +76,13 @@ pub lines-told : {read : LineReader} {book lines : List ℕ} {units budget day :
     X.Lines-in-numbers-by read book lines units budget day schedule work net answers work′ net′ answers′ done′ n
 lines-told {r = r} q e =
     record { number = e .0 ∙ ap X.refusal (q .told); values = e .1 ∙ ap X.done-numbers (q .told); answer = r; buffers = q }
+
+-- what is told of a schedule's length as numbers
+pub bound-told : {read : LineReader} {book line : List ℕ} {budget day : ℕ} {work net work′ net′ answer′ : List ℕ} {n : ℕ} {r : O.Bound} →
+    N.BoundBy read book line budget day work net work′ net′ r → (n ≡ X.refusal (N.values r)) × (answer′ ≡ X.bound-numbers (N.values r)) →
+    X.Bound-in-numbers-by read book line budget day work net work′ net′ answer′ n
+bound-told {r = r} q e =
+    record { number = e .0 ∙ ap X.refusal (q .answer); values = e .1 ∙ ap X.bound-numbers (q .answer); answer = r; buffers = q }
 
 -- the writer's
 pub wrote : {book output output′ : List ℕ} (r : W.Written) (l : List ℕ) → Answers book output output′ r → length l ≡ 1 →
@@ -143,6 +153,17 @@ module _ {book lines : List ℕ} {units budget day : ℕ} {schedule work net ans
 
   pub payees-not-six : X.Payees-in-numbers book lines units budget day schedule work net answers work′ net′ answers′ done′ r → r ≢ 6
   payees-not-six = many-not-six readText (payee-not-six R.published _)
+
+module _ {book line : List ℕ} {budget day : ℕ} {work net work′ net′ answer′ : List ℕ} {r : ℕ} where
+  told-not-six : (read : LineReader) → N.boundOf read book line budget day work net ≢ refused 6 →
+      X.Bound-in-numbers-by read book line budget day work net work′ net′ answer′ r → r ≢ 6
+  told-not-six read n h e = never (λ (x : Result N.Bound). X.refusal x) (λ k. refl) (λ a. refl) _ n (sym (h .number) ∙ e)
+
+  pub bound-not-six : X.Bound-in-numbers book line budget day work net work′ net′ answer′ r → r ≢ 6
+  bound-not-six = told-not-six readLine (line-bound-not-six book line budget day work net)
+
+  pub payee-bound-not-six : X.Payee-bound-in-numbers book line budget day work net work′ net′ answer′ r → r ≢ 6
+  payee-bound-not-six = told-not-six readText (text-bound-not-six book line budget day work net)
 
 pub wrote-not-six : {book output output′ length′ : List ℕ} {r : ℕ} → X.Wrote-in-numbers book output output′ length′ r → r ≢ 6
 wrote-not-six {r = r} h e = go (h .answer) refl

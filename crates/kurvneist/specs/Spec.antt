@@ -1,5 +1,5 @@
 -- The exported functions: a refusal's number or 0, and the values of an answer as numbers in an array (document 01, 'What is checked where': a
--- refusal answers its number with zeros for all else; document 02, Change 12). Assumes nothing.
+-- refusal answers its number with zeros for all else; document 02, Changes 12 to 14). Assumes nothing.
 use mathlib.Core.List.{List, [], _∷_}
 use mathlib.Core.Option.{Option, none, some}
 use mathlib.Core.Path.{_≡_}
@@ -16,6 +16,8 @@ use Rattle.engine.specs.declared.Answer as A
 use Rattle.batch.specs.Lines.{stop-number}
 use Rattle.batch.specs.Spec as B
 use Rattle.batch.specs.declared.Batch as D
+use Rattle.bound.specs.Spec as N
+use Rattle.bound.specs.declared.Bound as O
 use Rattle.fees.specs.Fees.{charge}
 use Rattle.fees.specs.Spec as F
 use Rattle.fees.specs.declared.Charged as G
@@ -101,6 +103,28 @@ Lines-in-numbers = Lines-in-numbers-by readLine
 
 abbrev pub Payees-in-numbers : List ℕ → List ℕ → ℕ → ℕ → ℕ → List ℕ → List ℕ → List ℕ → List ℕ → List ℕ → List ℕ → List ℕ → List ℕ → ℕ → Type 0
 Payees-in-numbers = Lines-in-numbers-by readText
+
+-- HOW LONG A SCHEDULE SUFFICES (document 02, Change 14): the one-unit run's ending, S and F. The two are known if the ending's number is 0, otherwise they are zeros.
+abbrev pub bound-numbers : Result N.Bound → List ℕ
+bound-numbers (refused k) = 0 ∷ 0 ∷ 0 ∷ []
+bound-numbers (accepted (N.Bound.unknown e)) = ending-number e ∷ 0 ∷ 0 ∷ []
+bound-numbers (accepted (N.Bound.told s f)) = 0 ∷ s ∷ f ∷ []
+
+-- by either reader
+module _ (read : LineReader) (book line : List ℕ) (budget day : ℕ) (work net : List ℕ) where
+  pub record Bound-in-numbers-by (work′ net′ answer′ : List ℕ) (r : ℕ) : Type 0 where
+    -- the definition's number and values
+    pub number : r ≡ refusal (N.boundOf read book line budget day work net)
+    pub values : answer′ ≡ bound-numbers (N.boundOf read book line budget day work net)
+    -- what they say, and what becomes of the lent buffers, clause by clause
+    pub answer : O.Bound
+    pub buffers : N.BoundBy read book line budget day work net work′ net′ answer
+
+abbrev pub Bound-in-numbers : List ℕ → List ℕ → ℕ → ℕ → List ℕ → List ℕ → List ℕ → List ℕ → List ℕ → ℕ → Type 0
+Bound-in-numbers = Bound-in-numbers-by readLine
+
+abbrev pub Payee-bound-in-numbers : List ℕ → List ℕ → ℕ → ℕ → List ℕ → List ℕ → List ℕ → List ℕ → List ℕ → ℕ → Type 0
+Payee-bound-in-numbers = Bound-in-numbers-by readText
 
 -- the writer's answer
 abbrev pub written-refusal : W.Written → ℕ

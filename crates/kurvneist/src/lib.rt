@@ -1,7 +1,8 @@
-// The library for C and Rust: a run, runs of many lines by one book, the book's writer, the charge of what was posted, the strict profile, and the published
-// lengths, on numbers and slices of them. A slice is passed as a pointer and a length, an array as a pointer.
+// The library for C and Rust: a run, runs of many lines by one book, how long a schedule suffices, the book's writer, the charge of what was posted, the strict
+// profile, and the published lengths, on numbers and slices of them. A slice is passed as a pointer and a length, an array as a pointer.
 use batch::Batch;
 use batch::Stop;
+use bound::Bound;
 use engine::Answer;
 use engine::Form;
 use fees::Charged;
@@ -17,6 +18,7 @@ ghost use Rattle.parking.specs.Points.{points-length};
 ghost use Rattle.records.specs.Record.{longest};
 ghost use Rattle.batch.specs.Lines.{stop-number};
 ghost use Rattle.batch.specs.Spec as B;
+ghost use Rattle.bound.specs.Spec as N;
 ghost use Rattle.settlement.specs.Spec as S;
 ghost use Rattle.kurvneist.specs.Spec as X;
 
@@ -349,6 +351,74 @@ pub extern "C" fn kurvneist_payee_lines(
         answers,
     );
     put_done(b, done)
+}
+
+fn put_three(answer: &mut [u64; 3], ending: u64, orders: u64, forks: u64)
+    requires { ⌜ length (now answer) ≡ 3 ⌝ }
+    ensures { λ _. ⌜ now (answer .exit) ≡ ending ∷ orders ∷ forks ∷ [] ⌝ }
+{
+    answer[0] = ending;
+    answer[1] = orders;
+    answer[2] = forks;
+}
+
+// The refusal's number, or 0. The numbers are the ending of the one-unit run, S and F, or zeros.
+fn put_bound(b: Bound, answer: &mut [u64; 3]) -> u8
+    requires { ⌜ length (now answer) ≡ 3 ⌝ }
+    ensures { λ r. ⌜ (r ≡ X.refusal (N.values b)) × (now (answer .exit) ≡ X.bound-numbers (N.values b)) ⌝ }
+{
+    match b {
+        Bound::Refused(k) => {
+            put_three(answer, 0, 0, 0);
+            k
+        }
+        Bound::Unknown(e) => {
+            put_three(answer, run::ending_number(e) as u64, 0, 0);
+            0
+        }
+        Bound::Told(s, f) => {
+            put_three(answer, 0, s as u64, f as u64);
+            0
+        }
+    }
+}
+
+// How long a schedule suffices for a line by the rules that stand on a day: the refusal's number, or 0. S + 4 * F rounds, each naming every unit, never end cut.
+#[no_mangle]
+pub extern "C" fn kurvneist_bound(
+    book: &[u8],
+    line: &[u8],
+    budget: u32,
+    day: u16,
+    work: &mut [u8],
+    net: &mut [u8],
+    answer: &mut [u64; 3],
+) -> u8
+    requires { ⌜ length (now answer) ≡ 3 ⌝ }
+    ensures { λ r. ⌜ X.Bound-in-numbers (now (book .entry)) (now (line .entry)) budget day (now (work .entry)) (now (net .entry)) (now (work .exit))
+        (now (net .exit)) (now (answer .exit)) r ⌝ }
+{
+    let b = bound::bound_form(Form::Term, book, line, budget, day, work, net);
+    put_bound(b, answer)
+}
+
+// The same for a payee's text.
+#[no_mangle]
+pub extern "C" fn kurvneist_bound_payee(
+    book: &[u8],
+    text: &[u8],
+    budget: u32,
+    day: u16,
+    work: &mut [u8],
+    net: &mut [u8],
+    answer: &mut [u64; 3],
+) -> u8
+    requires { ⌜ length (now answer) ≡ 3 ⌝ }
+    ensures { λ r. ⌜ X.Payee-bound-in-numbers (now (book .entry)) (now (text .entry)) budget day (now (work .entry)) (now (net .entry)) (now (work .exit))
+        (now (net .exit)) (now (answer .exit)) r ⌝ }
+{
+    let b = bound::bound_form(Form::Text, book, text, budget, day, work, net);
+    put_bound(b, answer)
 }
 
 // The book's writer: the refusal's number, or 0 and how many bytes are written.

@@ -17,9 +17,10 @@ use Rattle.paper.specs.Writer.{writeBook}
 use Rattle.paper.specs.Line.{readLine}
 use Rattle.paper.specs.Match.{rewrite-over, rewrite}
 use Rattle.paper.specs.Marks.{cell, Marked, cells}
-use Rattle.paper.specs.Machine.{Order, unit-state, Event, Ending, lowest, start}
+use Rattle.paper.specs.Machine.{Order, unit-state, Event, Ending, lowest, longest, in-force, start}
 use Rattle.paper.specs.Run.{Answer, run, run-by, run-from, Moment, moments, events}
 use Rattle.paper.specs.Parts.{from-point, parked, parked-parts}
+use Rattle.paper.specs.Enough.{carried, orders-alone, forks-alone}
 use Rattle.paper.specs.Page.{Lengths, answerBy, answerOf, pageOf, writtenOf}
 use Rattle.paper.proofs.Starred.{ascii, P-bytes, input-on, input, turns, none-of, one-of, two-of, x, y, P-operators, P, end, tick, both, Q, dup, limits}
 
@@ -590,6 +591,10 @@ pub record Runs : Type 0 where
       some (record { ending = Ending.finished; rewrites = 2; entries = 22; granted = 0; kept = 2; term = tick (tick end) })
   -- at its end it isn't cut, so it isn't parked
   pub not-parked : parked P (limits 9) (replicate 22 0) (start 1 (both (tick end) (tick end))) ≡ none
+  -- Change 14: S is 10 and F is 1; two units carry out S + 3 × F orders: unit 0 forks, does its own part and waits; unit 1 does the other, exits and sleeps; unit 0 goes
+  -- on to BINGO
+  pub orders-of-one : (orders-alone P 9 (both end end) 10 ≡ 10) × (forks-alone P 9 (both end end) 10 ≡ 1)
+  pub most-orders-of-two : carried in-force P (limits 9) 2 (replicate 5 0 ++ (replicate 4 1 ++ replicate 4 0)) (both end end) ≡ 13
   -- unit 0 waits at its JOIN, and takes the FORK of unit 1
   pub unit-0-helps : pageOf (input (2 ∷ 2 ∷ 0 ∷ 0 ∷ 0 ∷ []) 2 9 (0 ∷ 0 ∷ 0 ∷ 0 ∷ 0 ∷ 1 ∷ 1 ∷ [])) ≡
       ascii "REDUCE 1\nend 3\nrewrites 0\nentries 7\ngranted 2\nkept 0\nterm 2 2 0 0 0\n"
@@ -621,7 +626,7 @@ pub record Runs : Type 0 where
       Event.exited (0 ∷ []) 0 ∷ Event.waited ∷ []
 
 pub runs : Runs
-unfolding ascii input turns pageOf readBook writtenOf rewrite run run-by run-from lowest moments events parked parked-parts from-point start strategies grow-page tree-after lists-page done three-page
+unfolding carried longest ascii input turns pageOf readBook writtenOf rewrite run run-by run-from lowest moments events parked parked-parts from-point start strategies grow-page tree-after lists-page done three-page
 runs = record {
   first-general = refl;
   first-special = refl;
@@ -641,6 +646,8 @@ runs = record {
   placings = refl;
   resumed = refl;
   not-parked = refl;
+  orders-of-one = (refl, refl);
+  most-orders-of-two = refl;
   unit-0-helps = refl;
   forks-of-two = refl;
   forks-of-one = refl;

@@ -51,6 +51,8 @@ pub mod Owners
 pub mod Exit
 pub mod Entry
 pub mod Parts
+pub mod Busy
+pub mod Enough
 pub mod Progress
 pub mod Course
 pub mod Outside

@@ -19,6 +19,7 @@ pub mod Walk
 pub mod Machine
 pub mod Run
 pub mod Parts
+pub mod Enough
 pub mod OneUnit
 pub mod Demand3
 pub mod Idle

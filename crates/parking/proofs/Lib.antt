@@ -7,4 +7,5 @@ pub mod Parking
 pub mod Resuming
 pub mod Refusals
 pub mod Unbroken
+pub mod Enough
 pub mod Samples

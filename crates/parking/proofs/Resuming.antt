@@ -93,7 +93,7 @@ pub record Resumed (schedule name points : List ℕ) (y : After FlatAnswer) : Ty
   pub answer-is : y .answer ≡ resume (on-day (found .point .day) (held .given)) (limits (found .point .saved .budget)) schedule (found .point .saved .parked)
   pub points-is : y .points ≡ behind-resumption schedule points found (on-day (found .point .day) (held .given))
 
-checked-accepted : (schedule points : List ℕ) (x : Found) (B : Book) (y : After FlatAnswer) → resume-checked schedule points x B ≡ accepted y →
+pub checked-accepted : (schedule points : List ℕ) (x : Found) (B : Book) (y : After FlatAnswer) → resume-checked schedule points x B ≡ accepted y →
     (all-below (length (x .point .saved .parked .state .units)) schedule ≡ true)
     × (y .answer ≡ resume B (limits (x .point .saved .budget)) schedule (x .point .saved .parked))
     × (y .points ≡ behind-resumption schedule points x B)

@@ -1,5 +1,5 @@
 -- Points in slots, computed: one that a run is saved as, its bytes, the same read again, slots that are free, and slots that are broken; a run parked in an all-zero buffer and resumed
--- there. Assumes nothing.
+-- there; its orders, counted from its first start. Assumes nothing.
 use mathlib.Core.Bool.{true, false}
 use mathlib.Core.List.{List, [], _∷_, _++_, map}
 use mathlib.Core.Option.{none, some}
@@ -13,8 +13,9 @@ use Rattle.paper.specs.Book.{Term, arity}
 use Rattle.paper.specs.Bits.{field}
 use Rattle.paper.specs.Dated.{AnyBook, on-day}
 use Rattle.paper.specs.Line.{readLine}
-use Rattle.paper.specs.Machine.{Ending}
-use Rattle.paper.specs.Run.{Answer, run}
+use Rattle.paper.specs.Machine.{Ending, longest}
+use Rattle.paper.specs.Run.{Answer, run-by, run}
+use Rattle.paper.specs.Enough.{carried, carried-parts, orders-alone, forks-alone}
 use Rattle.paper.specs.Page.{Request, own-lengths, read-number, read-bytes, frame-fault, all-below}
 use Rattle.paper.proofs.Starred.{P, P-bytes, ascii, end, both, starred}
 use Rattle.flat.specs.Machine.{Frame, flat-unit, flat-start}
@@ -22,11 +23,13 @@ use Rattle.flat.specs.Run.{FlatAnswer}
 use Rattle.flat.specs.Parts.{kept-count, Parked, part}
 use Rattle.parking.specs.Form.{slot-length, limits, Point, point-bytes, write-point, Slot, read-slot}
 use Rattle.parking.specs.Points.{points-length, read-slots, put, Found, point-of, place, all-good, name-good, areas-fault, After, as-point, behind, behind-run, parkBy, resume-checked, resumeOf}
+use Rattle.parking.specs.Change11.{Onward}
+use Rattle.parking.specs.Change14.{FirstStart, carried-in}
 use Rattle.parking.proofs.Buffer.{zeros}
 use Rattle.parking.proofs.Slots.{Place, place-at, good-slots}
 use Rattle.parking.proofs.Form.{Held, read-held}
 use Rattle.parking.proofs.Checks.{Ready, zeros-ready, zeros-place, still-ready, place-passes, park-passes}
-use Rattle.parking.proofs.Parking.{point-only, point-found}
+use Rattle.parking.proofs.Parking.{line-reads, point-only, point-found}
 use Rattle.parking.proofs.Resuming.{resumed-is}
 
 -- both(end, both(end, end)), the first arguments of both lent to units 1 and 2, and unit 0 waiting at the inner JOIN
@@ -233,4 +236,32 @@ runs = record {
   ended = resumed-so rest ∙ ends with-point;
   unnamed = resumed-so (0 ∷ 3 ∷ []) ∙ no-unit with-point;
   unbroken = unfold run in refl;
+}
+
+-- ITS ORDERS, COUNTED FROM ITS FIRST START (Change 14)
+pub record Orders : Type 0 where
+  pub start : FirstStart own-lengths name with-point
+  -- S is 17 and F is 2; seven orders were carried out before the resumption, and 20 in all
+  pub of-one : (orders-alone P 9 term 17 ≡ 17) × (forks-alone P 9 term 17 ≡ 2)
+  pub before : carried-in request P term (replicate 7 0 ∷ []) ≡ 7
+  pub over-all : carried-in request P term (replicate 7 0 ∷ rest ∷ []) ≡ 20
+
+pub orders : Orders
+unfolding carried-parts longest carried run-by run
+orders = record {
+  start = record {
+    read = readLine;
+    reads = line-reads;
+    asked = request;
+    small = omega arith;
+    points = blank;
+    after = record { answer = first-answer; points = with-point };
+    ran = runs .first;
+    cut = refl;
+    schedules = [];
+    between = Onward.now with-point;
+  };
+  of-one = (refl, refl);
+  before = refl;
+  over-all = refl;
 }

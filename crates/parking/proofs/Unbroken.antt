@@ -5,12 +5,12 @@ use mathlib.Core.List.{List, [], _∷_, _++_, flatten as concat, append-assoc}
 use mathlib.Core.Logic.{inl, inr}
 use mathlib.Core.Option.{none, some, Option·some-injective}
 use mathlib.Core.Path.{_≡_, refl, sym, _∙_, ap, subst}
-use Prim.Native.Nat.{ℕ, _^_, _<_}
+use Prim.Native.Nat.{ℕ, _^_, _≤_, _<_}
 use lib.Dec.{ltb}
 use lib.ListN.{length}
 use Rattle.paper.specs.Result.{refused, accepted}
 use Rattle.paper.specs.Tree.{preorder}
-use Rattle.paper.specs.Book.{Book, arity}
+use Rattle.paper.specs.Book.{Term, Book, arity}
 use Rattle.paper.specs.Dated.{AnyBook, readAny, on-day}
 use Rattle.paper.specs.Machine.{Ending, Limits}
 use Rattle.paper.specs.Run.{Answer, run}
@@ -30,7 +30,7 @@ use Rattle.parking.specs.Change11.{Reads, Onward, with-schedule, AsUnbro
 use Rattle.parking.proofs.Endings.{units-stay, start-many}
 use Rattle.parking.proofs.Checks.{Ready, still-ready, Ran, park-accepted, answered}
 use Rattle.parking.proofs.Parking.{parts-cons, park-only, SavedCut, cut-saved}
-use Rattle.parking.proofs.Resuming.{resumed-is, Resumed, resume-accepted, resume-only, replaced}
+use Rattle.parking.proofs.Resuming.{resumed-is, Resumed, checked-accepted, resume-accepted, resume-only, replaced}
 
 -- where the point x, by the book A, stands after these schedules
 pub record Stands (name last : List ℕ) (uss : List (List ℕ)) (x : Found) (A : AnyBook) : Type 0 where
@@ -113,6 +113,17 @@ checked-unnamed : (schedule points : List ℕ) (x : Found) (B : Book) → all-be
 unfolding resume-checked
 checked-unnamed schedule points x B e = rw (e, resume-checked) refl
 
+-- y is the answer of a run of q in parts, first with its schedule, then with the schedules uss, at last with vs
+pub record InParts (read : LineReader) (q : Request) (uss : List (List ℕ)) (vs : List ℕ) (y : After FlatAnswer) : Type 0 where
+  pub given : AnyBook
+  pub term : Term
+  pub parked : Parked
+  pub book-read : readAny (q .book) ≡ accepted given
+  pub line-read : read (on-day (q .day) given) (q .line) ≡ accepted term
+  pub some-unit : 1 ≤ q .units
+  pub is-parts : let B = on-day (q .day) given in parts B (limits (q .budget)) (q .schedule ∷ uss) (begun B (q .units) term) ≡ some parked
+  pub same : y .answer ≡ kept-answer (flatten (run (on-day (q .day) given) (limits (q .budget)) (q .units) (concat (q .schedule ∷ uss) ++ vs) term))
+
 -- a run that is parked and resumed as above, and then with the schedule vs
 module _ (read : LineReader) (reads : Reads read) (published : Lengths) (q : Request) (lb : q .budget < 2 ^ 32) (name points : List ℕ) (x : After Answer)
     (run-accepted : parkBy read published q name points ≡ accepted x) (run-cut : x .answer .ending ≡ Ending.cut) (last : List ℕ) (uss : List (List ℕ))
@@ -156,14 +167,30 @@ module _ (read : LineReader) (reads : Reads read) (published : Lengths) (q : Req
   all-units =
       stands .units-many ∙ first-units
 
-  same-answer : resume B L vs (stands .parked) ≡ kept-answer (flatten (run B L (q .units) whole (ran .term)))
-  unfolding concat
-  same-answer =
+  all-parts : parts B L (q .schedule ∷ uss) (begun B (q .units) (ran .term)) ≡ some (stands .parked)
+  all-parts = parts-cons B L (q .schedule) uss (begun B (q .units) (ran .term)) (first .parked) (stands .parked) (first .is-part) (stands .is-parts)
+
+  in-one : resume B L vs (stands .parked) ≡ kept-answer (flatten (run B L (q .units) (concat (q .schedule ∷ uss) ++ vs) (ran .term)))
+  in-one =
       let g = day-good (q .book) (ran .given) (ran .book-read) (q .day) in
       let (c, p, l, a) = line-correct B (preorder (ran .term)) (ran .term) (reads B (q .line) (ran .term) (ran .line-read)) in
-      line-parts B (good-book-sound B g) (good-settled B g) L (q .units) (ran .term) c (q .schedule ∷ uss) vs (stands .parked)
-      (parts-cons B L (q .schedule) uss (begun B (q .units) (ran .term)) (first .parked) (stands .parked) (first .is-part) (stands .is-parts))
-      ∙ ap (λ (us : List ℕ). kept-answer (flatten (run B L (q .units) us (ran .term)))) (append-assoc (q .schedule) (concat uss) vs)
+      line-parts B (good-book-sound B g) (good-settled B g) L (q .units) (ran .term) c (q .schedule ∷ uss) vs (stands .parked) all-parts
+
+  same-answer : resume B L vs (stands .parked) ≡ kept-answer (flatten (run B L (q .units) whole (ran .term)))
+  unfolding concat
+  same-answer = in-one ∙ ap (λ (us : List ℕ). kept-answer (flatten (run B L (q .units) us (ran .term)))) (append-assoc (q .schedule) (concat uss) vs)
+
+  pub in-parts : (y : After FlatAnswer) → resumeOf published work net output vs name last ≡ accepted y → InParts read q uss vs y
+  in-parts y e = record {
+    given = ran .given;
+    term = ran .term;
+    parked = stands .parked;
+    book-read = ran .book-read;
+    line-read = ran .line-read;
+    some-unit = ran .some-unit;
+    is-parts = all-parts;
+    same = checked-accepted vs last here B y (sym is ∙ e) .1 ∙ in-one;
+  }
 
   pub as-unbroken : all-below (q .units) vs ≡ true → AsUnbroken read published q name uss last work net output vs
   as-unbroken n =

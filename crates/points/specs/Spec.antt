@@ -1,4 +1,4 @@
--- The entry points of runs with a name: which definition their answers equal, and what becomes of each lent buffer (document 02, Change 11). The buffer of points is
+-- The entry points of runs with a name: which definition their answers equal, and what becomes of each lent buffer (document 02, Changes 11 and 14). The buffer of points is
 -- said slot by slot in parking/specs/Points. Assumes nothing.
 use mathlib.Core.List.{List, _++_}
 use mathlib.Core.Path.{_≡_}
@@ -12,6 +12,7 @@ use Rattle.flat.specs.Run.{FlatAnswer}
 use Rattle.engine.specs.Spec.{published, Values, values, values-of, request, RunBy}
 use Rattle.engine.specs.declared.Answer as D
 use Rattle.parking.specs.Points.{After, parkBy, resumeOf}
+use Rattle.parking.specs.Change14.{FirstStart, EnoughSince}
 
 -- a definition's answer without the buffer of points
 abbrev pub told : {A : Type 0} → Result (After A) → Result A
@@ -64,3 +65,5 @@ module _ (name schedule work net points output : List ℕ) where
     pub cleared : (x : After FlatAnswer) → resumed ≡ accepted x → (work′ ≡ replicate (length work) 0) × (net′ ≡ replicate (length net) 0)
     pub points-are : (x : After FlatAnswer) → resumed ≡ accepted x → points′ ≡ x .points
     pub written : (x : After FlatAnswer) → resumed ≡ accepted x → output′ ≡ x .answer .symbols ++ drop (length (x .answer .symbols)) output
+    -- how long a schedule suffices for a point that a run saved, counted from its first start
+    pub enough : (x : After FlatAnswer) → resumed ≡ accepted x → (first : FirstStart published name points) → EnoughSince first schedule (x .answer .ending)

@@ -18,6 +18,7 @@ use Rattle.engine.proofs.Frame.{framed, faulty}
 use Rattle.run.specs.declared.Run.{Run}
 use Rattle.parking.specs.Form.{Point}
 use Rattle.parking.specs.Points.{Found, find-checked, areas-fault, After, behind-resumption, resume-checked, resumeOf}
+use Rattle.parking.proofs.Enough.{enough-since}
 use Rattle.checking.specs.Contracts as H
 use Rattle.checking.specs.Contracts.{Holds}
 use Rattle.checking.specs.declared.Slot as S
@@ -61,6 +62,7 @@ module _ (name schedule work net points output : List ℕ) where
     cleared = λ x h. absurd (refused-accepted (sym e ∙ h));
     points-are = λ x h. absurd (refused-accepted (sym e ∙ h));
     written = λ x h. absurd (refused-accepted (sym e ∙ h));
+    enough = λ x h. absurd (refused-accepted (sym e ∙ h));
   }
 
   pub by-areas : (k : ℕ) → areas-fault published (length work) (length net) (length output) ≡ some k → ResumedBy name schedule work net points output work net points output (D.Answer.Refused k)
@@ -98,4 +100,5 @@ module _ (name schedule work net points output : List ℕ) where
               points-are = λ z q. g .points-are ∙ ap (λ (v : After FlatAnswer). v .points) (accepted-injective (sym passes ∙ q));
               written = λ z q.
                   subst (λ (v : After FlatAnswer). output′ ≡ v .answer .symbols ++ drop (length (v .answer .symbols)) output) (accepted-injective (sym passes ∙ q)) (g .written);
+              enough = λ z q first. enough-since published name points first (length work) (length net) (length output) schedule z q;
             })

@@ -158,6 +158,26 @@ static void names(void) {
                        answer));
 }
 
+static void bounds(void) {
+    uint64_t bound[KURVNEIST_BOUND_LENGTH] = {7, 7, 7};
+    due("no book to bound by", KURVNEIST_BOOK_RUNS_OUT,
+        kurvneist_bound(NOTHING, line, sizeof line, 9, 0, WORK, NET, bound));
+    due("the numbers of no book", 0, (uint8_t)(bound[0] | bound[1] | bound[2]));
+    due("no line to bound", KURVNEIST_LINE_IS_NO_TERM,
+        kurvneist_bound(constant, sizeof constant, NOTHING, 9, 0, WORK, NET, bound));
+    due("no work area for a bound", KURVNEIST_WORK_TOO_SHORT,
+        kurvneist_bound(constant, sizeof constant, line, sizeof line, 9, 0, NOTHING, NET, bound));
+    due("no area for the net of a bound", KURVNEIST_WORK_TOO_SHORT,
+        kurvneist_bound(constant, sizeof constant, line, sizeof line, 9, 0, WORK, NOTHING, bound));
+    due("no text to bound, no letters", KURVNEIST_NO_LETTERS,
+        kurvneist_bound_payee(constant, sizeof constant, NOTHING, 9, 0, WORK, NET, bound));
+    due("no text to bound", KURVNEIST_ACCEPTED,
+        kurvneist_bound_payee(letters, sizeof letters, NOTHING, 9, 0, WORK, NET, bound));
+    due("the orders of no text", 3, (uint8_t)bound[KURVNEIST_BOUND_ORDERS]);
+    due("nothing to bound", KURVNEIST_WORK_TOO_SHORT,
+        kurvneist_bound_payee(NOTHING, NOTHING, 0, 0, NOTHING, NOTHING, bound));
+}
+
 int main(void) {
     lines();
     texts();
@@ -166,5 +186,6 @@ int main(void) {
     books();
     strict();
     names();
+    bounds();
     return wrong != 0;
 }

@@ -7,9 +7,11 @@ use crate::schedule;
 
 pub const STATUS: &str = "\
 Exit status
-  0  done; in post, resume, explain, trace, batch and fees: every run finished,
-     or the reader of the postings went away, as head does, but not in resume
-  1  a line or a name was refused, mistyped, or its run didn't finish
+  0  done; in post, bound, resume, explain, trace, batch and fees: every run
+     finished, or the reader of the postings went away, as head does, but not in
+     resume
+  1  a line or a name was refused, mistyped, or its run didn't finish; in bound,
+     that of one unit, so that it is not known how long a schedule suffices
   2  the command line is wrong
   3  a book is mistaken or refused, has a warning in check --strict, or isn't
      admitted by check --strict-profile; a fee table or owners' shares are
@@ -198,6 +200,30 @@ it is left so, and this is told. A name to which no slot is left is refused by
 21, and any name by 20 while a point in FILE breaks a rule.
 ";
 
+pub const BOUND: &str = "\
+Says how long a schedule suffices for the line on so many units, whatever their
+order. This is proved of the engine: with the same book, line, budget and day, on
+any number of units and under any schedule, at most S + 3 x F orders are carried
+out, where an entry for an idle unit is none; and S + 4 x F rounds, each naming
+every unit, never end cut: they finish, or end full.
+  end          how one unit ends, with the same budget
+  orders       S, the orders that it carries out, BINGO included
+  forks        F, its FORKs
+  most-orders  S + 3 x F
+  rounds       S + 4 x F
+  entries      those of so many rounds: --schedule round-robin:ENTRIES suffices,
+               and so does no --schedule, which is sized by this
+
+If one unit does not finish, the rounds are not known, and why is said. Where it
+ends spent, no schedule finishes the line within the budget. Where it ends full,
+another order of units might keep the limit of 1,024 symbols. Where it ends cut,
+it carries out over 65536 orders, which are not tried.
+
+With --json, one object: end, orders, forks, most_orders, rounds, units and
+entries; if one unit does not finish, those that are not known are null, and
+message says why. A line that is refused or mistyped is told as in post.
+";
+
 pub const RESUME: &str = "\
 Goes on with a run that post --park saved in FILE, by its own book, day, units
 and budget, and shows what post shows; a schedule is one for its units. Without
@@ -245,11 +271,14 @@ rests on it.
 ";
 
 const TURNS: &str = "\
-Without --schedule the units act in turn, and a run that is cut is made again
-with more entries: 32768, 262144, 2097152, at most 16777216. A line that several
-units then leave full or cut is posted by one unit, if that finishes it, and this
-is told. So more units never make a line fail. A trace shows the several units'
-run; it has at most 262144 entries, or shows the first 32768.
+Without --schedule the units act in turn, for as many rounds as suffice for the
+line (see bound), so that such a run is never cut. It is first made with 32768
+entries, which most lines don't need, and again if those are too few. Where it is
+not known how many rounds suffice, a run that is cut is made again with 262144,
+2097152, at most 16777216 entries. A line that several units then leave full or
+cut is posted by one unit, if that finishes it, and this is told. So more units
+never make a line fail. A trace shows the several units' run; it has at most
+262144 entries, or shows the first 32768.
 ";
 
 pub const BATCH: &str = "\

@@ -1,6 +1,7 @@
 //! The program: commands, their options and help from one table.
 
 mod batching;
+mod bounding;
 mod checking;
 mod commands;
 mod explaining;
@@ -21,7 +22,8 @@ use options::{Command, Parsed};
 #[derive(Clone, Copy, Debug, PartialEq, Eq)]
 pub enum Status {
     Done = 0,
-    /// A line was refused, mistyped, or its run didn't finish.
+    /// A line was refused, mistyped, or its run didn't finish; in bound, that of
+    /// one unit.
     NotPosted = 1,
     /// The command line is wrong.
     Usage = 2,
@@ -99,6 +101,7 @@ fn run_command(command: &Command, rest: &[OsString]) -> Result<Status, Stop> {
         "text" => commands::text,
         "check" => checking::check,
         "post" => commands::post,
+        "bound" => bounding::bound,
         "resume" => parking::resume,
         "points" => parking::points,
         "explain" => explaining::explain,

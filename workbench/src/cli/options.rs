@@ -210,6 +210,13 @@ pub const COMMANDS: &[Command] = &[
         more: super::help::POST,
     },
     Command {
+        name: "bound",
+        about: "say how long a schedule suffices for a line",
+        arguments: &[BOOK, LINE],
+        flags: &[PAYEE, DAY, JSON, UNITS, BUDGET, PACKED, NAMES, ENCODING],
+        more: super::help::BOUND,
+    },
+    Command {
         name: "resume",
         about: "go on with a run that was parked",
         arguments: &[("NAME", "the name that it was parked under")],
