@@ -32,10 +32,9 @@ pub record Open (book : List ℕ) (n : ℕ) (operators net : List ℕ) (l : Limi
   pub small : l .budget < 2 ^ 32
 
 -- the arrays that a line is given, whatever they hold
-pub record Arrays (line symbols scratch : List ℕ) : Type 0 where
+pub record Arrays (line symbols : List ℕ) : Type 0 where
   pub line-long : length line ≡ 1024
   pub symbols-long : length symbols ≡ 1024
-  pub scratch-long : length scratch ≡ 1024
 
 abbrev pub Stops : List ℕ → ℕ → ℕ → Stop → Type 0
 Stops lines at left Stop.end = at ≡ length lines

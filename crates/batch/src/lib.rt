@@ -75,17 +75,16 @@ fn answer_line(
     schedule: &[u8],
     line: &mut [u8; 1024],
     symbols: &mut [u32; 1024],
-    scratch: &mut [u32; 1024],
     work: &mut [u8],
     answers: &mut [u8],
     at: usize,
 ) -> usize
     requires { ⌜ C.Open (now book) n (now operators) (now net) limits (length (now work)) ⌝ }
-    requires { ⌜ C.Arrays (now line) (now symbols) (now scratch) ⌝ }
+    requires { ⌜ C.Arrays (now line) (now symbols) ⌝ }
     requires { ⌜ (named ≡ all-below (limits .units) (now schedule)) × (at + longest ≤ length (now answers)) ⌝ }
     ensures { λ r. ⌜ C.Line-done (reader form) (now (book .entry)) (now (net .entry)) limits (now (schedule .entry)) (length (now (work .entry)))
         (now (given .entry)) (now (answers .entry)) (now (answers .exit)) at r ⌝ }
-    ensures { λ r. ⌜ C.Arrays (now (line .exit)) (now (symbols .exit)) (now (scratch .exit)) ⌝ }
+    ensures { λ r. ⌜ C.Arrays (now (line .exit)) (now (symbols .exit)) ⌝ }
 {
     match engine::read_term(form, given, n, operators, line) {
         Text::Refused(k) => records::put_refusal(k, answers, at),
@@ -102,7 +101,6 @@ fn answer_line(
                 limits,
                 schedule,
                 symbols,
-                scratch,
                 work,
             );
             records::put_run(run, symbols, answers, at)
@@ -130,7 +128,6 @@ fn answer_lines(
     let named = engine::names_units(schedule, limits.units);
     let mut line = [0u8; 1024];
     let mut symbols = [0u32; 1024];
-    let mut scratch = [0u32; 1024];
     let mut count = 0;
     let mut read = 0;
     let mut written = 0;
@@ -158,7 +155,6 @@ fn answer_lines(
                     schedule,
                     &mut line,
                     &mut symbols,
-                    &mut scratch,
                     work,
                     answers,
                     written,

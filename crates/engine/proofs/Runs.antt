@@ -141,10 +141,9 @@ module _ {l : Limits} {schedule book table net bytes : List ℕ} {n work : ℕ} 
         placing : List ℕ → FlatState
         placing vs = with-placed (flat-start (arity B) units line) vs
 
-    arrays : (scratch : List ℕ) → length scratch ≡ 1024 → Arrays symbols scratch w cells order l
-    arrays scratch k = record {
+    arrays : Arrays symbols w cells order l
+    arrays = record {
       symbols-long = loaded .long;
-      scratch-long = k;
       most = omega (arith, loaded-length (arity-in table) line n symbols (g .most) one-term loaded, g .most);
       fit = started .fit;
       order-fits = empty .fits;
@@ -163,15 +162,15 @@ module _ {l : Limits} {schedule book table net bytes : List ℕ} {n work : ℕ} 
       small = q .small;
     }
 
-    pub ready : (scratch : List ℕ) → length scratch ≡ 1024 → Arrays symbols scratch w cells order l × Runnable book table net l schedule first
-    ready scratch k = (arrays scratch k, runnable)
+    pub ready : Arrays symbols w cells order l × Runnable book table net l schedule first
+    ready = (arrays, runnable)
 
-    pub ran-first : {symbols′ scratch′ w′ cells′ order′ : List ℕ} {r : R.Run} → Ran book net l schedule first symbols′ scratch′ w′ cells′ order′ r →
-        Ran book net l schedule (C.first B l line) symbols′ scratch′ w′ cells′ order′ r
-    ran-first {symbols′} {scratch′} {w′} {cells′} {order′} {r} h =
-        subst (λ (x : FlatState). Ran book net l schedule x symbols′ scratch′ w′ cells′ order′ r) first-is h
+    pub ran-first : {symbols′ w′ cells′ order′ : List ℕ} {r : R.Run} → Ran book net l schedule first symbols′ w′ cells′ order′ r →
+        Ran book net l schedule (C.first B l line) symbols′ w′ cells′ order′ r
+    ran-first {symbols′} {w′} {cells′} {order′} {r} h =
+        subst (λ (x : FlatState). Ran book net l schedule x symbols′ w′ cells′ order′ r) first-is h
 
-  module _ {symbols′ scratch′ w′ cells′ order′ : List ℕ} {r : R.Run} (ran : Ran book net l schedule (C.first B l line) symbols′ scratch′ w′ cells′ order′ r) where
+  module _ {symbols′ w′ cells′ order′ : List ℕ} {r : R.Run} (ran : Ran book net l schedule (C.first B l line) symbols′ w′ cells′ order′ r) where
     abbrev A : Answer
     A = run B (limited budget) units schedule (g .term)
 

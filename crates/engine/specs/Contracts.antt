@@ -82,10 +82,9 @@ pub record Asked (l : Limits) (schedule : List ℕ) (work : ℕ) : Type 0 where
   pub small : l .budget < 2 ^ 32
   pub long : published .work ≤ work
 
--- arrays for a run's state, whatever they hold, and scratch
-pub record Lent (symbols scratch cells order : List ℕ) : Type 0 where
+-- arrays for a run's state, whatever they hold
+pub record Lent (symbols cells order : List ℕ) : Type 0 where
   pub symbols-long : length symbols ≡ 1024
-  pub scratch-long : length scratch ≡ 1024
   pub cells-long : length cells ≡ 8
   pub order-long : length order ≡ 1024
 

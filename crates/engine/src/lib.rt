@@ -106,7 +106,6 @@ pub fn post_into(
     limits: Limits,
     schedule: &[u8],
     symbols: &mut [u32; 1024],
-    scratch: &mut [u32; 1024],
     work: &mut [u8],
     cells: &mut [u32; 8],
     order: &mut [u16; 1024],
@@ -114,10 +113,10 @@ pub fn post_into(
     requires { ⌜ C.Opened (now book) (now operators) (now net) ⌝ }
     requires { ⌜ C.Given (book-by (now book) (now net)) (now line) n ⌝ }
     requires { ⌜ C.Asked limits (now schedule) (length (now work)) ⌝ }
-    requires { ⌜ C.Lent (now symbols) (now scratch) (now cells) (now order) ⌝ }
+    requires { ⌜ C.Lent (now symbols) (now cells) (now order) ⌝ }
     ensures { λ r. ⌜ C.Posted (book-by (now (book .entry)) (now (net .entry))) (take n (now (line .entry))) limits (now (schedule .entry)) (now (symbols .exit)) r ⌝ }
     ensures { λ r. ⌜ Ran (now (book .entry)) (now (net .entry)) limits (now (schedule .entry)) (C.first (book-by (now (book .entry)) (now (net .entry))) limits (take n (now (line .entry))))
-        (now (symbols .exit)) (now (scratch .exit)) (now (work .exit)) (now (cells .exit)) (now (order .exit)) r ⌝ }
+        (now (symbols .exit)) (now (work .exit)) (now (cells .exit)) (now (order .exit)) r ⌝ }
 {
     term::load(symbols, operators, line, n);
     units::start(work, cells);
@@ -128,7 +127,6 @@ pub fn post_into(
         operators,
         net,
         symbols,
-        scratch,
         work,
         cells,
         order,
@@ -148,16 +146,14 @@ pub fn post(
     limits: Limits,
     schedule: &[u8],
     symbols: &mut [u32; 1024],
-    scratch: &mut [u32; 1024],
     work: &mut [u8],
 ) -> Run
     requires { ⌜ C.Opened (now book) (now operators) (now net) ⌝ }
     requires { ⌜ C.Given (book-by (now book) (now net)) (now line) n ⌝ }
     requires { ⌜ C.Asked limits (now schedule) (length (now work)) ⌝ }
-    requires { ⌜ (length (now symbols) ≡ 1024) × (length (now scratch) ≡ 1024) ⌝ }
+    requires { ⌜ length (now symbols) ≡ 1024 ⌝ }
     ensures { λ r. ⌜ C.Posted (book-by (now (book .entry)) (now (net .entry))) (take n (now (line .entry))) limits (now (schedule .entry))
         (now (symbols .exit)) r ⌝ }
-    ensures { λ r. ⌜ length (now (scratch .exit)) ≡ 1024 ⌝ }
 {
     let mut cells = [0u32; 8];
     let mut order = [0u16; 1024];
@@ -170,7 +166,6 @@ pub fn post(
         limits,
         schedule,
         symbols,
-        scratch,
         work,
         &mut cells,
         &mut order,
@@ -187,26 +182,24 @@ pub fn resume(
     limits: Limits,
     schedule: &[u8],
     symbols: &mut [u32; 1024],
-    scratch: &mut [u32; 1024],
     work: &mut [u8],
     cells: &mut [u32; 8],
     order: &mut [u16; 1024],
 ) -> Run
     ghost { FlatState }
     requires { λ s. ⌜ E.state (now symbols) (now work) (now cells) (now order) (begun rewrites) limits ≡ s ⌝ }
-    requires { λ s. ⌜ E.Arrays (now symbols) (now scratch) (now work) (now cells) (now order) limits ⌝ }
+    requires { λ s. ⌜ E.Arrays (now symbols) (now work) (now cells) (now order) limits ⌝ }
     requires { λ s. ⌜ C.Opened (now book) (now operators) (now net) ⌝ }
     requires { λ s. ⌜ PointRules (book-by (now book) (now net)) (E.limited (limits .budget)) s ⌝ }
     requires { λ s. ⌜ C.Asked limits (now schedule) (length (now work)) ⌝ }
     ensures { λ s r. ⌜ Ran (now (book .entry)) (now (net .entry)) limits (now (schedule .entry)) s
-        (now (symbols .exit)) (now (scratch .exit)) (now (work .exit)) (now (cells .exit)) (now (order .exit)) r ⌝ }
+        (now (symbols .exit)) (now (work .exit)) (now (cells .exit)) (now (order .exit)) r ⌝ }
 {
     run::run_schedule(
         book,
         operators,
         net,
         symbols,
-        scratch,
         work,
         cells,
         order,
@@ -240,7 +233,6 @@ fn run_checked(
     }
     insertion::build(book, operators, rules, net);
     let mut symbols = [0u32; 1024];
-    let mut scratch = [0u32; 1024];
     let run = post(
         book,
         operators,
@@ -250,7 +242,6 @@ fn run_checked(
         limits,
         schedule,
         &mut symbols,
-        &mut scratch,
         work,
     );
     hand_out(&symbols, run.length, output);

@@ -61,7 +61,7 @@ some-behind Step.whole [] q h = absurd q
 some-behind y (s ∷ ss) q h = refl
 
 -- a state of a run, and unit u whose turn it is
-module _ {bytes operators net symbols scratch work units order : List ℕ} {u : ℕ} {p : Progress} {l : Limits} (z : Arrays symbols scratch work units order l)
+module _ {bytes operators net symbols work units order : List ℕ} {u : ℕ} {p : Progress} {l : Limits} (z : Arrays symbols work units order l)
     (r : Running bytes operators net l (state symbols work units order p l)) (t : Turn l u (state symbols work units order p l)) where
   abbrev pub B : Book
   B = book-by bytes net

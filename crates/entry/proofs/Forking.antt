@@ -36,7 +36,7 @@ use Rattle.entry.specs.Contracts as E
 use Rattle.entry.proofs.Facts as F
 use Rattle.entry.proofs.Orders as orders
 
-module _ {bytes operators net symbols scratch work units order : List ℕ} {u : ℕ} {p : Progress} {l : Limits} (z : Arrays symbols scratch work units order l)
+module _ {bytes operators net symbols work units order : List ℕ} {u : ℕ} {p : Progress} {l : Limits} (z : Arrays symbols work units order l)
     (r : Running bytes operators net l (state symbols work units order p l)) (t : Turn l u (state symbols work units order p l)) {x : Job}
     (w : Working work units u x) (one : 1 ≤ x .next) {i : ℕ} (e : some (Step.fork i) ≡ step-of (code-in operators (F.o z r t w) (x .next - 1))) where
   abbrev s : FlatState
@@ -142,9 +142,9 @@ module _ {bytes operators net symbols scratch work units order : List ℕ} {u : 
 
     pub fork-entered : {work′ units′ order′ : List ℕ} {g : I.Idle} → O.Forked x b (l .units) u (store work units) (store work′ units′) g → (p′ : Progress) →
         (p′ ≡ forked p g) × E.Placed g order order′ →
-        (going (state symbols work′ units′ order′ p′ l) ≡ flat-entry (F.B z r t) (F.L z r t) u s) × Arrays symbols scratch work′ units′ order′ l
+        (going (state symbols work′ units′ order′ p′ l) ≡ flat-entry (F.B z r t) (F.L z r t) u s) × Arrays symbols work′ units′ order′ l
     fork-entered {work′} {units′} {order′} {g} d p′ h =
-        subst (λ (q : Progress). (going (state symbols work′ units′ order′ q l) ≡ flat-entry (F.B z r t) (F.L z r t) u s) × Arrays symbols scratch work′ units′ order′ l)
+        subst (λ (q : Progress). (going (state symbols work′ units′ order′ q l) ≡ flat-entry (F.B z r t) (F.L z r t) u s) × Arrays symbols work′ units′ order′ l)
         (sym (h .0)) (
           sym (
               F.entry-is z r t (w .busy) (w .top)
@@ -154,5 +154,5 @@ module _ {bytes operators net symbols scratch work units order : List ℕ} {u : 
               (subst (λ (k : ℕ). O.Forked x k (l .units) u (store work units) (store work′ units′) g) at d)
               ∙ ap (λ (y : FlatState). going y) (counted work′ units′ order′ g (h .1))
               ),
-          record { symbols-long = z .symbols-long; scratch-long = z .scratch-long; most = z .most; fit = d .fit; order-fits = h .1 .fits; few = z .few },
+          record { symbols-long = z .symbols-long; most = z .most; fit = d .fit; order-fits = h .1 .fits; few = z .few },
         )

@@ -33,7 +33,7 @@ use Rattle.entry.specs.State.{state, Arrays}
 use Rattle.entry.specs.Contracts.{Running, Turn, Working, Marked-left, Visited, visit-of, Argument-visited}
 use Rattle.entry.proofs.Facts as F
 
-module _ {bytes operators net symbols scratch work units order : List ℕ} {u : ℕ} {p : Progress} {l : Limits} (z : Arrays symbols scratch work units order l)
+module _ {bytes operators net symbols work units order : List ℕ} {u : ℕ} {p : Progress} {l : Limits} (z : Arrays symbols work units order l)
     (r : Running bytes operators net l (state symbols work units order p l)) (t : Turn l u (state symbols work units order p l)) where
   abbrev s : FlatState
   s = state symbols work units order p l
@@ -41,13 +41,13 @@ module _ {bytes operators net symbols scratch work units order : List ℕ} {u : 
   -- the run goes on from other units, from the symbols symbols′ and the order of placing order′
   abbrev pub GoesOn : List ℕ → List ℕ → List ℕ → List ℕ → Type 0
   GoesOn symbols′ work′ units′ order′ =
-      (going (state symbols′ work′ units′ order′ p l) ≡ flat-entry (F.B z r t) (F.L z r t) u s) × Arrays symbols′ scratch work′ units′ order′ l
+      (going (state symbols′ work′ units′ order′ p l) ≡ flat-entry (F.B z r t) (F.L z r t) u s) × Arrays symbols′ work′ units′ order′ l
 
   went-placed : {work′ units′ order′ : List ℕ} → Stacks-fit (store work′ units′) → Order-fits order′ →
       flat-entry (F.B z r t) (F.L z r t) u s ≡ going (with-placed (with-units s (units-in (store work′ units′) (l .units))) (placed-in order′)) →
       GoesOn symbols work′ units′ order′
   went-placed fit q e =
-      (sym e, record { symbols-long = z .symbols-long; scratch-long = z .scratch-long; most = z .most; fit = fit; order-fits = q; few = z .few })
+      (sym e, record { symbols-long = z .symbols-long; most = z .most; fit = fit; order-fits = q; few = z .few })
 
   -- the order stays
   pub went-on : {work′ units′ : List ℕ} → Stacks-fit (store work′ units′) →
@@ -78,7 +78,7 @@ module _ {bytes operators net symbols scratch work units order : List ℕ} {u : 
         GoesOn symbols′ work′ units′ order
     went-marked fit e = (
       ap (λ (y : FlatState). going y) (marked-state _ _) ∙ sym e,
-      record { symbols-long = m .long ∙ z .symbols-long; scratch-long = z .scratch-long; most = marked-most; fit = fit; order-fits = z .order-fits; few = z .few },
+      record { symbols-long = m .long ∙ z .symbols-long; most = marked-most; fit = fit; order-fits = z .order-fits; few = z .few },
     )
 
   -- an idle unit
@@ -87,7 +87,7 @@ module _ {bytes operators net symbols scratch work units order : List ℕ} {u : 
 
   -- BINGO
   pub finished : busy-in units u ≡ true → Top-is u Frame.bingo (store work units) →
-      (ended Ending.finished s ≡ flat-entry (F.B z r t) (F.L z r t) u s) × Arrays symbols scratch work units order l
+      (ended Ending.finished s ≡ flat-entry (F.B z r t) (F.L z r t) u s) × Arrays symbols work units order l
   unfolding carry-out
   finished b top = (sym (F.entry-is z r t b top), z)
 

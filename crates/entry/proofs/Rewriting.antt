@@ -55,7 +55,7 @@ offsets-of m fs h = all-of _ fs below
 offsets-inside : {B : Book} {L : paper.Limits} {s : FlatState} → Rules B L s → All (λ (x : FlatUnit). Offsets (length (s .symbols)) (x .stack)) (s .units)
 offsets-inside {s = s} r = all-units _ (s .units) (λ v. offsets-of (length (s .symbols)) (stack s v) (r .offsets v))
 
-module _ {bytes operators net symbols scratch work units order : List ℕ} {u : ℕ} {p : Progress} {l : Limits} (z : Arrays symbols scratch work units order l)
+module _ {bytes operators net symbols work units order : List ℕ} {u : ℕ} {p : Progress} {l : Limits} (z : Arrays symbols work units order l)
     (r : Running bytes operators net l (state symbols work units order p l)) (t : Turn l u (state symbols work units order p l)) {x : Job}
     (w : Working work units u x) (n : Next operators symbols x Step.whole) {y : Place} (at : y .unit ≡ u) (off : y .offset ≡ x .offset)
     (named : y .operator ≡ operator (getD symbols (x .offset) 0)) where
@@ -113,20 +113,19 @@ module _ {bytes operators net symbols scratch work units order : List ℕ} {u : 
         (d .is (placed-in order) (x .next) (x .count) ss (Frame.job (x .offset) (x .next) (x .count)) fs (rw at (F.unit-is z r t (w .busy) (w .top))))
 
     -- the budget is used up; the term would be too long: nothing has changed
-    module _ (scratch′ : List ℕ) (long : length scratch′ ≡ 1024) where
-      pub whole-spent : W.Carried-out (F.B z r t) y p l (whole.arrays symbols work units) (whole.arrays symbols′ work′ units) D.Whole.Spent →
-          (ended Ending.spent (state symbols′ work′ units order p l) ≡ flat-entry (F.B z r t) (F.L z r t) u s) × Arrays symbols′ scratch′ work′ units order l
-      whole-spent d = (
-        ap (λ (q : whole.Arrays). ended Ending.spent (whole.state q p l (placed-in order))) (d .stays) ∙ sym (outcome-is D.Whole.Spent d),
-        record { symbols-long = d .long; scratch-long = long; most = d .most; fit = d .fit; order-fits = z .order-fits; few = z .few },
-      )
+    pub whole-spent : W.Carried-out (F.B z r t) y p l (whole.arrays symbols work units) (whole.arrays symbols′ work′ units) D.Whole.Spent →
+        (ended Ending.spent (state symbols′ work′ units order p l) ≡ flat-entry (F.B z r t) (F.L z r t) u s) × Arrays symbols′ work′ units order l
+    whole-spent d = (
+      ap (λ (q : whole.Arrays). ended Ending.spent (whole.state q p l (placed-in order))) (d .stays) ∙ sym (outcome-is D.Whole.Spent d),
+      record { symbols-long = d .long; most = d .most; fit = d .fit; order-fits = z .order-fits; few = z .few },
+    )
 
-      pub whole-full : W.Carried-out (F.B z r t) y p l (whole.arrays symbols work units) (whole.arrays symbols′ work′ units) D.Whole.Full →
-          (ended Ending.full (state symbols′ work′ units order p l) ≡ flat-entry (F.B z r t) (F.L z r t) u s) × Arrays symbols′ scratch′ work′ units order l
-      whole-full d = (
-        ap (λ (q : whole.Arrays). ended Ending.full (whole.state q p l (placed-in order))) (d .stays) ∙ sym (outcome-is D.Whole.Full d),
-        record { symbols-long = d .long; scratch-long = long; most = d .most; fit = d .fit; order-fits = z .order-fits; few = z .few },
-      )
+    pub whole-full : W.Carried-out (F.B z r t) y p l (whole.arrays symbols work units) (whole.arrays symbols′ work′ units) D.Whole.Full →
+        (ended Ending.full (state symbols′ work′ units order p l) ≡ flat-entry (F.B z r t) (F.L z r t) u s) × Arrays symbols′ work′ units order l
+    whole-full d = (
+      ap (λ (q : whole.Arrays). ended Ending.full (whole.state q p l (placed-in order))) (d .stays) ∙ sym (outcome-is D.Whole.Full d),
+      record { symbols-long = d .long; most = d .most; fit = d .fit; order-fits = z .order-fits; few = z .few },
+    )
 
     -- a rule rewrote the term
     module _ (d : W.Carried-out (F.B z r t) y p l (whole.arrays symbols work units) (whole.arrays symbols′ work′ units) D.Whole.Rewrote) where
@@ -136,12 +135,12 @@ module _ {bytes operators net symbols scratch work units order : List ℕ} {u : 
           tallied-next (F.B z r t) (F.L z r t) u s {n = s .granted + s .kept} (record { allowed = t .allowed; forks = omega arith })
           (outcome-is D.Whole.Rewrote d) .allowed
 
-      pub whole-rewrote : (scratch′ : List ℕ) → length scratch′ ≡ 1024 → (p′ : Progress) → p′ ≡ whole.progress p D.Whole.Rewrote →
-          (going (state symbols′ work′ units order p′ l) ≡ flat-entry (F.B z r t) (F.L z r t) u s) × Arrays symbols′ scratch′ work′ units order l
-      whole-rewrote scratch′ long p′ e =
-          subst (λ (q : Progress). (going (state symbols′ work′ units order q l) ≡ flat-entry (F.B z r t) (F.L z r t) u s) × Arrays symbols′ scratch′ work′ units order l) (sym e) (
+      pub whole-rewrote : (p′ : Progress) → p′ ≡ whole.progress p D.Whole.Rewrote →
+          (going (state symbols′ work′ units order p′ l) ≡ flat-entry (F.B z r t) (F.L z r t) u s) × Arrays symbols′ work′ units order l
+      whole-rewrote p′ e =
+          subst (λ (q : Progress). (going (state symbols′ work′ units order q l) ≡ flat-entry (F.B z r t) (F.L z r t) u s) × Arrays symbols′ work′ units order l) (sym e) (
             sym (outcome-is D.Whole.Rewrote d),
-            record { symbols-long = d .long; scratch-long = long; most = d .most; fit = d .fit; order-fits = z .order-fits; few = z .few },
+            record { symbols-long = d .long; most = d .most; fit = d .fit; order-fits = z .order-fits; few = z .few },
           )
 
     -- no rule matches: nothing has changed yet, and the job goes on
@@ -164,11 +163,11 @@ module _ {bytes operators net symbols scratch work units order : List ℕ} {u : 
             d .most,
           )
 
-      pub whole-missed : (scratch′ : List ℕ) → length scratch′ ≡ 1024 → {symbols″ work″ units″ : List ℕ} →
+      pub whole-missed : {symbols″ work″ units″ : List ℕ} →
           O.Proceeded (steps-in operators (F.o z r t w)) x u (store work′ units) (store work″ units″) →
           Marked-left (length (drop (x .next) (steps-in operators (F.o z r t w)))) (y .offset) symbols′ symbols″ →
-          (going (state symbols″ work″ units″ order p l) ≡ flat-entry (F.B z r t) (F.L z r t) u s) × Arrays symbols″ scratch′ work″ units″ order l
-      whole-missed scratch′ long {symbols″} {work″} {units″} q k =
+          (going (state symbols″ work″ units″ order p l) ≡ flat-entry (F.B z r t) (F.L z r t) u s) × Arrays symbols″ work″ units″ order l
+      whole-missed {symbols″} {work″} {units″} q k =
           let ss = steps-in operators (F.o z r t w) in
           let fs = F.below z r t (w .busy) (w .top) in
           let n = length (drop (x .next) ss) in
@@ -183,7 +182,6 @@ module _ {bytes operators net symbols scratch work units order : List ℕ} {u : 
             ap (λ (y : FlatState). going y) (orders.marked-state z r t m work″ units″) ∙ sym e,
             record {
               symbols-long = m .long ∙ z .symbols-long;
-              scratch-long = long;
               most = orders.marked-most z r t m;
               fit = c .change .fit;
               order-fits = z .order-fits;

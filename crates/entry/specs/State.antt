@@ -23,10 +23,9 @@ limited budget = record { budget = budget; symbols = some symbol-limit }
 abbrev pub state : List ℕ → List ℕ → List ℕ → List ℕ → Progress → Limits → FlatState
 state symbols work units order p l = whole.state (whole.arrays symbols work units) p l (placed-in order)
 
--- the arrays' lengths, and that what is kept lies within them; scratch is room for a filled right side
-pub record Arrays (symbols scratch work units order : List ℕ) (l : Limits) : Type 0 where
+-- the arrays' lengths, and that what is kept lies within them
+pub record Arrays (symbols work units order : List ℕ) (l : Limits) : Type 0 where
   pub symbols-long : length symbols ≡ 1024
-  pub scratch-long : length scratch ≡ 1024
   pub most : length-in symbols ≤ 1024
   pub fit : Stacks-fit (store work units)
   pub order-fits : Order-fits order

@@ -144,11 +144,11 @@ fn rewrite(
 ) -> Entry
     ghost { FlatState }
     requires { λ s. ⌜ S.state (now symbols) (now work) (now units) (now order) p l ≡ s ⌝ }
-    requires { λ s. ⌜ S.Arrays (now symbols) (now scratch) (now work) (now units) (now order) l ⌝ }
+    requires { λ s. ⌜ S.Arrays (now symbols) (now work) (now units) (now order) l × (length (now scratch) ≡ 1024) ⌝ }
     requires { λ s. ⌜ E.Running (now book) (now operators) (now net) l s × E.Turn l (task .unit) s × E.Working (now work) (now units) (task .unit) (task .job) × (task .operator ≡ operator (getD (now symbols) (task .job .offset) 0)) ⌝ }
     requires { λ s. ⌜ E.Next (now operators) (now symbols) (task .job) P.Step.whole ⌝ }
     ensures { λ s r. ⌜ E.outcome r (S.state (now (symbols .exit)) (now (work .exit)) (now (units .exit)) (now (order .entry)) (E.after p r) l) ≡ E.entered (now (book .entry)) (now (net .entry)) l (task .unit) s ⌝ }
-    ensures { λ s r. ⌜ S.Arrays (now (symbols .exit)) (now (scratch .exit)) (now (work .exit)) (now (units .exit)) (now (order .entry)) l ⌝ }
+    ensures { λ s r. ⌜ S.Arrays (now (symbols .exit)) (now (work .exit)) (now (units .exit)) (now (order .entry)) l × (length (now (scratch .exit)) ≡ 1024) ⌝ }
 {
     let u = task.unit;
     let job = task.job;
@@ -198,11 +198,11 @@ fn step(
 ) -> Entry
     ghost { FlatState }
     requires { λ s. ⌜ S.state (now symbols) (now work) (now units) (now order) p l ≡ s ⌝ }
-    requires { λ s. ⌜ S.Arrays (now symbols) (now scratch) (now work) (now units) (now order) l ⌝ }
+    requires { λ s. ⌜ S.Arrays (now symbols) (now work) (now units) (now order) l × (length (now scratch) ≡ 1024) ⌝ }
     requires { λ s. ⌜ E.Running (now book) (now operators) (now net) l s × E.Turn l (task .unit) s × E.Working (now work) (now units) (task .unit) (task .job) × (task .operator ≡ operator (getD (now symbols) (task .job .offset) 0)) ⌝ }
     requires { λ s. ⌜ 1 ≤ task .job .next ⌝ }
     ensures { λ s r. ⌜ E.outcome r (S.state (now (symbols .exit)) (now (work .exit)) (now (units .exit)) (now (order .exit)) (E.after p r) l) ≡ E.entered (now (book .entry)) (now (net .entry)) l (task .unit) s ⌝ }
-    ensures { λ s r. ⌜ S.Arrays (now (symbols .exit)) (now (scratch .exit)) (now (work .exit)) (now (units .exit)) (now (order .exit)) l ⌝ }
+    ensures { λ s r. ⌜ S.Arrays (now (symbols .exit)) (now (work .exit)) (now (units .exit)) (now (order .exit)) l × (length (now (scratch .exit)) ≡ 1024) ⌝ }
 {
     let u = task.unit;
     let job = task.job;
@@ -254,10 +254,10 @@ fn carry_out(
 ) -> Entry
     ghost { FlatState }
     requires { λ s. ⌜ S.state (now symbols) (now work) (now units) (now order) p l ≡ s ⌝ }
-    requires { λ s. ⌜ S.Arrays (now symbols) (now scratch) (now work) (now units) (now order) l ⌝ }
+    requires { λ s. ⌜ S.Arrays (now symbols) (now work) (now units) (now order) l × (length (now scratch) ≡ 1024) ⌝ }
     requires { λ s. ⌜ E.Running (now book) (now operators) (now net) l s × E.Turn l (task .unit) s × E.Working (now work) (now units) (task .unit) (task .job) × (task .operator ≡ operator (getD (now symbols) (task .job .offset) 0)) ⌝ }
     ensures { λ s r. ⌜ E.outcome r (S.state (now (symbols .exit)) (now (work .exit)) (now (units .exit)) (now (order .exit)) (E.after p r) l) ≡ E.entered (now (book .entry)) (now (net .entry)) l (task .unit) s ⌝ }
-    ensures { λ s r. ⌜ S.Arrays (now (symbols .exit)) (now (scratch .exit)) (now (work .exit)) (now (units .exit)) (now (order .exit)) l ⌝ }
+    ensures { λ s r. ⌜ S.Arrays (now (symbols .exit)) (now (work .exit)) (now (units .exit)) (now (order .exit)) l × (length (now (scratch .exit)) ≡ 1024) ⌝ }
 {
     if task.job.next == 0 {
         visit(operators, symbols, work, units, task);
@@ -294,10 +294,10 @@ pub fn enter(
 ) -> Entry
     ghost { FlatState }
     requires { λ s. ⌜ S.state (now symbols) (now work) (now units) (now order) p l ≡ s ⌝ }
-    requires { λ s. ⌜ S.Arrays (now symbols) (now scratch) (now work) (now units) (now order) l ⌝ }
+    requires { λ s. ⌜ S.Arrays (now symbols) (now work) (now units) (now order) l × (length (now scratch) ≡ 1024) ⌝ }
     requires { λ s. ⌜ E.Running (now book) (now operators) (now net) l s × E.Turn l u s ⌝ }
     ensures { λ s r. ⌜ E.outcome r (S.state (now (symbols .exit)) (now (work .exit)) (now (units .exit)) (now (order .exit)) (E.after p r) l) ≡ E.entered (now (book .entry)) (now (net .entry)) l u s ⌝ }
-    ensures { λ s r. ⌜ S.Arrays (now (symbols .exit)) (now (scratch .exit)) (now (work .exit)) (now (units .exit)) (now (order .exit)) l ⌝ }
+    ensures { λ s r. ⌜ S.Arrays (now (symbols .exit)) (now (work .exit)) (now (units .exit)) (now (order .exit)) l × (length (now (scratch .exit)) ≡ 1024) ⌝ }
 {
     if !units::is_busy(units, u) {
         return Entry::Going(p);

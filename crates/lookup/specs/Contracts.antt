@@ -117,6 +117,10 @@ module _ (bytes net symbols : List ℕ) (a : ℕ) where
   abbrev pub Fit : ℕ → Type 0
   Fit j = (j < length (rules-by bytes net)) × Agree symbols (end symbols a) (path-by bytes net j) a
 
+  -- every rule whose path agrees with the term is led to from a node
+  abbrev pub Leads-all : Spot → Type 0
+  Leads-all s = (j : ℕ) → Fit j → Led net s j
+
   -- r answers for the way down from a node; a rule that isn't before the best need not be led to
   abbrev pub Descended : Spot → ℕ → De.Descent → Type 0
   Descended s best (De.Descent.Leaf i) =

@@ -320,30 +320,21 @@ fn attempt(
     }
 }
 
-// The first rule that matches the term at an offset; first is the first rule of its root. Where no path leaves that rule's behind the root, there is nothing
-// to search: the rules that have it are tried.
-pub fn find(
+// The first rule that matches, from a node to which the way has led that every rule takes whose path agrees with the term: its branches, and back to those
+// that were passed.
+fn search(
     book: &[u8],
     operators: &[u8; 4352],
     net: &[u8],
     symbols: &[u32; 1024],
     offset: usize,
-    first: usize,
+    start: Spot,
     stack: &mut [u32; 1024],
     bound: &mut [u16; 32],
 ) -> Hit
-    requires { ⌜ L.Present (now book) (now operators) (now net) (now symbols) offset × (root-in (now net) (getD (operators-in (now symbols)) offset 0) ≡ suc first) × (length (now stack) ≡ 1024) ⌝ }
+    requires { ⌜ L.Present (now book) (now operators) (now net) (now symbols) offset × L.Node (now book) (now net) (now symbols) offset start × L.Leads-all (now book) (now net) (now symbols) offset start × (length (now stack) ≡ 1024) ⌝ }
     ensures { λ r. ⌜ R.Search-answers (book-by (now (book .entry)) (now (net .entry))) (now (operators .entry)) offset (operators-in (now (symbols .entry))) (length-in (now (symbols .entry))) (binding (now (bound .exit))) r × (length (now (stack .exit)) ≡ 1024) ⌝ }
 {
-    if net::last(net, first) <= 1 {
-        return try_rules(book, operators, net, symbols, offset, first, 256, bound);
-    }
-    let start = Spot {
-        rule: first,
-        depth: 1,
-        at: 9,
-        offset: offset + 1,
-    };
     put(stack, 0, start);
     let mut height = 1;
     let mut best = Best {
@@ -363,4 +354,32 @@ pub fn find(
         rule: best.number - 1,
         end: best.end,
     })
+}
+
+// The first rule that matches the term at an offset; first is the first rule of its root. Where no choice comes, there is one path at most, and nothing to go
+// back to.
+pub fn find(
+    book: &[u8],
+    operators: &[u8; 4352],
+    net: &[u8],
+    symbols: &[u32; 1024],
+    offset: usize,
+    first: usize,
+    stack: &mut [u32; 1024],
+    bound: &mut [u16; 32],
+) -> Hit
+    requires { ⌜ L.Present (now book) (now operators) (now net) (now symbols) offset × (root-in (now net) (getD (operators-in (now symbols)) offset 0) ≡ suc first) × (length (now stack) ≡ 1024) ⌝ }
+    ensures { λ r. ⌜ R.Search-answers (book-by (now (book .entry)) (now (net .entry))) (now (operators .entry)) offset (operators-in (now (symbols .entry))) (length-in (now (symbols .entry))) (binding (now (bound .exit))) r × (length (now (stack .exit)) ≡ 1024) ⌝ }
+{
+    let start = Spot {
+        rule: first,
+        depth: 1,
+        at: 9,
+        offset: offset + 1,
+    };
+    match descend(book, net, symbols, offset, start, 256) {
+        Descent::Lost => Hit::None,
+        Descent::Leaf(i) => { try_rules(book, operators, net, symbols, offset, i, 256, bound) }
+        Descent::Choice(node) => search(book, operators, net, symbols, offset, node, stack, bound),
+    }
 }

@@ -63,20 +63,20 @@ first-counts l r h =
     ∙ ap (run (r .entries) (r .granted)) (low (r .kept) (h .kept))
 
 -- a line's run by an open book
-module _ {l : Limits} {book table ways schedule symbols scratch work cells order : List ℕ} {r : Run} (net : NetOf book table ways) (line : List ℕ) (t : Term)
+module _ {l : Limits} {book table ways schedule symbols work cells order : List ℕ} {r : Run} (net : NetOf book table ways) (line : List ℕ) (t : Term)
     (read : readLine (book-by book ways) line ≡ accepted t) (few : l .units ≤ 8) (counts : Counts r)
-    (ran : Ran book ways l schedule (E.first (book-by book ways) l line) symbols scratch work cells order r) where
+    (ran : Ran book ways l schedule (E.first (book-by book ways) l line) symbols work cells order r) where
   abbrev B : Book
   B = book-by book ways
 
   abbrev P : Parked
   P = begun B (l .units) t
 
-  from-first : Ran book ways l schedule (from-zero (P .state)) symbols scratch work cells order r
+  from-first : Ran book ways l schedule (from-zero (P .state)) symbols work cells order r
   unfolding flat-start
   from-first =
       let (_, e, _, _) = line-correct B line t read in
-      subst (λ (xs : List ℕ). Ran book ways l schedule (from-zero (flat-start (arity B) (l .units) xs)) symbols scratch work cells order r) (sym e) ran
+      subst (λ (xs : List ℕ). Ran book ways l schedule (from-zero (flat-start (arity B) (l .units) xs)) symbols work cells order r) (sym e) ran
 
   rules : PointRules B (limited (l .budget)) (P .state)
   unfolding parts
@@ -123,9 +123,9 @@ module _ {book table rules symbols schedule name work net points output : List �
       let q : Request = request book (take n symbols) units budget day schedule work net output in
       refuses 14 (by-schedule readLine q name points (framed q (f .faultless)) (any-book book) (tables .read) (g .term) (read-on book rules symbols n g d) k (placed .is) e)
 
-pub named : {l : Limits} {book table rules line schedule symbols scratch w cells order ways name work net points output work′ net′ points′ output′ : List ℕ} {day k : ℕ} {r : Run} →
+pub named : {l : Limits} {book table rules line schedule symbols w cells order ways name work net points output work′ net′ points′ output′ : List ℕ} {day k : ℕ} {r : Run} →
     Framed book (l .units) work net output → l .units ≤ 8 → TablesOf book table rules → day ≡ day-in rules → all-below (l .units) schedule ≡ true → Built book table rules net ways →
-    Posted (book-by book ways) line l schedule symbols r → Ran book ways l schedule (E.first (book-by book ways) l line) symbols scratch w cells order r → Counts r →
+    Posted (book-by book ways) line l schedule symbols r → Ran book ways l schedule (E.first (book-by book ways) l line) symbols w cells order r → Counts r →
     Placed k name points → points′ ≡ behind-cut k name book day l r (arrays symbols w cells order) points points →
     work′ ≡ replicate (length work) 0 → Left-by symbols (r .length) w ways output work′ net′ output′ →
     ParkedBy readLine book line (l .units) (l .budget) day schedule name work net points output work′ net′ points′ output′ (D.Answer.Ran r)

@@ -52,9 +52,9 @@ left-over Ending.Spent s h = refl
 left-over Ending.Full s h = refl
 
 -- the part of a run that was parked as P, by numbers x that count what P does
-module _ {book net : List ℕ} {l : Limits} {schedule symbols scratch work cells order : List ℕ} {r : Run} (P : Parked) (x : Numbers)
+module _ {book net : List ℕ} {l : Limits} {schedule symbols work cells order : List ℕ} {r : Run} (P : Parked) (x : Numbers)
     (n : x .entries ≡ P .entries) (g : x .granted ≡ P .state .granted) (h : x .kept ≡ P .state .kept)
-    (ran : Ran book net l schedule (from-zero (P .state)) symbols scratch work cells order r) where
+    (ran : Ran book net l schedule (from-zero (P .state)) symbols work cells order r) where
   abbrev B : Book
   B = book-by book net
 

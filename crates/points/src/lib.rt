@@ -221,7 +221,6 @@ fn run_named(
     }
     insertion::build(book, operators, rules, net);
     let mut symbols = [0u32; 1024];
-    let mut scratch = [0u32; 1024];
     let mut cells = [0u32; 8];
     let mut order = [0u16; 1024];
     let run = engine::post_into(
@@ -233,7 +232,6 @@ fn run_named(
         limits,
         schedule,
         &mut symbols,
-        &mut scratch,
         work,
         &mut cells,
         &mut order,

@@ -74,12 +74,10 @@ module _ {book table rules : List ℕ} {day : ℕ} {x : Numbers} {symbols work c
       frame = frame-of (q .faultless)
 
       -- WHAT THE ENGINE ASKS
-      pub going : {scratch : List ℕ} → length scratch ≡ 1024 →
-          E.Arrays symbols scratch work cells order l × R.Opened book table ways × PointRules B L s × R.Asked l schedule (length work)
-      going long = (
+      pub going : E.Arrays symbols work cells order l × R.Opened book table ways × PointRules B L s × R.Asked l schedule (length work)
+      going = (
         record {
           symbols-long = p .standing .sized .long;
-          scratch-long = long;
           most = p .standing .sized .most;
           fit = p .standing .fit;
           order-fits = p .standing .order-fits;
@@ -91,7 +89,7 @@ module _ {book table rules : List ℕ} {day : ℕ} {x : Numbers} {symbols work c
       )
 
       -- BEHIND THE PART r, with what was counted before
-      module _ {symbols′ scratch work′ cells′ order′ : List ℕ} {r : Run} (ran : Ran book ways l schedule s symbols′ scratch work′ cells′ order′ r) (run : Run) (e : run ≡ added x r) where
+      module _ {symbols′ work′ cells′ order′ : List ℕ} {r : Run} (ran : Ran book ways l schedule s symbols′ work′ cells′ order′ r) (run : Run) (e : run ≡ added x r) where
         abbrev a′ : Arrays
         a′ = arrays symbols′ work′ cells′ order′
 

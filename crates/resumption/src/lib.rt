@@ -152,7 +152,6 @@ fn go_on(
         (now (work .exit)) (now (net .exit)) (now (points .exit)) (now (output .exit)) r ⌝ }
 {
     insertion::build(book, operators, rules, net);
-    let mut scratch = [0u32; 1024];
     let limits = Limits {
         units: x.units,
         budget: x.budget,
@@ -165,7 +164,6 @@ fn go_on(
         limits,
         schedule,
         symbols,
-        &mut scratch,
         work,
         cells,
         order,

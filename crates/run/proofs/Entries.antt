@@ -62,9 +62,9 @@ module _ (B : Book) (L : paper.Limits) (us : List ℕ) (i : ℕ) (s : FlatState)
 -- THE STATE AS IT IS KEPT
 
 -- after i entries of the run from the state s₀
-pub record Along (bytes operators net : List ℕ) (l : Limits) (schedule : List ℕ) (s₀ : FlatState) (symbols scratch work units order : List ℕ) (p : Progress) (i : ℕ) :
+pub record Along (bytes operators net : List ℕ) (l : Limits) (schedule : List ℕ) (s₀ : FlatState) (symbols work units order : List ℕ) (p : Progress) (i : ℕ) :
     Type 0 where
-  pub arrays : Arrays symbols scratch work units order l
+  pub arrays : Arrays symbols work units order l
   pub running : Running bytes operators net l (state symbols work units order p l)
   pub tallied : Tallied (l .budget) i (state symbols work units order p l)
   pub is : flat-run-from (book-by bytes net) (limited (l .budget)) 0 schedule s₀ ≡
@@ -75,9 +75,9 @@ pub record Along (bytes operators net : List ℕ) (l : Limits) (schedule : List 
 
 module _ {bytes operators net : List ℕ} {l : Limits} {schedule : List ℕ} where
   -- before the first entry
-  pub along-start : {symbols scratch work units order : List ℕ} (rewrites : ℕ) → Arrays symbols scratch work units order l →
+  pub along-start : {symbols work units order : List ℕ} (rewrites : ℕ) → Arrays symbols work units order l →
       Runnable bytes operators net l schedule (state symbols work units order (begun rewrites) l) →
-      Along bytes operators net l schedule (state symbols work units order (begun rewrites) l) symbols scratch work units order (begun rewrites) 0
+      Along bytes operators net l schedule (state symbols work units order (begun rewrites) l) symbols work units order (begun rewrites) 0
   along-start rewrites a r =
       let g = tables-by (r .running .netted) .good in
       let B : Book = book-by bytes net in
@@ -90,8 +90,8 @@ module _ {bytes operators net : List ℕ} {l : Limits} {schedule : List ℕ} whe
         used = omega arith;
       }
 
-  module _ {s₀ : FlatState} {symbols scratch work units order : List ℕ} {p : Progress} {i : ℕ}
-      (a : Along bytes operators net l schedule s₀ symbols scratch work units order p i) where
+  module _ {s₀ : FlatState} {symbols work units order : List ℕ} {p : Progress} {i : ℕ}
+      (a : Along bytes operators net l schedule s₀ symbols work units order p i) where
     -- the next entry may be made
     pub along-turn : Runnable bytes operators net l schedule s₀ → i + 1 < 2 ^ 64 → i < length schedule → (u : ℕ) → u ≡ getD schedule i 0 →
         Turn l u (state symbols work units order p l)
@@ -102,10 +102,10 @@ module _ {bytes operators net : List ℕ} {l : Limits} {schedule : List ℕ} whe
       room = omega (arith, a .tallied .forks);
     }
 
-    module _ (h : i < length schedule) (u : ℕ) (eu : u ≡ getD schedule i 0) {symbols′ scratch′ work′ units′ order′ : List ℕ} where
+    module _ (h : i < length schedule) (u : ℕ) (eu : u ≡ getD schedule i 0) {symbols′ work′ units′ order′ : List ℕ} where
       -- the entry leads to another state
       pub along-goes : (p′ : Progress) → going (state symbols′ work′ units′ order′ p′ l) ≡ flat-entry (book-by bytes net) (limited (l .budget)) u (state symbols work units order p l) →
-          Arrays symbols′ scratch′ work′ units′ order′ l → Along bytes operators net l schedule s₀ symbols′ scratch′ work′ units′ order′ p′ (i + 1)
+          Arrays symbols′ work′ units′ order′ l → Along bytes operators net l schedule s₀ symbols′ work′ units′ order′ p′ (i + 1)
       unfolding after unless-over
       along-goes p′ e z =
           let g = tables-by (a .running .netted) .good in
@@ -127,8 +127,8 @@ module _ {bytes operators net : List ℕ} {l : Limits} {schedule : List ℕ} whe
       -- the entry ends the run, and the state is as it was
       pub along-ends : (x : Ending) → ((s : FlatState) → left-by x s ≡ none) →
           ended (ending x) (state symbols′ work′ units′ order′ p l) ≡ flat-entry (book-by bytes net) (limited (l .budget)) u (state symbols work units order p l) →
-          Arrays symbols′ scratch′ work′ units′ order′ l → (r : Run) → r ≡ R.ended x (i + 1) p symbols′ →
-          Ran bytes net l schedule s₀ symbols′ scratch′ work′ units′ order′ r
+          Arrays symbols′ work′ units′ order′ l → (r : Run) → r ≡ R.ended x (i + 1) p symbols′ →
+          Ran bytes net l schedule s₀ symbols′ work′ units′ order′ r
       unfolding after unless-over
       along-ends x over e z r er =
           rw er (record {
@@ -148,7 +148,7 @@ module _ {bytes operators net : List ℕ} {l : Limits} {schedule : List ℕ} whe
           })
 
     -- the schedule is at its end
-    pub along-cut : length schedule ≤ i → (r : Run) → r ≡ R.ended Ending.Cut i p symbols → Ran bytes net l schedule s₀ symbols scratch work units order r
+    pub along-cut : length schedule ≤ i → (r : Run) → r ≡ R.ended Ending.Cut i p symbols → Ran bytes net l schedule s₀ symbols work units order r
     along-cut h r er =
         rw er (record {
           is = sym (a .is ∙ run-cut (book-by bytes net) (limited (l .budget)) schedule i _ h);

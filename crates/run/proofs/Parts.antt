@@ -17,20 +17,20 @@ use Rattle.run.specs.Contracts.{answer, counted, left-by, Ran}
 use Rattle.run.specs.declared.Ending.{Ending}
 use Rattle.run.specs.declared.Run.{Run}
 
-module _ {bytes net : List ℕ} {l : Limits} {schedule symbols scratch work units order : List ℕ} {r : Run} where
+module _ {bytes net : List ℕ} {l : Limits} {schedule symbols work units order : List ℕ} {r : Run} where
   -- by the ending
-  pub ran-left : {s : FlatState} → Ran bytes net l schedule s symbols scratch work units order r → (x : Ending) → r .ending ≡ x →
+  pub ran-left : {s : FlatState} → Ran bytes net l schedule s symbols work units order r → (x : Ending) → r .ending ≡ x →
       flat-parked (book-by bytes net) (limited (l .budget)) schedule s ≡ left-by x (state symbols work units order (counted r) l)
   ran-left h x e = sym (h .parked) ∙ ap (λ (y : Ending). left-by y (state symbols work units order (counted r) l)) e
 
   -- a cut run has used every entry
-  pub cut-used : {s : FlatState} → Ran bytes net l schedule s symbols scratch work units order r → r .ending ≡ Ending.Cut → r .entries ≡ length schedule
+  pub cut-used : {s : FlatState} → Ran bytes net l schedule s symbols work units order r → r .ending ≡ Ending.Cut → r .entries ≡ length schedule
   cut-used {s} h e =
       let q = parked-answer (book-by bytes net) (limited (l .budget)) 0 schedule s _ (ran-left h Ending.Cut e) in
       omega (arith, ap (λ (a : FlatAnswer). a .entries) (h .is ∙ q))
 
   -- A PART of the run that was parked at P, counted from zero
-  module _ (P : Parked) (h : Ran bytes net l schedule (from-zero (P .state)) symbols scratch work units order r) where
+  module _ (P : Parked) (h : Ran bytes net l schedule (from-zero (P .state)) symbols work units order r) where
     pub resumed : resume (book-by bytes net) (limited (l .budget)) schedule P ≡
         kept-answer (add-counts (P .entries) (P .state .granted) (P .state .kept) (answer r symbols))
     resumed =

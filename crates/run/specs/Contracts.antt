@@ -75,8 +75,8 @@ pub record Bounded (l : Limits) (schedule symbols : List ℕ) (r : Run) : Type 0
   pub forks : r .granted + r .kept ≤ r .entries
 
 -- r is the run of a schedule from the state s, by the book of the bytes and the net, which has left these arrays: its answer, and if it was cut the state in which it stands
-pub record Ran (bytes net : List ℕ) (l : Limits) (schedule : List ℕ) (s : FlatState) (symbols scratch work units order : List ℕ) (r : Run) : Type 0 where
+pub record Ran (bytes net : List ℕ) (l : Limits) (schedule : List ℕ) (s : FlatState) (symbols work units order : List ℕ) (r : Run) : Type 0 where
   pub is : answer r symbols ≡ flat-run-from (book-by bytes net) (limited (l .budget)) 0 schedule s
   pub parked : left r (state symbols work units order (counted r) l) ≡ flat-parked (book-by bytes net) (limited (l .budget)) schedule s
   pub bounded : Bounded l schedule symbols r
-  pub arrays : Arrays symbols scratch work units order l
+  pub arrays : Arrays symbols work units order l

@@ -54,13 +54,12 @@ fn ended(ending: Ending, entries: usize, p: Progress, symbols: &[u32; 1024]) -> 
 }
 
 // The run of a schedule from where the arrays stand, with so many rewrites made before and nothing else counted yet: what it counts is of this part alone, but for
-// the rewrites, which the budget bounds over all parts. The arrays are left where the run stands, and scratch as it comes.
+// the rewrites, which the budget bounds over all parts. The arrays are left where the run stands.
 pub fn run_schedule(
     book: &[u8],
     operators: &[u8; 4352],
     net: &[u8],
     symbols: &mut [u32; 1024],
-    scratch: &mut [u32; 1024],
     work: &mut [u8],
     units: &mut [u32; 8],
     order: &mut [u16; 1024],
@@ -70,15 +69,17 @@ pub fn run_schedule(
 ) -> Run
     ghost { FlatState }
     requires { λ s. ⌜ S.state (now symbols) (now work) (now units) (now order) (R.begun rewrites) l ≡ s ⌝ }
-    requires { λ s. ⌜ S.Arrays (now symbols) (now scratch) (now work) (now units) (now order) l ⌝ }
+    requires { λ s. ⌜ S.Arrays (now symbols) (now work) (now units) (now order) l ⌝ }
     requires { λ s. ⌜ R.Runnable (now book) (now operators) (now net) l (now schedule) s ⌝ }
-    ensures { λ s r. ⌜ R.Ran (now (book .entry)) (now (net .entry)) l (now (schedule .entry)) s (now (symbols .exit)) (now (scratch .exit)) (now (work .exit)) (now (units .exit)) (now (order .exit)) r ⌝ }
+    ensures { λ s r. ⌜ R.Ran (now (book .entry)) (now (net .entry)) l (now (schedule .entry)) s (now (symbols .exit)) (now (work .exit)) (now (units .exit)) (now (order .exit)) r ⌝ }
 {
     let mut p = Progress {
         rewrites,
         granted: 0,
         kept: 0,
     };
+    // Room for the search of a net and for a filled right side. No caller lends it, so that it is known to be apart from the symbols, and copies between them are plain.
+    let mut scratch = [0u32; 1024];
     let mut i = 0;
     while i < schedule.len() {
         match entry::enter(
@@ -86,7 +87,7 @@ pub fn run_schedule(
             operators,
             net,
             symbols,
-            scratch,
+            &mut scratch,
             work,
             units,
             order,

@@ -18,22 +18,22 @@ returns c =
     let t = read-by (s .pre .0) (i .before .before .length .given .1) (x .read-term .ensures) in
     let a = s .pre .1 .0 in (
       not-named _ (s .pre .0) _ _ t (sym (s .pre .1 .1 .0) ∙ not-true _ (i .if1 .taken)) (c .before .before .put-refusal2 .ensures),
-      record { line-long = t .given .long; symbols-long = a .symbols-long; scratch-long = a .scratch-long },
+      record { line-long = t .given .long; symbols-long = a .symbols-long },
     )
 
 post-requires : tie.Need-post-requires
 post-requires c κs =
-    let i = c .before .before .before .before in
+    let i = c .before .before .before in
     let x = i .before .before .before .before in
     let s = entry x in
     let t = read-by (s .pre .0) (i .before .before .length .given .1) (x .read-term .ensures) in
-    (s .pre .0 .opened, (t .given, (asks (s .pre .0) (sym (s .pre .1 .1 .0) ∙ not-false _ (i .if1 .left)), (s .pre .1 .0 .symbols-long, s .pre .1 .0 .scratch-long))))
+    (s .pre .0 .opened, (t .given, (asks (s .pre .0) (sym (s .pre .1 .1 .0) ∙ not-false _ (i .if1 .left)), s .pre .1 .0 .symbols-long)))
 
 put-run-requires : tie.Need-put-run-requires
 put-run-requires c κs =
     let p = c .before .before .before .before in
-    let x = p .before .before .before .before .before .before .before .before .before in
-    (p .post .ensures .0 .most, p .post .ensures .0 .long, entry x .pre .1 .1 .1)
+    let x = p .before .before .before .before .before .before .before .before in
+    (p .post .ensures .most, p .post .ensures .long, entry x .pre .1 .1 .1)
 
 returns-2 : tie.Need-returns-2
 returns-2 c =
@@ -43,19 +43,19 @@ returns-2 c =
     let e = read-by (s .pre .0) (k .k .given .1) (x .read-term .ensures) in
     let a = s .pre .1 .0 in (
       not-read _ (s .pre .0) _ _ _ e (c .before .before .put-refusal .ensures),
-      record { line-long = x .read-term .ensures .long; symbols-long = a .symbols-long; scratch-long = a .scratch-long },
+      record { line-long = x .read-term .ensures .long; symbols-long = a .symbols-long },
     )
 
 returns-3 : tie.Need-returns-3
 returns-3 c =
     let p = c .before .before .before .before .before .before .before in
-    let i = p .before .before .before .before .before in
+    let i = p .before .before .before .before in
     let x = i .before .before .before .before in
     let s = entry x in
     let t = read-by (s .pre .0) (i .before .before .length .given .1) (x .read-term .ensures) in
-    let r = p .post .ensures .0 in (
+    let r = p .post .ensures in (
       posted _ (s .pre .0) _ _ t r (sym (s .pre .1 .1 .0) ∙ not-false _ (i .if1 .left)) (r .present) (c .before .before .put-run .ensures),
-      record { line-long = t .given .long; symbols-long = r .long; scratch-long = p .post .ensures .1 },
+      record { line-long = t .given .long; symbols-long = r .long },
     )
 
 pub answer-line-spec : {M : Type 1} → statement M

@@ -12,12 +12,12 @@ use Rattle.batch.proofs.answer_lines.Statement.{statement}
 use Rattle.batch.proofs.answer_lines.Tie as tie
 
 abbrev Inv-loop : tie.InvT-loop
-Inv-loop form book n operators net lines limits schedule work₀ answers₀ named line₀ symbols₀ scratch₀ count₀ read₀ written₀ work answers line symbols scratch count read written =
-    (length work ≡ length work₀) × (length answers ≡ length answers₀) × Arrays line symbols scratch
+Inv-loop form book n operators net lines limits schedule work₀ answers₀ named line₀ symbols₀ count₀ read₀ written₀ work answers line symbols count read written =
+    (length work ≡ length work₀) × (length answers ≡ length answers₀) × Arrays line symbols
     × Upto (reader form) book net limits schedule (length work₀) lines answers₀ answers count read written
 
 abbrev μ-loop : tie.MeasureT-loop
-μ-loop form book n operators net lines limits schedule work₀ answers₀ named line₀ symbols₀ scratch₀ count₀ read₀ written₀ work answers line symbols scratch count read written = length lines - read
+μ-loop form book n operators net lines limits schedule work₀ answers₀ named line₀ symbols₀ count₀ read₀ written₀ work answers line symbols count read written = length lines - read
 
 -- the function's start
 abbrev entry : tie.After-names-units Inv-loop μ-loop → tie.Start Inv-loop μ-loop
@@ -27,7 +27,7 @@ names-units-requires : tie.Need-names-units-requires Inv-loop μ-loop
 names-units-requires c κs = frame-of (c .before .before .before .before .before .before .pre .faultless) .some-units
 
 loop-holds : tie.Need-loop-holds Inv-loop μ-loop
-loop-holds c = (refl, refl, record { line-long = refl; symbols-long = refl; scratch-long = refl }, none-yet)
+loop-holds c = (refl, refl, record { line-long = refl; symbols-long = refl }, none-yet)
 
 returns : tie.Need-returns Inv-loop μ-loop
 returns c =
@@ -54,7 +54,7 @@ part-answer-line-end c =
 
 answer-line-requires : tie.Need-answer-line-requires Inv-loop μ-loop
 answer-line-requires c κs =
-    let e = c .before .before .before .before .before .before .before in
+    let e = c .before .before .before .before .before .before in
     let q = e .before .before in
     let g = rw (e .end .given .1) at (q .next-line .ensures) in
     let l = q .before in
@@ -64,7 +64,7 @@ answer-line-requires c κs =
 
 add-count : tie.Need-add-count Inv-loop μ-loop
 add-count c =
-    let k = c .before .before .before .before .before .before .before .before .before .before .before in
+    let k = c .before .before .before .before .before .before .before .before .before .before in
     let e = k .before in
     let q = e .before .before in
     let g = rw (e .end .given .1) at (q .next-line .ensures) in
@@ -72,14 +72,14 @@ add-count c =
 
 loop-less : tie.Need-loop-less Inv-loop μ-loop
 loop-less c =
-    let e = c .before .before .before .before .before .before .before .before .before .before .before .before in
+    let e = c .before .before .before .before .before .before .before .before .before .before .before in
     let q = e .before .before in
     let g = rw (e .end .given .1) at (q .next-line .ensures) in
     omega (arith, g .0, g .1)
 
 loop-again : tie.Need-loop-again Inv-loop μ-loop
 loop-again c =
-    let e = c .before .before .before .before .before .before .before .before .before .before .before .before in
+    let e = c .before .before .before .before .before .before .before .before .before .before .before in
     let q = e .before .before in
     let g = rw (e .end .given .1) at (q .next-line .ensures) in
     let l = q .before in

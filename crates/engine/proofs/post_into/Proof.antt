@@ -22,15 +22,15 @@ start-requires c κs = let p = entry (c .before .before) .pre in record { bytes 
 
 run-schedule-requires : tie.Need-run-schedule-requires
 run-schedule-requires c κs =
-    let u = c .before .before .before .before .before .before .before in
+    let u = c .before .before .before .before .before .before in
     let l = loaded u in
     let p = entry l .pre in
-    ready (p .0) (p .1 .0) (p .1 .1 .0) (l .load .ensures) (u .start .ensures) (emptied (now (entry l .args .order)) (p .1 .1 .1 .order-long)) _ (p .1 .1 .1 .scratch-long)
+    ready (p .0) (p .1 .0) (p .1 .1 .0) (l .load .ensures) (u .start .ensures) (emptied (now (entry l .args .order)) (p .1 .1 .1 .order-long))
 
 returns : tie.Need-returns
 returns c =
     let r = c .before .before in
-    let u = r .before .before .before .before .before .before .before .before in
+    let u = r .before .before .before .before .before .before .before in
     let l = loaded u in
     let p = entry l .pre in
     let ran = ran-first (p .0) (p .1 .0) (p .1 .1 .0) (l .load .ensures) (u .start .ensures) (emptied (now (entry l .args .order)) (p .1 .1 .1 .order-long)) (r .run-schedule .ensures) in

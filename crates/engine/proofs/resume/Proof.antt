@@ -6,7 +6,7 @@ use Rattle.engine.proofs.resume.Tie as tie
 
 run-schedule-requires : tie.Need-run-schedule-requires
 run-schedule-requires c κs =
-    let p = c .before .before .before .before .before .before .before .before .before .pre in
+    let p = c .before .before .before .before .before .before .before .before .pre in
     (p .0, resumable (p .1 .0) (p .1 .1 .0) (p .1 .1 .1))
 
 pub resume-spec : {M : Type 1} → statement M

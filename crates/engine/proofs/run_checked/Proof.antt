@@ -21,7 +21,7 @@ abbrev looked : tie.After-build → tie.After-names-units
 looked b = b .before .before .before
 
 abbrev built : tie.After-post → tie.After-build
-built r = r .before .before .before .before .before .before .before
+built r = r .before .before .before .before .before .before
 
 names-units-requires : tie.Need-names-units-requires
 names-units-requires c κs = frame-of (c .before .before .before .before .before .pre .0 .faultless) .some-units
@@ -40,18 +40,18 @@ build-requires c κs =
 
 post-requires : tie.Need-post-requires
 post-requires c κs =
-    let b = c .before .before .before .before .before .before in
+    let b = c .before .before .before .before .before in
     let n = looked b in
     let s = entry n in
     let p = s .pre in
     let g = subst (λ (B : Book). Given B (now (s .args .line)) (s .args .length)) (sym (b .build .ensures .same-book)) (p .1 .0 .given) in
     let q = asked (frame-of (p .0 .faultless)) (sym (n .names-units .ensures) ∙ not-false _ (b .before .before .if1 .left)) (p .1 .1) in
-    (record { netted = b .build .ensures .of-book; short = p .0 .short }, (g, (q, (refl, refl))))
+    (record { netted = b .build .ensures .of-book; short = p .0 .short }, (g, (q, refl)))
 
 hand-out-requires : tie.Need-hand-out-requires
 hand-out-requires c κs =
     let r = c .before .before .before .before in
-    let p = r .post .ensures .0 in
+    let p = r .post .ensures in
     (p .long, p .most, frame-of (entry (looked (built r)) .pre .0 .faultless) .output-long)
 
 returns-2 : tie.Need-returns-2
@@ -64,7 +64,7 @@ returns-2 c =
     let s = entry n in
     let p = s .pre in
     reduced {line = take (s .args .length) (now (s .args .line))} (p .0) (p .1 .0 .tables)
-    (sym (n .names-units .ensures) ∙ not-false _ (b .before .before .if1 .left)) (b .build .ensures) (r .post .ensures .0)
+    (sym (n .names-units .ensures) ∙ not-false _ (b .before .before .if1 .left)) (b .build .ensures) (r .post .ensures)
     (z .before .before .before .before .clear .ensures ∙ ap (λ (k : ℕ). replicate k 0) (o .before .before .before .before .work .given))
     (z .clear2 .ensures) (o .hand-out .ensures)
 

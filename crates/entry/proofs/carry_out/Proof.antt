@@ -9,7 +9,7 @@ visit-requires : tie.Need-visit-requires
 visit-requires c κs =
     let q = c .before .before .before .before .before .before .before .before .pre in
     let t = q .1 in
-    let v = visit-asks (q .0) (t .0) (t .1) (t .2) in
+    let v = visit-asks (q .0 .0) (t .0) (t .1) (t .2) in
     (rw (t .3) (v .0), v .1, v .2, v .3, t .3)
 
 same-length : tie.Need-same-length
@@ -21,7 +21,8 @@ returns c =
     let i = v .before .before .before .before in
     let q = i .before .before .before .before .before .pre in
     let t = q .1 in
-    visited (q .0) (t .0) (t .1) (t .2) (i .if1 .taken) (v .visit .ensures)
+    let x = visited (q .0 .0) (t .0) (t .1) (t .2) (i .if1 .taken) (v .visit .ensures) in
+    (x .0, (x .1, q .0 .1))
 
 step-requires : tie.Need-step-requires
 step-requires c κs =

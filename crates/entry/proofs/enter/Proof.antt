@@ -15,12 +15,13 @@ returns : tie.Need-returns
 returns c =
     let b = c .before in
     let q = b .before .before .before .before .before .pre in
-    stayed (q .0) (q .1 .0) (q .1 .1) (sym (b .is-busy .ensures) ∙ not-true _ (c .if1 .taken))
+    let x = stayed (q .0 .0) (q .1 .0) (q .1 .1) (sym (b .is-busy .ensures) ∙ not-true _ (c .if1 .taken)) in
+    (x .0, (x .1, q .0 .1))
 
 top-requires : tie.Need-top-requires
 top-requires c κs =
     let q = c .before .before .before .before .before .before .before .before .pre in
-    has-frame (q .0) (q .1 .0) (q .1 .1)
+    has-frame (q .0 .0) (q .1 .0) (q .1 .1)
 
 enum-known-job : tie.Need-enum-known-job
 enum-known-job c = search needs
@@ -61,7 +62,7 @@ exit-requires c κs =
     let i = o .before .before .before in
     let b = i .before in
     let q = b .before .before .before .before .before .pre in
-    exit-asks (q .0) (q .1 .0) (q .1 .1) (sym (b .is-busy .ensures) ∙ not-false _ (i .if1 .left)) (rw (m .exit .given .1) at (o .top .ensures))
+    exit-asks (q .0 .0) (q .1 .0) (q .1 .1) (sym (b .is-busy .ensures) ∙ not-false _ (i .if1 .left)) (rw (m .exit .given .1) at (o .top .ensures))
 
 enum-told : tie.Need-enum-told
 enum-told c = search needs
@@ -89,7 +90,8 @@ returns-3 c =
     let i = o .before .before .before in
     let b = i .before in
     let q = b .before .before .before .before .before .pre in
-    exited (q .0) (q .1 .0) (q .1 .1) (sym (b .is-busy .ensures) ∙ not-false _ (i .if1 .left)) (rw (m .exit .given .1) at (o .top .ensures)) (x .exit2 .ensures) (c .take-out .ensures)
+    let x = exited (q .0 .0) (q .1 .0) (q .1 .1) (sym (b .is-busy .ensures) ∙ not-false _ (i .if1 .left)) (rw (m .exit .given .1) at (o .top .ensures)) (x .exit2 .ensures) (c .take-out .ensures) in
+    (x .0, (x .1, q .0 .1))
 
 same-length-3 : tie.Need-same-length-3
 same-length-3 c = search needs
@@ -101,7 +103,8 @@ returns-4 c =
     let i = o .before .before .before in
     let b = i .before in
     let q = b .before .before .before .before .before .pre in
-    slept (q .0) (q .1 .0) (q .1 .1) (sym (b .is-busy .ensures) ∙ not-false _ (i .if1 .left)) (rw (m .enum-told .given .1) at (o .top .ensures)) (c .sleep-unit .ensures)
+    let x = slept (q .0 .0) (q .1 .0) (q .1 .1) (sym (b .is-busy .ensures) ∙ not-false _ (i .if1 .left)) (rw (m .enum-told .given .1) at (o .top .ensures)) (c .sleep-unit .ensures) in
+    (x .0, (x .1, q .0 .1))
 
 same-length-4 : tie.Need-same-length-4
 same-length-4 c = search needs
@@ -112,7 +115,8 @@ returns-5 c =
     let i = o .before .before .before in
     let b = i .before in
     let q = b .before .before .before .before .before .pre in
-    finished (q .0) (q .1 .0) (q .1 .1) (sym (b .is-busy .ensures) ∙ not-false _ (i .if1 .left)) (rw (c .enum-told2 .given .1) at (o .top .ensures))
+    let x = finished (q .0 .0) (q .1 .0) (q .1 .1) (sym (b .is-busy .ensures) ∙ not-false _ (i .if1 .left)) (rw (c .enum-told2 .given .1) at (o .top .ensures)) in
+    (x .0, (x .1, q .0 .1))
 
 pub enter-spec : {M : Type 1} → statement M
 enter-spec =

@@ -15,10 +15,10 @@ rewrite-requires c κs =
     let q = a .before .before .before .before .before .pre in
     let e = a .offset .ensures .0 in
     let t = q .1 .0 in (
-      whole-present (q .0) (t .0) (t .1) (t .2) (q .1 .1) refl e (t .3),
-      q .0 .scratch-long,
-      units-due (q .0) (t .0) (t .1) (t .2) (q .1 .1) refl e (t .3),
-      whole-operator (q .0) (t .0) (t .1) (t .2) (q .1 .1) refl e (t .3),
+      whole-present (q .0 .0) (t .0) (t .1) (t .2) (q .1 .1) refl e (t .3),
+      q .0 .1,
+      units-due (q .0 .0) (t .0) (t .1) (t .2) (q .1 .1) refl e (t .3),
+      whole-operator (q .0 .0) (t .0) (t .1) (t .2) (q .1 .1) refl e (t .3),
     )
 
 enum-told : tie.Need-enum-told
@@ -32,7 +32,7 @@ proceed-requires c κs =
     let q = a .before .before .before .before .before .pre in
     let e = a .offset .ensures .0 in
     let t = q .1 .0 in
-    rw (t .3) (proceed-asks (q .0) (t .0) (t .1) (t .2) (q .1 .1) refl e (t .3) (rw (m .enum-told .given .1) at (w .rewrite .ensures) .0))
+    rw (t .3) (proceed-asks (q .0 .0) (t .0) (t .1) (t .2) (q .1 .1) refl e (t .3) (rw (m .enum-told .given .1) at (w .rewrite .ensures) .0))
 
 mark-last-requires : tie.Need-mark-last-requires
 mark-last-requires c κs =
@@ -42,7 +42,7 @@ mark-last-requires c κs =
     let q = a .before .before .before .before .before .pre in
     let e = a .offset .ensures .0 in
     let t = q .1 .0 in
-    rw (t .3) (mark-asks (q .0) (t .0) (t .1) (t .2) (q .1 .1) refl e (t .3) (rw (m .enum-told .given .1) at (w .rewrite .ensures) .0))
+    rw (t .3) (mark-asks (q .0 .0) (t .0) (t .1) (t .2) (q .1 .1) refl e (t .3) (rw (m .enum-told .given .1) at (w .rewrite .ensures) .0))
 
 enum-told-2 : tie.Need-enum-told-2
 enum-told-2 c = search needs
@@ -54,7 +54,7 @@ rewritten-requires c κs =
     let q = a .before .before .before .before .before .pre in
     let e = a .offset .ensures .0 in
     let t = q .1 .0 in
-    let h = rewrites-left (q .0) (t .0) (t .1) (t .2) (q .1 .1) refl e (t .3) (rw (c .enum-told2 .given .1) at (w .rewrite .ensures) .0) in
+    let h = rewrites-left (q .0 .0) (t .0) (t .1) (t .2) (q .1 .1) refl e (t .3) (rw (c .enum-told2 .given .1) at (w .rewrite .ensures) .0) in
     omega (arith, h, t .1 .small)
 
 enum-told-3 : tie.Need-enum-told-3
@@ -76,7 +76,8 @@ returns c =
     let e = a .offset .ensures .0 in
     let t = q .1 .0 in
     let d = rw (m .enum-told .given .1) at (w .rewrite .ensures) in
-    whole-missed (q .0) (t .0) (t .1) (t .2) (q .1 .1) refl e (t .3) (d .0) _ (d .1) (rw (t .3) at (g .proceed .ensures)) (rw (t .3) at (c .mark-last .ensures))
+    let x = whole-missed (q .0 .0) (t .0) (t .1) (t .2) (q .1 .1) refl e (t .3) (d .0) (rw (t .3) at (g .proceed .ensures)) (rw (t .3) at (c .mark-last .ensures)) in
+    (x .0, (x .1, d .1))
 
 same-length-2 : tie.Need-same-length-2
 same-length-2 c = search needs
@@ -90,7 +91,8 @@ returns-2 c =
     let e = a .offset .ensures .0 in
     let t = q .1 .0 in
     let d = rw (m .enum-told2 .given .1) at (w .rewrite .ensures) in
-    whole-rewrote (q .0) (t .0) (t .1) (t .2) (q .1 .1) refl e (t .3) (d .0) _ (d .1) _ (c .rewritten .ensures)
+    let x = whole-rewrote (q .0 .0) (t .0) (t .1) (t .2) (q .1 .1) refl e (t .3) (d .0) _ (c .rewritten .ensures) in
+    (x .0, (x .1, d .1))
 
 same-length-3 : tie.Need-same-length-3
 same-length-3 c = search needs
@@ -103,7 +105,8 @@ returns-3 c =
     let e = a .offset .ensures .0 in
     let t = q .1 .0 in
     let d = rw (c .enum-told3 .given .1) at (w .rewrite .ensures) in
-    whole-spent (q .0) (t .0) (t .1) (t .2) (q .1 .1) refl e (t .3) _ (d .1) (d .0)
+    let x = whole-spent (q .0 .0) (t .0) (t .1) (t .2) (q .1 .1) refl e (t .3) (d .0) in
+    (x .0, (x .1, d .1))
 
 same-length-4 : tie.Need-same-length-4
 same-length-4 c = search needs
@@ -116,7 +119,8 @@ returns-4 c =
     let e = a .offset .ensures .0 in
     let t = q .1 .0 in
     let d = rw (c .enum-told4 .given .1) at (w .rewrite .ensures) in
-    whole-full (q .0) (t .0) (t .1) (t .2) (q .1 .1) refl e (t .3) _ (d .1) (d .0)
+    let x = whole-full (q .0 .0) (t .0) (t .1) (t .2) (q .1 .1) refl e (t .3) (d .0) in
+    (x .0, (x .1, d .1))
 
 pub rewrite-spec : {M : Type 1} → statement M
 rewrite-spec =

@@ -15,7 +15,7 @@ step-at-requires : tie.Need-step-at-requires
 step-at-requires c κs =
     let q = c .before .before .before .before .before .pre in
     let t = q .1 .0 in
-    omega (arith, next-most (q .0) (t .0) (t .1) (t .2))
+    omega (arith, next-most (q .0 .0) (t .0) (t .1) (t .2))
 
 enum-known-i : tie.Need-enum-known-i
 enum-known-i c = search needs
@@ -27,7 +27,7 @@ visit-argument-requires c κs =
     let q = k .before .before .before .before .before .before .pre in
     let t = q .1 .0 in
     let e = rw (m .i .given .1, t .3) at (k .step-at .ensures) in
-    (visit-place (q .0) (t .0) (t .1) (t .2) (q .1 .1) e, visit-argument-asks (q .0) (t .0) (t .1) (t .2) (q .1 .1) e)
+    (visit-place (q .0 .0) (t .0) (t .1) (t .2) (q .1 .1) e, visit-argument-asks (q .0 .0) (t .0) (t .1) (t .2) (q .1 .1) e)
 
 enum-known-i-2 : tie.Need-enum-known-i-2
 enum-known-i-2 c = search needs
@@ -39,7 +39,7 @@ argument-requires c κs =
     let q = k .before .before .before .before .before .before .pre in
     let t = q .1 .0 in
     let e = rw (m .i2 .given .1, t .3) at (k .step-at .ensures) in
-    argument-asks (fork-place (q .0) (t .0) (t .1) (t .2) (q .1 .1) e .place)
+    argument-asks (fork-place (q .0 .0) (t .0) (t .1) (t .2) (q .1 .1) e .place)
 
 fork-requires : tie.Need-fork-requires
 fork-requires c κs =
@@ -49,7 +49,7 @@ fork-requires c κs =
     let q = k .before .before .before .before .before .before .pre in
     let t = q .1 .0 in
     let e = rw (m .i2 .given .1, t .3) at (k .step-at .ensures) in
-    fork-asks (q .0) (t .0) (t .1) (t .2) (q .1 .1) e (b .argument .ensures .0) (b .argument .ensures .1)
+    fork-asks (q .0 .0) (t .0) (t .1) (t .2) (q .1 .1) e (b .argument .ensures .0) (b .argument .ensures .1)
 
 forked-requires : tie.Need-forked-requires
 forked-requires c κs =
@@ -60,7 +60,7 @@ forked-requires c κs =
     let q = k .before .before .before .before .before .before .pre in
     let t = q .1 .0 in
     let e = rw (m .i2 .given .1, t .3) at (k .step-at .ensures) in
-    (search needs, fork-places (q .0) (t .0) (t .1) (t .2) (q .1 .1) e (v .fork .result) (v .fork .ensures))
+    (search needs, fork-places (q .0 .0) (t .0) (t .1) (t .2) (q .1 .1) e (v .fork .result) (v .fork .ensures))
 
 enum-told : tie.Need-enum-told
 enum-told c = search needs
@@ -70,7 +70,7 @@ join-requires c κs =
     let k = c .before .before .before .before in
     let q = k .before .before .before .before .before .before .pre in
     let t = q .1 .0 in
-    rw (t .3) (rowed (q .0) (t .0) (t .1) (t .2), can-proceed (q .0) (t .0) (t .1) (t .2), q .0 .few)
+    rw (t .3) (rowed (q .0 .0) (t .0) (t .1) (t .2), can-proceed (q .0 .0) (t .0) (t .1) (t .2), q .0 .0 .few)
 
 rewrite-requires : tie.Need-rewrite-requires
 rewrite-requires c κs =
@@ -79,7 +79,7 @@ rewrite-requires c κs =
     let q = k .before .before .before .before .before .before .pre in
     let t = q .1 .0 in
     let e = rw (t .3) at (k .step-at .ensures) in
-    (q .0, (t, record { one = q .1 .1; is = whole-there (q .0) (t .0) (t .1) (t .2) (q .1 .1) (k .step-at .result) e (m .match .keys4) }))
+    (q .0, (t, record { one = q .1 .1; is = whole-there (q .0 .0) (t .0) (t .1) (t .2) (q .1 .1) (k .step-at .result) e (m .match .keys4) }))
 
 same-length : tie.Need-same-length
 same-length c = search needs
@@ -92,7 +92,8 @@ returns c =
     let q = k .before .before .before .before .before .before .pre in
     let t = q .1 .0 in
     let e = rw (m .i .given .1, t .3) at (k .step-at .ensures) in
-    visited-argument (q .0) (t .0) (t .1) (t .2) (q .1 .1) e (v .visit-argument .ensures)
+    let x = visited-argument (q .0 .0) (t .0) (t .1) (t .2) (q .1 .1) e (v .visit-argument .ensures) in
+    (x .0, (x .1, q .0 .1))
 
 same-length-2 : tie.Need-same-length-2
 same-length-2 c = search needs
@@ -106,7 +107,8 @@ returns-2 c =
     let q = k .before .before .before .before .before .before .pre in
     let t = q .1 .0 in
     let e = rw (m .i2 .given .1, t .3) at (k .step-at .ensures) in
-    fork-entered (q .0) (t .0) (t .1) (t .2) (q .1 .1) e (b .argument .ensures .0) (v .fork .ensures) _ (c .forked .ensures)
+    let x = fork-entered (q .0 .0) (t .0) (t .1) (t .2) (q .1 .1) e (b .argument .ensures .0) (v .fork .ensures) _ (c .forked .ensures) in
+    (x .0, (x .1, q .0 .1))
 
 same-length-3 : tie.Need-same-length-3
 same-length-3 c = search needs
@@ -118,8 +120,8 @@ returns-3 c =
     let k = m .before .before in
     let q = k .before .before .before .before .before .before .pre in
     let t = q .1 .0 in
-    joined (q .0) (t .0) (t .1) (t .2) (q .1 .1) (rw (m .enum-told .given .1, t .3) at (k .step-at .ensures))
-    (rw (t .3) at (v .join .ensures))
+    let x = joined (q .0 .0) (t .0) (t .1) (t .2) (q .1 .1) (rw (m .enum-told .given .1, t .3) at (k .step-at .ensures)) (rw (t .3) at (v .join .ensures)) in
+    (x .0, (x .1, q .0 .1))
 
 same-length-4 : tie.Need-same-length-4
 same-length-4 c = search needs

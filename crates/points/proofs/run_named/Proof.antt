@@ -23,7 +23,7 @@ abbrev looked : tie.After-build → tie.After-names-units
 looked b = b .before .before .before
 
 abbrev built : tie.After-post-into → tie.After-build
-built r = r .before .before .before .before .before .before .before .before .before
+built r = r .before .before .before .before .before .before .before .before
 
 abbrev ran : tie.After-keep → tie.After-post-into
 ran k = k .before .before .before .before .before .before .before .before
@@ -50,13 +50,13 @@ build-requires c κs =
 
 post-into-requires : tie.Need-post-into-requires
 post-into-requires c κs =
-    let b = c .before .before .before .before .before .before .before .before in
+    let b = c .before .before .before .before .before .before .before in
     let n = looked b in
     let s = entry n in
     let p = s .pre in
     let g = subst (λ (B : Book). Given B (now (s .args .line)) (s .args .length)) (sym (b .build .ensures .same-book)) (p .1 .0 .given) in
     let q = asked (frame-of (p .0 .faultless)) (sym (n .names-units .ensures) ∙ not-false _ (b .before .before .if1 .left)) (p .1 .1 .0 .0) in
-    (record { netted = b .build .ensures .of-book; short = p .0 .short }, (g, (q, record { symbols-long = refl; scratch-long = refl; cells-long = refl; order-long = refl })))
+    (record { netted = b .build .ensures .of-book; short = p .0 .short }, (g, (q, record { symbols-long = refl; cells-long = refl; order-long = refl })))
 
 keep-requires : tie.Need-keep-requires
 keep-requires c κs =
@@ -78,7 +78,7 @@ leave-requires c κs =
     (o .long, o .most, frame-of (entry (looked (built r)) .pre .0 .faultless) .output-long)
 
 same-length-2 : tie.Need-same-length-2
-same-length-2 c = let n = c .before .before .before in n .net2 .given ∙ n .before .before .before .before .before .before .before .before .before .before .before .before .before .before .before .before .before .before .before .before .before .before .before .before .before .before .net .given
+same-length-2 c = let n = c .before .before .before in n .net2 .given ∙ n .before .before .before .before .before .before .before .before .before .before .before .before .before .before .before .before .before .before .before .before .before .before .before .before .before .net .given
 
 returns-2 : tie.Need-returns-2
 returns-2 c =
