@@ -379,7 +379,7 @@ pub fn find(
     };
     match descend(book, net, symbols, offset, start, 256) {
         Descent::Lost => Hit::None,
-        Descent::Leaf(i) => { try_rules(book, operators, net, symbols, offset, i, 256, bound) }
+        Descent::Leaf(i) => try_rules(book, operators, net, symbols, offset, i, 256, bound),
         Descent::Choice(node) => search(book, operators, net, symbols, offset, node, stack, bound),
     }
 }
