@@ -1,11 +1,13 @@
-// Runs with a name: kurvneist_park against kurvneist_reduce, with an empty buffer of points and with eight full slots; and a run that is cut, and so saved. Prints a
-// line for each measurement and writes the same to a file of tab-separated fields, for bench/report.
+// Runs with a name: kurvneist_park against kurvneist_reduce, with an empty buffer of points and with eight full slots; beside that, what C takes to read the books of
+// eight such slots alone; and a run that is cut, and so saved. Prints a line for each measurement and writes the same to a file of tab-separated fields, for bench/report.
 #include "../library/include/kurvneist.h"
 #include "long_books.h"
+#include "reader.h"
 #include "spread.h"
 #include "workload.h"
 
-enum { ENTRIES = 1 << 20, SLOT = KURVNEIST_POINTS_LENGTH / KURVNEIST_MOST_NAMES };
+// PAYEE is the main workload of 200 symbols by 57 rules.
+enum { PAYEE = 3, ENTRIES = 1 << 20, SLOT = KURVNEIST_POINTS_LENGTH / KURVNEIST_MOST_NAMES };
 
 // How long a timing takes at least, and all timings of a row together, in nanoseconds.
 static double least_timing = 1e6, row_time = 1.5e9;
@@ -53,17 +55,12 @@ static void stop(const char *why) {
 
 // Making runs.
 
-// A payee line of exactly so many symbols, to its end.
-static void make_payee_run(workload *w, run *r, const char *title, size_t symbols) {
+// A workload's line, to its end.
+static void make_line_run(const workload *w, run *r) {
     static result to;
-    make_payee(w, symbols, 5);
-    while (w->length != symbols) {
-        w->length = 0;
-        append_payee(w, symbols);
-    }
-    *r = (run){.title = title, .book = &ready(w)->packed, .line = w->line, .length = w->length};
+    *r = (run){.title = w->title, .book = &w->packed, .line = w->line, .length = w->length};
     reduce(r, ENTRIES, &to);
-    if (!ends(&to, KURVNEIST_FINISHED)) stop("a payee line doesn't finish");
+    if (!ends(&to, KURVNEIST_FINISHED)) stop("a line doesn't finish");
     r->entries = to.answer[KURVNEIST_ENTRIES];
     r->rewrites = to.answer[KURVNEIST_REWRITES];
     r->middle = r->entries / 2;
@@ -117,10 +114,19 @@ static size_t fill(const run *r) {
 
 // Timing.
 
-// To the end without a name, with one beside no points, and beside eight; then in the middle without a name, and saved.
-enum { UNNAMED, EMPTY, FULL, CUT, SAVED, WAYS };
+// To the end without a name, with one beside no points, and beside eight; then in the middle without a name, and saved; and the eight books read by C.
+enum { UNNAMED, EMPTY, FULL, CUT, SAVED, CALLS, C_READS = CALLS, WAYS };
+
+static const packer *slot_book; // of the eight full slots
 
 static double times[WAYS][MOST_TURNS];
+
+// On the day 0 no rule of a dated book stands, so that none has to be found.
+static void c_reads(void) {
+    static tables t;
+    for (unsigned i = 0; i < KURVNEIST_MOST_NAMES; i++)
+        if (c_read_book(slot_book->bytes, packed_length(slot_book), 0, &t)) stop("C refuses a book");
+}
 
 static void call(int way, const run *r, result *to) {
     switch (way) {
@@ -128,6 +134,7 @@ static void call(int way, const run *r, result *to) {
     case EMPTY: park(r, r->entries, names, empty, to); break;
     case FULL: park(r, r->entries, names, full, to); break;
     case CUT: reduce(r, r->middle, to); break;
+    case C_READS: c_reads(); break;
     // Of a free slot nothing but the first byte is read.
     default: empty[0] = 0, park(r, r->middle, names, empty, to), empty[0] = 0;
     }
@@ -145,7 +152,7 @@ static void check(const run *r) {
     static uint8_t before[KURVNEIST_POINTS_LENGTH];
     static result expected, got;
     memcpy(before, full, sizeof full);
-    for (int way = UNNAMED; way < WAYS; way++) {
+    for (int way = UNNAMED; way < CALLS; way++) {
         result *to = way == UNNAMED || way == CUT ? &expected : &got;
         memset(to, 0xa5, sizeof *to);
         call(way, r, to);
@@ -169,38 +176,39 @@ static void print_spread(const char *what, spread s, double unit) { printf(", %s
 // One row: the run, beside eight points of another or of its own.
 static void row(const run *r, const run *slots) {
     size_t bytes = fill(slots);
+    slot_book = slots->book;
     check(r);
     int turns = time_in_turn(r);
     spread plain = spread_of(times[UNNAMED], turns), named = spread_of(times[EMPTY], turns), beside = spread_of(times[FULL], turns);
     spread by_plain = ratio_of(times[EMPTY], times[UNNAMED], turns), more = difference_of(times[FULL], times[UNNAMED], turns);
     spread cut = spread_of(times[CUT], turns), saved = spread_of(times[SAVED], turns), by_cut = ratio_of(times[SAVED], times[CUT], turns);
+    spread c = spread_of(times[C_READS], turns);
     printf("%s, %zu entries; slots: %s, %zu bytes each", r->title, r->entries, slots->title, bytes);
     printf(": without a name %.2f us, with one %.2f, beside eight %.2f", plain.median / 1e3, named.median / 1e3, beside.median / 1e3);
     print_spread("with / without (goal 2)", by_plain, 1), print_spread("eight slots, us more (goal 300)", more, 1e3);
+    printf("; C reads eight such books in %.2f us", c.median / 1e3);
     printf("; cut %.2f us, saved %.2f", cut.median / 1e3, saved.median / 1e3), print_spread("saved / cut (goal 2)", by_cut, 1);
     printf(" (%d turns)\n", turns);
     fflush(stdout);
     fprintf(fields, "points\t%s\t%s\t%zu\t%zu\t%zu\t%.0f\t%d", r->title, slots->title, r->length, bytes, r->entries, (double)r->rewrites, turns);
-    const spread all_of_row[] = {plain, named, by_plain, beside, more, cut, saved, by_cut};
+    const spread all_of_row[] = {plain, named, by_plain, beside, more, cut, saved, by_cut, c};
     for (size_t i = 0; i < sizeof all_of_row / sizeof *all_of_row; i++) put_spread(fields, all_of_row[i]);
     fprintf(fields, "\n");
 }
 
 // bench_points FILE [quick] writes the fields to FILE.
 int main(int argc, char **argv) {
-    static workload two_hundred, thousand;
-    static run runs[2], deep[BOOKS];
+    static workload lines[MAIN_WORKLOADS];
+    static run runs[MAIN_WORKLOADS], deep[BOOKS];
     if (argc < 2 || !(fields = fopen(argv[1], "w"))) return 2;
     if (argc == 3) least_timing = 2e5, row_time = 1e8;
     make_books();
-    make_payee_run(&two_hundred, &runs[0], "payee line of 200 symbols", 200);
-    make_payee_run(&thousand, &runs[1], "payee line of 1,000 symbols", 1000);
+    make_workloads(lines);
+    for (int i = 0; i < MAIN_WORKLOADS; i++) make_line_run(&lines[i], &runs[i]);
     make_deep_run(&deep[UNDATED], "largest undated book", UNDATED, 1, 1, 0);
     make_deep_run(&deep[EARLY], "largest dated book", EARLY, 1, 1, 0);
-    make_deep_run(&deep[LATE], "dated book that is slowest to read", LATE, 0, 7, 2);
-    row(&runs[0], &runs[0]);
-    row(&runs[1], &runs[1]);
-    for (int i = 0; i < 2; i++)
-        for (int book = UNDATED; book < BOOKS; book++) row(&runs[i], &deep[book]);
+    make_deep_run(&deep[LATE], "dated book whose left sides differ last", LATE, 0, 7, 2);
+    for (int i = 0; i < MAIN_WORKLOADS; i++) row(&runs[i], &runs[i]);
+    for (int book = UNDATED; book < BOOKS; book++) row(&runs[PAYEE], &deep[book]);
     return fclose(fields) != 0;
 }
