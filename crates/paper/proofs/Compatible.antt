@@ -77,6 +77,7 @@ unfolding once
 once_join x xs n e = elim (has_cases x xs) [ inl p ↦ absurd (n p.1) | inr p ↦ rw (p.0, once) e ]
 
 pub in_front : {A : Type 0} (x : A) (xs ys : List A) → In x xs → In x (xs ++ ys)
+in_front x [] ys i = elim i [ ]
 in_front x (z ∷ xs) ys (inl e) = inl e
 in_front x (z ∷ xs) ys (inr i) = inr (in_front x xs ys i)
 

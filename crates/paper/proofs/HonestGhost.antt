@@ -65,6 +65,7 @@ module _ (B : Book) where
   -- a part that has been begun and has nothing left to do is a normal form
   still_normal : {d : Ghost} → Started d → Still d → HonestGhost B d → Normal B (plain (erase d))
   unfolding erase
+  still_normal st_todo h r = elim h [ ]
   still_normal st_work (s_work h) r = r.1.1
 
   started_normal : {i : ℕ} {ks : Ghosts} → StartedAt i ks → Stills ks → HonestGhosts B ks → (d : Term) →
@@ -171,6 +172,10 @@ module _ (B : Book) (g : Marked → Ghost) (m : Holder) where
 
     begin_others : (i j : ℕ) (ks : Ghosts) → StartedAt j ks → StartedAt j (begin g m i ks)
     unfolding begin
+    begin_others zero zero gnil h = elim h [ ]
+    begin_others zero (suc j) gnil h = elim h [ ]
+    begin_others (suc i) zero gnil h = elim h [ ]
+    begin_others (suc i) (suc j) gnil h = elim h [ ]
     begin_others zero zero (gcons m' d ks) (st_here h) = st_here (b _)
     begin_others zero (suc j) (gcons m' d ks) (st_there h) = st_there h
     begin_others (suc i) zero (gcons m' d ks) (st_here h) = st_here h
@@ -236,6 +241,10 @@ module _ (B : Book) where
 -- A PART COMES HOME
 home_started : (r i : ℕ) (ks : Ghosts) → StartedAt i ks → StartedAt i (home r ks)
 unfolding home
+home_started zero zero gnil h = elim h [ ]
+home_started zero (suc i) gnil h = elim h [ ]
+home_started (suc r) zero gnil h = elim h [ ]
+home_started (suc r) (suc i) gnil h = elim h [ ]
 home_started zero zero (gcons m d ks) (st_here h) = st_here h
 home_started zero (suc i) (gcons m d ks) (st_there h) = st_there h
 home_started (suc r) zero (gcons m d ks) (st_here h) = st_here h

@@ -118,6 +118,7 @@ in_last v [] = inl refl
 in_last v (w ∷ vs) = inr (in_last v vs)
 
 in_front : (v : ℕ) (vs ws : List ℕ) → In v vs → In v (vs ++ ws)
+in_front v [] ws m = elim m [ ]
 in_front v (w ∷ vs) ws (inl e) = inl e
 in_front v (w ∷ vs) ws (inr m) = inr (in_front v vs ws m)
 

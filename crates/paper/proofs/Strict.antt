@@ -39,6 +39,7 @@ place_in x (y ∷ xs) zero e = inl (some-injective _ _ (sym e))
 place_in x (y ∷ xs) (suc i) e = inr (place_in x xs i e)
 
 in_place : {A : Type 0} (x : A) (xs : List A) → In x xs → (i : ℕ) × (get_elem? xs i ≡ some x)
+in_place x [] m = elim m [ ]
 in_place x (y ∷ xs) (inl e) = (0, ap some (sym e))
 in_place x (y ∷ xs) (inr m) = let (i, e) = in_place x xs m in (suc i, e)
 
