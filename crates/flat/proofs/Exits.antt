@@ -198,7 +198,9 @@ guest_alone C o j ks ss l' r w g =
 -- the block of a part that is done
 first_exit : (X : Ghost) → Ready X → (p : Position) (ys : List Order) (q : Position) (n : ℕ) (zs : List Order) → list p X ++ ys ≡ Order.exit q n ∷ zs → ⊥
 unfolding list orders
+first_exit (rest _) x p ys q n zs e = elim x [ ]
 first_exit (todo t) r_todo p ys q n zs e = let z : ◌≡◌ {A = ℕ} 0 1 = cc in omega arith
+first_exit (work o j ks []) x p ys q n zs e = elim x [ ]
 first_exit (work o j ks (s ∷ ss)) (r_work f) p ys q n zs e =
     go s (subst (λ (z : List Order). (z ++ orders j p (s ∷ ss)) ++ ys ≡ Order.exit q n ∷ zs) (f p 0) e)
   where

@@ -138,7 +138,7 @@ module _ (ar : ℕ → ℕ) where
   spells_split [] zero n e = (refl, rw zero-add at e)
   spells_split [] (suc m) n e = absurd (true≢false (sym (rw suc-add at e)))
   spells_split (x ∷ xs) zero n e = (refl, rw zero-add at e)
-  spells_split (x ∷ xs) (suc m) n e = spells_split xs (ar x + m) n (rw (suc-add, ← add_assoc) at e)
+  spells_split (x ∷ xs) (suc m) n e = spells_split xs (ar x + m) n (rw (suc-add, spells, ← add_assoc) at e)
 
   -- what stands from a symbol on is its term and some more
   pub spells_drop : (xs : List ℕ) (n i : ℕ) → spells ar n xs ≡ true → i < length xs → (m : ℕ) × (spells ar (suc m) (drop i xs) ≡ true)
@@ -292,7 +292,7 @@ unfolding spells
 spells_same f g zero [] h = refl
 spells_same f g (suc n) [] h = refl
 spells_same f g zero (x ∷ xs) h = refl
-spells_same f g (suc n) (x ∷ xs) h = rw h.0 (spells_same f g (g x + n) xs h.1)
+spells_same f g (suc n) (x ∷ xs) h = rw (h.0, spells) (spells_same f g (g x + n) xs h.1)
 
 -- TREES
 
