@@ -1,5 +1,7 @@
 // Packed fields: n bits at a bit position of some bytes, most significant bit first (document 01, 'The book, bit by bit').
 // A field of up to 16 bits stands in three bytes at most; they are read and written as one number of 24 bits, the window.
+#![tactic(auto)]
+
 ghost use Rattle.std.specs.Prelude.{◌≡◌, ◌+◌, ◌-◌, ◌*◌, ◌/◌, ◌%◌, ◌^◌, ◌<◌, ◌≤◌, length, get_or, set};
 ghost use Rattle.bits.specs.Field.{Answers, Pair, Nine, Written};
 ghost use Rattle.bits.specs.Window.{Window, renewed, set3};

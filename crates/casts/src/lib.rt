@@ -1,4 +1,6 @@
 // Casts between widths, said once: each says the value and its range, so that a caller's sums and indices are bounded without a proof.
+#![tactic(auto)]
+
 ghost use Rattle.std.specs.Prelude.{◌≡◌, ◌<◌, ◌^◌};
 
 // A byte as an index.

@@ -145,9 +145,9 @@ pub fn post(
     requires given { C.Given (book_by book.now net.now) line.now n }
     requires asked { C.Asked limits schedule.now (length work.old) }
     requires symbols_len { (length symbols.old ≡ 1024) × (length scratch.old ≡ 1024) }
-    ensures posted { C.Posted (book_by book.now net.now) (take n line.now) limits schedule.now
+    ensures { C.Posted (book_by book.now net.now) (take n line.now) limits schedule.now
         symbols.new result }
-    ensures scratch_len { length scratch.new ≡ 1024 }
+    ensures { length scratch.new ≡ 1024 }
 {
     let mut cells = [0u32; 8];
     let mut order = [0u16; 1024];
@@ -172,13 +172,11 @@ pub fn resume(
     cells: &mut [u32; 8],
     order: &mut [u16; 1024],
 ) -> Run
-    ghost s: { FlatState }
-    requires limits_value { E.state symbols.old work.old cells.old order.old (begun rewrites) limits ≡ s }
     requires arrays { E.Arrays symbols.old scratch.old work.old cells.old order.old limits }
     requires opened { C.Opened book.now operators.now net.now }
-    requires point_rules { PointRules (book_by book.now net.now) (E.limited limits.budget) s }
+    requires point_rules { let s : FlatState = E.state symbols.old work.old cells.old order.old (begun rewrites) limits in PointRules (book_by book.now net.now) (E.limited limits.budget) s }
     requires asked { C.Asked limits schedule.now (length work.old) }
-    ensures { Ran book.now net.now limits schedule.now s
+    ensures { let s : FlatState = E.state symbols.old work.old cells.old order.old (begun rewrites) limits in Ran book.now net.now limits schedule.now s
         symbols.new scratch.new work.new cells.new order.new result }
 {
     run::run_schedule(

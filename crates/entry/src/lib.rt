@@ -83,10 +83,8 @@ fn visit(
     units: &mut [u32; 8],
     task: Task,
 )
-    ghost s: { Store }
-    requires units_value { store work.old units.old ≡ s }
-    requires rowed { Rowed operators.now task.operator × HasFrame s task.unit 0 × (task.job.offset < length_in symbols.old) × (length_in symbols.old ≤ 1024) × (task.operator ≡ operator (get_or symbols.old task.job.offset 0)) }
-    ensures { E.Visited operators.now task.job.offset task.unit symbols.old symbols.new s (store work.new units.new) }
+    requires { let s : Store = store work.old units.old in Rowed operators.now task.operator × HasFrame s task.unit 0 × (task.job.offset < length_in symbols.old) × (length_in symbols.old ≤ 1024) × (task.operator ≡ operator (get_or symbols.old task.job.offset 0)) }
+    ensures { let s : Store = store work.old units.old in E.Visited operators.now task.job.offset task.unit symbols.old symbols.new s (store work.new units.new) }
 {
     let job = task.job;
     let a = casts::offset(job.offset);
@@ -108,10 +106,8 @@ fn visit_argument(
     job: Job,
     i: u8,
 )
-    ghost s: { Store }
-    requires units_value { store work.old units.old ≡ s }
-    requires argument_rowed { O.ArgumentRowed operators.now symbols.old job i × O.CanVisit job (E.visit_of operators.now symbols.old job i) u s }
-    ensures { E.ArgumentVisited operators.now job i u symbols.old symbols.new s (store work.new units.new) }
+    requires { let s : Store = store work.old units.old in O.ArgumentRowed operators.now symbols.old job i × O.CanVisit job (E.visit_of operators.now symbols.old job i) u s }
+    ensures { let s : Store = store work.old units.old in E.ArgumentVisited operators.now job i u symbols.old symbols.new s (store work.new units.new) }
 {
     let b = orders::argument(symbols, job, i);
     let at = casts::offset(b);
@@ -138,12 +134,10 @@ fn rewrite(
     p: Progress,
     l: Limits,
 ) -> Entry
-    ghost s: { FlatState }
-    requires l_value { S.state symbols.old work.old units.old order.now p l ≡ s }
     requires arrays { S.Arrays symbols.old scratch.old work.old units.old order.now l }
-    requires running { E.Running book.now operators.now net.now l s × E.Turn l task.unit s × E.Working work.old units.old task.unit task.job × (task.operator ≡ operator (get_or symbols.old task.job.offset 0)) }
+    requires running { let s : FlatState = S.state symbols.old work.old units.old order.now p l in E.Running book.now operators.now net.now l s × E.Turn l task.unit s × E.Working work.old units.old task.unit task.job × (task.operator ≡ operator (get_or symbols.old task.job.offset 0)) }
     requires next { E.Next operators.now symbols.old task.job P.Step.whole }
-    ensures l_after { E.outcome result (S.state symbols.new work.new units.new order.now (E.after p result) l) ≡ E.entered book.now net.now l task.unit s }
+    ensures l_after { let s : FlatState = S.state symbols.old work.old units.old order.now p l in E.outcome result (S.state symbols.new work.new units.new order.now (E.after p result) l) ≡ E.entered book.now net.now l task.unit s }
     ensures arrays_2 { S.Arrays symbols.new scratch.new work.new units.new order.now l }
 {
     let u = task.unit;
@@ -183,12 +177,10 @@ fn step(
     p: Progress,
     l: Limits,
 ) -> Entry
-    ghost s: { FlatState }
-    requires l_value { S.state symbols.old work.old units.old order.old p l ≡ s }
     requires arrays { S.Arrays symbols.old scratch.old work.old units.old order.old l }
-    requires running { E.Running book.now operators.now net.now l s × E.Turn l task.unit s × E.Working work.old units.old task.unit task.job × (task.operator ≡ operator (get_or symbols.old task.job.offset 0)) }
+    requires running { let s : FlatState = S.state symbols.old work.old units.old order.old p l in E.Running book.now operators.now net.now l s × E.Turn l task.unit s × E.Working work.old units.old task.unit task.job × (task.operator ≡ operator (get_or symbols.old task.job.offset 0)) }
     requires le_next { 1 ≤ task.job.next }
-    ensures l_after { E.outcome result (S.state symbols.new work.new units.new order.new (E.after p result) l) ≡ E.entered book.now net.now l task.unit s }
+    ensures l_after { let s : FlatState = S.state symbols.old work.old units.old order.old p l in E.outcome result (S.state symbols.new work.new units.new order.new (E.after p result) l) ≡ E.entered book.now net.now l task.unit s }
     ensures arrays_2 { S.Arrays symbols.new scratch.new work.new units.new order.new l }
 {
     let u = task.unit;
@@ -229,11 +221,9 @@ fn carry_out(
     p: Progress,
     l: Limits,
 ) -> Entry
-    ghost s: { FlatState }
-    requires l_value { S.state symbols.old work.old units.old order.old p l ≡ s }
     requires arrays { S.Arrays symbols.old scratch.old work.old units.old order.old l }
-    requires running { E.Running book.now operators.now net.now l s × E.Turn l task.unit s × E.Working work.old units.old task.unit task.job × (task.operator ≡ operator (get_or symbols.old task.job.offset 0)) }
-    ensures l_after { E.outcome result (S.state symbols.new work.new units.new order.new (E.after p result) l) ≡ E.entered book.now net.now l task.unit s }
+    requires running { let s : FlatState = S.state symbols.old work.old units.old order.old p l in E.Running book.now operators.now net.now l s × E.Turn l task.unit s × E.Working work.old units.old task.unit task.job × (task.operator ≡ operator (get_or symbols.old task.job.offset 0)) }
+    ensures l_after { let s : FlatState = S.state symbols.old work.old units.old order.old p l in E.outcome result (S.state symbols.new work.new units.new order.new (E.after p result) l) ≡ E.entered book.now net.now l task.unit s }
     ensures arrays_2 { S.Arrays symbols.new scratch.new work.new units.new order.new l }
 {
     if task.job.next == 0 {
@@ -259,11 +249,9 @@ pub fn enter(
     p: Progress,
     l: Limits,
 ) -> Entry
-    ghost s: { FlatState }
-    requires l_value { S.state symbols.old work.old units.old order.old p l ≡ s }
     requires arrays { S.Arrays symbols.old scratch.old work.old units.old order.old l }
-    requires running { E.Running book.now operators.now net.now l s × E.Turn l u s }
-    ensures l_after { E.outcome result (S.state symbols.new work.new units.new order.new (E.after p result) l) ≡ E.entered book.now net.now l u s }
+    requires running { let s : FlatState = S.state symbols.old work.old units.old order.old p l in E.Running book.now operators.now net.now l s × E.Turn l u s }
+    ensures l_after { let s : FlatState = S.state symbols.old work.old units.old order.old p l in E.outcome result (S.state symbols.new work.new units.new order.new (E.after p result) l) ≡ E.entered book.now net.now l u s }
     ensures arrays_2 { S.Arrays symbols.new scratch.new work.new units.new order.new l }
 {
     if !units::is_busy(units, u) {

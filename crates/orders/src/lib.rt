@@ -47,10 +47,8 @@ fn next_count(operators: &[u8; 4352], o: u8, k: u8) -> u8
 
 // The job's next order is done, and there is one behind, as behind every order but WHOLE: it goes on with that.
 pub fn advance(work: &mut [u8], units: &[u32; 8], u: usize, job: Job)
-    ghost s: { K.Store }
-    requires units_value { K.store work.old units.now ≡ s }
-    requires can_proceed { O.CanProceed job u s }
-    ensures { O.Advanced job u s (K.store work.new s.cells) }
+    requires { let s : K.Store = K.store work.old units.now in O.CanProceed job u s }
+    ensures { let s : K.Store = K.store work.old units.now in O.Advanced job u s (K.store work.new s.cells) }
 {
     units::set_top(
         work,
@@ -73,10 +71,8 @@ pub fn proceed(
     o: u8,
     job: Job,
 )
-    ghost s: { K.Store }
-    requires units_value { K.store work.old units.old ≡ s }
-    requires rowed { L.Rowed operators.now o × O.CanProceed job u s }
-    ensures { O.Proceeded (L.steps_in operators.now o) job u s (K.store work.new units.new) }
+    requires { let s : K.Store = K.store work.old units.old in L.Rowed operators.now o × O.CanProceed job u s }
+    ensures { let s : K.Store = K.store work.old units.old in O.Proceeded (L.steps_in operators.now o) job u s (K.store work.new units.new) }
 {
     if has_step(operators, o, job.next) {
         advance(work, units, u, job);
@@ -87,10 +83,8 @@ pub fn proceed(
 
 // The orders of the term at offset a, of operator o, are put on top of unit u's stack.
 fn enter(operators: &[u8; 4352], work: &mut [u8], units: &mut [u32; 8], u: usize, o: u8, a: u16)
-    ghost s: { K.Store }
-    requires units_value { K.store work.old units.old ≡ s }
-    requires rowed { L.Rowed operators.now o × O.CanEnter (L.steps_in operators.now o) a u s }
-    ensures { O.Entered (L.steps_in operators.now o) a u s (K.store work.new units.new) }
+    requires { let s : K.Store = K.store work.old units.old in L.Rowed operators.now o × O.CanEnter (L.steps_in operators.now o) a u s }
+    ensures { let s : K.Store = K.store work.old units.old in O.Entered (L.steps_in operators.now o) a u s (K.store work.new units.new) }
 {
     if has_step(operators, o, 0) {
         let c = next_count(operators, o, 0);
@@ -109,10 +103,8 @@ fn enter(operators: &[u8; 4352], work: &mut [u8], units: &mut [u32; 8], u: usize
 
 // VISIT of the term at offset a, of operator o, whose job is on top of unit u's stack.
 pub fn visit(operators: &[u8; 4352], work: &mut [u8], units: &mut [u32; 8], u: usize, o: u8, a: u16)
-    ghost s: { K.Store }
-    requires units_value { K.store work.old units.old ≡ s }
-    requires rowed { L.Rowed operators.now o × U.HasFrame s u 0 × (a < 1024) }
-    ensures { O.Visited (L.steps_in operators.now o) a u s (K.store work.new units.new) }
+    requires { let s : K.Store = K.store work.old units.old in L.Rowed operators.now o × U.HasFrame s u 0 × (a < 1024) }
+    ensures { let s : K.Store = K.store work.old units.old in O.Visited (L.steps_in operators.now o) a u s (K.store work.new units.new) }
 {
     let c = next_count(operators, o, 0);
     proceed(
@@ -147,10 +139,8 @@ pub fn visit_argument(
     b: u16,
     p: u8,
 )
-    ghost s: { K.Store }
-    requires units_value { K.store work.old units.old ≡ s }
-    requires rowed { L.Rowed operators.now p × (b < 1024) × O.CanVisit job (O.argument_at operators.now b p) u s }
-    ensures { O.ArgumentVisited job (O.argument_at operators.now b p) u s (K.store work.new units.new) }
+    requires { let s : K.Store = K.store work.old units.old in L.Rowed operators.now p × (b < 1024) × O.CanVisit job (O.argument_at operators.now b p) u s }
+    ensures { let s : K.Store = K.store work.old units.old in O.ArgumentVisited job (O.argument_at operators.now b p) u s (K.store work.new units.new) }
 {
     advance(work, units, u, job);
     enter(operators, work, units, u, p, b);
@@ -166,10 +156,8 @@ pub fn join(
     o: u8,
     job: Job,
 )
-    ghost s: { K.Store }
-    requires units_value { K.store work.old units.old ≡ s }
-    requires rowed { L.Rowed operators.now o × O.CanProceed job u s × (count ≤ 8) }
-    ensures { O.Joined (L.steps_in operators.now o) job count u s (K.store work.new units.new) }
+    requires { let s : K.Store = K.store work.old units.old in L.Rowed operators.now o × O.CanProceed job u s × (count ≤ 8) }
+    ensures { let s : K.Store = K.store work.old units.old in O.Joined (L.steps_in operators.now o) job count u s (K.store work.new units.new) }
 {
     if job.count == 0 {
         let c = next_count(operators, o, job.next);
@@ -190,10 +178,8 @@ pub fn join(
 
 // EXIT on top of unit u's stack.
 pub fn exit(work: &mut [u8], units: &mut [u32; 8], u: usize, exit: Exit)
-    ghost s: { K.Store }
-    requires units_value { K.store work.old units.old ≡ s }
-    requires can_exit { O.CanExit exit u s }
-    ensures { O.Exited exit u s (K.store work.new units.new) }
+    requires { let s : K.Store = K.store work.old units.old in O.CanExit exit u s }
+    ensures { let s : K.Store = K.store work.old units.old in O.Exited exit u s (K.store work.new units.new) }
 {
     units::drop_top(units, u);
     units::arrive(
@@ -215,10 +201,8 @@ fn lower(count: u8) -> u8
 
 // FORK with no idle unit: the argument at offset b is kept, as a job on top of the one that goes on.
 fn keep(work: &mut [u8], units: &mut [u32; 8], u: usize, job: Job, b: u16)
-    ghost s: { K.Store }
-    requires units_value { K.store work.old units.old ≡ s }
-    requires can_keep { O.CanKeep job b u s }
-    ensures { O.ArgumentKept job b u s (K.store work.new units.new) }
+    requires { let s : K.Store = K.store work.old units.old in O.CanKeep job b u s }
+    ensures { let s : K.Store = K.store work.old units.old in O.ArgumentKept job b u s (K.store work.new units.new) }
 {
     let c = lower(job.count);
     advance(
@@ -245,10 +229,8 @@ fn keep(work: &mut [u8], units: &mut [u32; 8], u: usize, job: Job, b: u16)
 
 // The term at offset b is put on unit v's stack, over an EXIT; v is the first of the idle queue, and leaves it.
 fn give(work: &mut [u8], units: &mut [u32; 8], v: usize, exit: Exit, b: u16)
-    ghost s: { K.Store }
-    requires units_value { K.store work.old units.old ≡ s }
-    requires has_room { U.HasRoom s v 2 × (exit.unit < 8) × (b < 1024) }
-    ensures { O.Given v exit.unit exit.index b s (K.store work.new units.new) }
+    requires { let s : K.Store = K.store work.old units.old in U.HasRoom s v 2 × (exit.unit < 8) × (b < 1024) }
+    ensures { let s : K.Store = K.store work.old units.old in O.Given v exit.unit exit.index b s (K.store work.new units.new) }
 {
     units::push(work, units, v, Frame::Exit(exit));
     units::push(
@@ -266,10 +248,8 @@ fn give(work: &mut [u8], units: &mut [u32; 8], v: usize, exit: Exit, b: u16)
 
 // FORK with an idle unit v: it gets the argument at offset b.
 fn grant(work: &mut [u8], units: &mut [u32; 8], u: usize, job: Job, b: u16, v: usize)
-    ghost s: { K.Store }
-    requires units_value { K.store work.old units.old ≡ s }
-    requires can_grant { O.CanGrant job b v u s }
-    ensures { O.Granted job b v u s (K.store work.new units.new) }
+    requires { let s : K.Store = K.store work.old units.old in O.CanGrant job b v u s }
+    ensures { let s : K.Store = K.store work.old units.old in O.Granted job b v u s (K.store work.new units.new) }
 {
     let index = units::top_index(units, u);
     advance(work, units, u, job);
@@ -287,10 +267,8 @@ fn grant(work: &mut [u8], units: &mut [u32; 8], u: usize, job: Job, b: u16, v: u
 
 // FORK of the argument at offset b, by unit u of so many: the first of the idle queue gets it, or it is kept; which unit got it.
 pub fn fork(work: &mut [u8], units: &mut [u32; 8], count: usize, u: usize, job: Job, b: u16) -> Idle
-    ghost s: { K.Store }
-    requires units_value { K.store work.old units.old ≡ s }
-    requires can_fork { O.CanFork job b count u s }
-    ensures { O.Forked job b count u s (K.store work.new units.new) result }
+    requires { let s : K.Store = K.store work.old units.old in O.CanFork job b count u s }
+    ensures { let s : K.Store = K.store work.old units.old in O.Forked job b count u s (K.store work.new units.new) result }
 {
     match units::first_idle(units, count) {
         Idle::Unit(v) => {

@@ -1,4 +1,6 @@
 // The order in which the pending parts were placed (document 02, Change 11), as specs/Order says: FORK places a part, EXIT takes its part out.
+#![tactic(auto)]
+
 ghost use Rattle.std.specs.Prelude.{◌≡◌, ◌<◌, ◌≤◌};
 ghost use Rattle.placing.specs.Order.{pending_in, OrderFits};
 ghost use Rattle.placing.specs.Promises as C;

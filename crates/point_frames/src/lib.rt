@@ -33,10 +33,8 @@ fn inside(n: usize, f: Frame) -> bool
 
 // Are the jobs of unit v inside a term of n symbols?
 fn stack_inside(work: &[u8], cells: &[u32; 8], units: usize, n: usize, v: usize) -> bool
-    ghost k: { K.Store }
-    requires cells_value { K.store work.now cells.now ≡ k }
-    requires kept { C.Kept k units × (v < units) }
-    ensures { T.each_frame (λ i. test.inside n) (C.stack_in k units v) ≡ result }
+    requires { let k : K.Store = K.store work.now cells.now in C.Kept k units × (v < units) }
+    ensures { let k : K.Store = K.store work.now cells.now in T.each_frame (λ i. test.inside n) (C.stack_in k units v) ≡ result }
 {
     let mut h = tally::height(cells, v);
     while 0 < h {
@@ -49,10 +47,8 @@ fn stack_inside(work: &[u8], cells: &[u32; 8], units: usize, n: usize, v: usize)
 }
 
 fn all_inside(work: &[u8], cells: &[u32; 8], units: usize, n: usize) -> bool
-    ghost k: { K.Store }
-    requires cells_value { K.store work.now cells.now ≡ k }
-    requires kept { C.Kept k units }
-    ensures { T.each_below (λ v. T.each_frame (λ i. test.inside n) (C.stack_in k units v)) units ≡ result }
+    requires { let k : K.Store = K.store work.now cells.now in C.Kept k units }
+    ensures { let k : K.Store = K.store work.now cells.now in T.each_below (λ v. T.each_frame (λ i. test.inside n) (C.stack_in k units v)) units ≡ result }
 {
     let mut v = units;
     while 0 < v {
@@ -117,10 +113,8 @@ fn count_good(job: Job, r: Rest, n: usize) -> bool
 
 // How many jobs stand at index i of unit v's stack: one or none.
 fn jobs_there(work: &[u8], cells: &[u32; 8], units: usize, v: usize, i: usize) -> usize
-    ghost k: { K.Store }
-    requires cells_value { K.store work.now cells.now ≡ k }
-    requires kept { C.Kept k units }
-    ensures { (result ≡ jobs (C.frame_in k units v i ∷ [])) × (result ≤ 1) }
+    requires { let k : K.Store = K.store work.now cells.now in C.Kept k units }
+    ensures { let k : K.Store = K.store work.now cells.now in (result ≡ jobs (C.frame_in k units v i ∷ [])) × (result ≤ 1) }
 {
     match tally::frame(work, cells, units, v, i) {
         Frame::Job(_) => 1,
@@ -152,11 +146,9 @@ fn job_frame_good(
     i: usize,
     job: Job,
 ) -> bool
-    ghost k: { K.Store }
-    requires cells_value { K.store work.now cells.now ≡ k }
-    requires readable { P.Readable operators.now symbols.now k units × C.ExitsTallied k units exits.now }
+    requires readable { let k : K.Store = K.store work.now cells.now in P.Readable operators.now symbols.now k units × C.ExitsTallied k units exits.now }
     requires v_lt_units { (v < units) × (i < K.height_in cells.now v) × (job.offset < length_in symbols.now) }
-    ensures { P.ByPoint operators.now symbols.now k units (λ B s. T.frame_good B s v i (F.Frame.job job.offset job.next job.count)) result }
+    ensures { let k : K.Store = K.store work.now cells.now in P.ByPoint operators.now symbols.now k units (λ B s. T.frame_good B s v i (F.Frame.job job.offset job.next job.count)) result }
 {
     let r = job_left(operators, symbols, job);
     if !job_good(job, r) {
@@ -179,10 +171,8 @@ fn exit_good(
     v: usize,
     exit: Exit,
 ) -> bool
-    ghost k: { K.Store }
-    requires cells_value { K.store work.now cells.now ≡ k }
-    requires readable { P.Readable operators.now symbols.now k units }
-    ensures { P.ByPoint operators.now symbols.now k units (λ B s. T.exit_good B s v exit.unit exit.index) result }
+    requires { let k : K.Store = K.store work.now cells.now in P.Readable operators.now symbols.now k units }
+    ensures { let k : K.Store = K.store work.now cells.now in P.ByPoint operators.now symbols.now k units (λ B s. T.exit_good B s v exit.unit exit.index) result }
 {
     let w = casts::index(exit.unit);
     if w == v {
@@ -203,11 +193,9 @@ fn frame_good(
     v: usize,
     i: usize,
 ) -> bool
-    ghost k: { K.Store }
-    requires cells_value { K.store work.now cells.now ≡ k }
-    requires readable { P.Readable operators.now symbols.now k units × C.ExitsTallied k units exits.now }
+    requires readable { let k : K.Store = K.store work.now cells.now in P.Readable operators.now symbols.now k units × C.ExitsTallied k units exits.now }
     requires v_lt_units { (v < units) × (i < K.height_in cells.now v) }
-    ensures { P.ByPoint operators.now symbols.now k units (λ B s. T.frame_good B s v i (C.frame_in k units v i)) result }
+    ensures { let k : K.Store = K.store work.now cells.now in P.ByPoint operators.now symbols.now k units (λ B s. T.frame_good B s v i (C.frame_in k units v i)) result }
 {
     match tally::frame(work, cells, units, v, i) {
         Frame::Job(job) => {
@@ -227,10 +215,8 @@ fn each_frame_good(
     exits: &[u16; 8208],
     v: usize,
 ) -> bool
-    ghost k: { K.Store }
-    requires cells_value { K.store work.now cells.now ≡ k }
-    requires readable { P.Readable operators.now symbols.now k units × C.ExitsTallied k units exits.now × (v < units) }
-    ensures { P.ByPoint operators.now symbols.now k units (λ B s. T.each_frame (T.frame_good B s v) (C.stack_in k units v)) result }
+    requires { let k : K.Store = K.store work.now cells.now in P.Readable operators.now symbols.now k units × C.ExitsTallied k units exits.now × (v < units) }
+    ensures { let k : K.Store = K.store work.now cells.now in P.ByPoint operators.now symbols.now k units (λ B s. T.each_frame (T.frame_good B s v) (C.stack_in k units v)) result }
 {
     let mut h = tally::height(cells, v);
     while 0 < h {
@@ -299,10 +285,8 @@ fn carries(
     f: Frame,
     a: usize,
 ) -> bool
-    ghost k: { K.Store }
-    requires cells_value { K.store work.now cells.now ≡ k }
-    requires readable { P.Readable operators.now symbols.now k units × K.Below (length_in symbols.now) (flat f) }
-    ensures { P.ByPoint operators.now symbols.now k units (λ B s. T.carries B s a (flat f ∷ [])) result }
+    requires { let k : K.Store = K.store work.now cells.now in P.Readable operators.now symbols.now k units × K.Below (length_in symbols.now) (flat f) }
+    ensures { let k : K.Store = K.store work.now cells.now in P.ByPoint operators.now symbols.now k units (λ B s. T.carries B s a (flat f ∷ [])) result }
 {
     match f {
         Frame::Job(job) => job_takes(operators, symbols, job, a),
@@ -355,10 +339,8 @@ fn stands_on(
     f: Frame,
     below: Frame,
 ) -> bool
-    ghost k: { K.Store }
-    requires cells_value { K.store work.now cells.now ≡ k }
-    requires readable { P.Readable operators.now symbols.now k units × K.Below (length_in symbols.now) (flat below) }
-    ensures { P.ByPoint operators.now symbols.now k units (λ B s. test.stands B s (flat f) (flat below)) result }
+    requires { let k : K.Store = K.store work.now cells.now in P.Readable operators.now symbols.now k units × K.Below (length_in symbols.now) (flat below) }
+    ensures { let k : K.Store = K.store work.now cells.now in P.ByPoint operators.now symbols.now k units (λ B s. test.stands B s (flat f) (flat below)) result }
 {
     match f {
         Frame::Job(job) => {
@@ -378,10 +360,8 @@ fn stack_good(
     units: usize,
     v: usize,
 ) -> bool
-    ghost k: { K.Store }
-    requires cells_value { K.store work.now cells.now ≡ k }
-    requires readable { P.Readable operators.now symbols.now k units × (v < units) }
-    ensures { P.ByPoint operators.now symbols.now k units (λ B s. T.stack_good B s v (C.stack_in k units v)) result }
+    requires { let k : K.Store = K.store work.now cells.now in P.Readable operators.now symbols.now k units × (v < units) }
+    ensures { let k : K.Store = K.store work.now cells.now in P.ByPoint operators.now symbols.now k units (λ B s. T.stack_good B s v (C.stack_in k units v)) result }
 {
     let mut h = tally::height(cells, v);
     if h == 0 {
@@ -410,10 +390,8 @@ fn each_unit_good(
     units: usize,
     exits: &[u16; 8208],
 ) -> bool
-    ghost k: { K.Store }
-    requires cells_value { K.store work.now cells.now ≡ k }
-    requires readable { P.Readable operators.now symbols.now k units × C.ExitsTallied k units exits.now }
-    ensures { P.ByPoint operators.now symbols.now k units (λ B s. T.each_below (test.stack_tested B s) units) result }
+    requires { let k : K.Store = K.store work.now cells.now in P.Readable operators.now symbols.now k units × C.ExitsTallied k units exits.now }
+    ensures { let k : K.Store = K.store work.now cells.now in P.ByPoint operators.now symbols.now k units (λ B s. T.each_below (test.stack_tested B s) units) result }
 {
     let mut v = units;
     while 0 < v {
@@ -436,10 +414,8 @@ pub fn frames_good(
     cells: &[u32; 8],
     units: usize,
 ) -> bool
-    ghost k: { K.Store }
-    requires cells_value { K.store work.now cells.now ≡ k }
-    requires termed { P.Termed operators.now symbols.now × C.Kept k units }
-    ensures { P.ByPoint operators.now symbols.now k units test.frames_tested result }
+    requires { let k : K.Store = K.store work.now cells.now in P.Termed operators.now symbols.now × C.Kept k units }
+    ensures { let k : K.Store = K.store work.now cells.now in P.ByPoint operators.now symbols.now k units test.frames_tested result }
 {
     let n = term::length(symbols);
     if !all_inside(work, cells, units, n) {

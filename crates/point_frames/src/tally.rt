@@ -18,10 +18,8 @@ pub fn height(cells: &[u32; 8], v: usize) -> usize
 
 // The frame at index i of unit v's stack, of so many units; SLEEP where there is none.
 pub fn frame(work: &[u8], cells: &[u32; 8], units: usize, v: usize, i: usize) -> Frame
-    ghost k: { K.Store }
-    requires cells_value { K.store work.now cells.now ≡ k }
-    requires kept { C.Kept k units }
-    ensures { (C.frame_in k units v i ≡ flat result) × InThreeBytes (flat result) }
+    requires { let k : K.Store = K.store work.now cells.now in C.Kept k units }
+    ensures { let k : K.Store = K.store work.now cells.now in (C.frame_in k units v i ≡ flat result) × InThreeBytes (flat result) }
 {
     if v < units {
         if i < height(cells, v) {
@@ -82,12 +80,10 @@ fn count_stack(
     exits: &mut [u16; 8208],
     v: usize,
 )
-    ghost k: { K.Store }
-    requires cells_value { K.store work.now cells.now ≡ k }
-    requires kept { C.Kept k units × (v < units) }
-    requires jobs_room { C.JobsRoom (C.jobs_of (C.stack_in k units v)) jobs.old × C.ExitsRoom cells.now units (C.exits_of (C.stack_in k units v)) exits.old }
-    ensures jobs_added { C.JobsAdded (C.jobs_of (C.stack_in k units v)) jobs.old jobs.new }
-    ensures exits_added { C.ExitsAdded cells.now units (C.exits_of (C.stack_in k units v)) exits.old exits.new }
+    requires kept { let k : K.Store = K.store work.now cells.now in C.Kept k units × (v < units) }
+    requires jobs_room { let k : K.Store = K.store work.now cells.now in C.JobsRoom (C.jobs_of (C.stack_in k units v)) jobs.old × C.ExitsRoom cells.now units (C.exits_of (C.stack_in k units v)) exits.old }
+    ensures jobs_added { let k : K.Store = K.store work.now cells.now in C.JobsAdded (C.jobs_of (C.stack_in k units v)) jobs.old jobs.new }
+    ensures exits_added { let k : K.Store = K.store work.now cells.now in C.ExitsAdded cells.now units (C.exits_of (C.stack_in k units v)) exits.old exits.new }
 {
     let mut h = height(cells, v);
     while 0 < h {
@@ -104,10 +100,8 @@ pub fn count_all(
     jobs: &mut [u16; 1024],
     exits: &mut [u16; 8208],
 )
-    ghost k: { K.Store }
-    requires cells_value { K.store work.now cells.now ≡ k }
-    requires kept { C.Kept k units × (jobs.old ≡ replicate 1024 0) × (exits.old ≡ replicate 8208 0) }
-    ensures { C.JobsTallied k units jobs.new × C.ExitsTallied k units exits.new }
+    requires { let k : K.Store = K.store work.now cells.now in C.Kept k units × (jobs.old ≡ replicate 1024 0) × (exits.old ≡ replicate 8208 0) }
+    ensures { let k : K.Store = K.store work.now cells.now in C.JobsTallied k units jobs.new × C.ExitsTallied k units exits.new }
 {
     let mut v = units;
     while 0 < v {

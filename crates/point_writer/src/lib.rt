@@ -201,10 +201,8 @@ pub fn save(
     cells: &[u32; 8],
     order: &[u16; 1024],
 ) -> usize
-    ghost a: { Arrays }
-    requires order_value { arrays symbols.now work.now cells.now order.now ≡ a }
-    requires savable { C.Savable x a × C.Room at C.longest out.old }
-    ensures { C.Put at (write_saved (saved x a)) out.old out.new result }
+    requires { let a : Arrays = arrays symbols.now work.now cells.now order.now in C.Savable x a × C.Room at C.longest out.old }
+    ensures { let a : Arrays = arrays symbols.now work.now cells.now order.now in C.Put at (write_saved (saved x a)) out.old out.new result }
 {
     let a = write_numbers(out, at, x);
     let b = write_term(out, a, symbols);

@@ -91,10 +91,8 @@ fn save(
     cells: &[u32; 8],
     order: &[u16; 1024],
 )
-    ghost a: { Arrays }
-    requires order_value { arrays symbols.now work.now cells.now order.now ≡ a }
-    requires savable { Savable x a × C.CanSave k points.old name.now book.now }
-    ensures { points.new ≡ put k (write_point (C.point name.now book.now day (saved x a))) points.old }
+    requires { let a : Arrays = arrays symbols.now work.now cells.now order.now in Savable x a × C.CanSave k points.old name.now book.now }
+    ensures { let a : Arrays = arrays symbols.now work.now cells.now order.now in points.new ≡ put k (write_point (C.point name.now book.now day (saved x a))) points.old }
 {
     let start = k * names::SLOT;
     let end = start + names::SLOT;
@@ -135,10 +133,8 @@ fn keep(
     cells: &[u32; 8],
     order: &[u16; 1024],
 )
-    ghost a: { Arrays }
-    requires order_value { arrays symbols.now work.now cells.now order.now ≡ a }
-    requires savable_cut { C.SavableCut l run a × C.CanSave k points.old name.now book.now }
-    ensures { points.new ≡ C.behind_cut k name.now book.now day l run a points.old points.old }
+    requires { let a : Arrays = arrays symbols.now work.now cells.now order.now in C.SavableCut l run a × C.CanSave k points.old name.now book.now }
+    ensures { let a : Arrays = arrays symbols.now work.now cells.now order.now in points.new ≡ C.behind_cut k name.now book.now day l run a points.old points.old }
 {
     let ending = run.ending;
     if !is_cut(ending) {
@@ -162,10 +158,8 @@ pub fn replace(
     cells: &[u32; 8],
     order: &[u16; 1024],
 )
-    ghost a: { Arrays }
-    requires order_value { arrays symbols.now work.now cells.now order.now ≡ a }
-    requires savable_cut { C.SavableCut l run a × C.CanSave k points.old name.now book.now }
-    ensures { points.new ≡ C.behind_cut k name.now book.now day l run a points.old
+    requires { let a : Arrays = arrays symbols.now work.now cells.now order.now in C.SavableCut l run a × C.CanSave k points.old name.now book.now }
+    ensures { let a : Arrays = arrays symbols.now work.now cells.now order.now in points.new ≡ C.behind_cut k name.now book.now day l run a points.old
         (put k (replicate slot_length 0) points.old) }
 {
     let ending = run.ending;

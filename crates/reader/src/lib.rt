@@ -1,6 +1,7 @@
 // A bit reader: some bytes and a position in their bits (document 01: 'Fields are packed most significant bit first').
-// The borrow checker covers no function that has a struct with a reference in it, so each function here is proved by hand. They are few and thin:
-// the work is `bits::field`'s. Whoever calls `field`, whose parameters are plain, needs no such proof.
+// The functions are few and thin: the work is `bits::field`'s.
+#![tactic(auto)]
+
 ghost use Rattle.std.specs.Prelude.{◌≡◌, ◌+◌, ◌^◌, ◌<◌, ◌≤◌, length};
 ghost use Rattle.bits.specs.Field.{Answers};
 
@@ -14,7 +15,7 @@ pub struct Reader<'a> {
 
 // A reader that stands at the first bit.
 pub fn new<'a>(bytes: &'a [u8]) -> Reader<'a>
-    ensures { (result.bytes ≡ bytes.entry) × (result.at ≡ 0) }
+    ensures { (result.bytes ≡ bytes) × (result.at ≡ 0) }
 {
     Reader { bytes, at: 0 }
 }
@@ -22,7 +23,7 @@ pub fn new<'a>(bytes: &'a [u8]) -> Reader<'a>
 // The reader, n bits on.
 pub fn skip<'a>(r: Reader<'a>, n: usize) -> Reader<'a>
     requires { r.at + n < 2 ^ 64 }
-    ensures { (result.bytes ≡ r.entry.bytes) × (result.at ≡ r.entry.at + n) }
+    ensures { (result.bytes ≡ r.bytes) × (result.at ≡ r.at + n) }
 {
     Reader {
         bytes: r.bytes,
@@ -33,7 +34,7 @@ pub fn skip<'a>(r: Reader<'a>, n: usize) -> Reader<'a>
 // The next n bits: their value and the position behind them, or that the bits run out.
 pub fn next<'a>(r: Reader<'a>, n: usize) -> Bits
     requires { (length r.bytes.now ≤ 2 ^ 60) × (n ≤ 16) }
-    ensures { Answers r.entry.bytes.now r.entry.at n result }
+    ensures { Answers r.bytes.now r.at n result }
 {
     bits::field(r.bytes, r.at, n)
 }

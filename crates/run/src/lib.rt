@@ -69,11 +69,9 @@ pub fn run_schedule(
     l: Limits,
     schedule: &[u8],
 ) -> Run
-    ghost s: { FlatState }
-    requires l_value { S.state symbols.old work.old units.old order.old (R.begun rewrites) l ≡ s }
     requires arrays { S.Arrays symbols.old scratch.old work.old units.old order.old l }
-    requires runnable { R.Runnable book.now operators.now net.now l schedule.now s }
-    ensures { R.Ran book.now net.now l schedule.now s symbols.new scratch.new work.new units.new order.new result }
+    requires runnable { let s : FlatState = S.state symbols.old work.old units.old order.old (R.begun rewrites) l in R.Runnable book.now operators.now net.now l schedule.now s }
+    ensures { let s : FlatState = S.state symbols.old work.old units.old order.old (R.begun rewrites) l in R.Ran book.now net.now l schedule.now s symbols.new scratch.new work.new units.new order.new result }
 {
     let mut p = Progress {
         rewrites,

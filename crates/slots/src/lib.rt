@@ -56,10 +56,8 @@ pub fn write_part(
     cells: &[u32; 8],
     order: &[u16; 1024],
 )
-    ghost a: { Arrays }
-    requires order_value { arrays symbols.now work.now cells.now order.now ≡ a }
-    requires savable { Savable x a × C.PartRoom book.now part.old }
-    ensures { part.new ≡ padded (length part.old) (point_bytes book.now day (saved x a)) }
+    requires { let a : Arrays = arrays symbols.now work.now cells.now order.now in Savable x a × C.PartRoom book.now part.old }
+    ensures { let a : Arrays = arrays symbols.now work.now cells.now order.now in part.new ≡ padded (length part.old) (point_bytes book.now day (saved x a)) }
 {
     clear(part);
     let a = stream::put_number(part, 0, 2, book.len());
@@ -80,10 +78,8 @@ pub fn write_slot(
     cells: &[u32; 8],
     order: &[u16; 1024],
 )
-    ghost a: { Arrays }
-    requires order_value { arrays symbols.now work.now cells.now order.now ≡ a }
-    requires savable { Savable x a × C.SlotRoom name.now book.now slot.old }
-    ensures { slot.new ≡ slot_bytes (length slot.old) name.now book.now day (saved x a) }
+    requires { let a : Arrays = arrays symbols.now work.now cells.now order.now in Savable x a × C.SlotRoom name.now book.now slot.old }
+    ensures { let a : Arrays = arrays symbols.now work.now cells.now order.now in slot.new ≡ slot_bytes (length slot.old) name.now book.now day (saved x a) }
 {
     put_name(slot, name);
     write_part(&mut slot[NAME..], book, day, x, symbols, work, cells, order);

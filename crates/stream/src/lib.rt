@@ -1,4 +1,6 @@
 // Bytes in a row: numbers of some bytes, the most significant first, and parts behind their length.
+#![tactic(auto)]
+
 ghost use Rattle.std.specs.Prelude.{◌≡◌, ◌+◌, ◌≤◌, ◌<◌, length, take, drop};
 ghost use Rattle.paper.specs.Page.{number};
 ghost use Rattle.stream.specs.Promises as C;

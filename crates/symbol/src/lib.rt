@@ -1,4 +1,6 @@
 // A symbol's record in the working array: its operator, its mark and its size, the number of symbols under and including it, in one number.
+#![tactic(auto)]
+
 ghost use Rattle.std.specs.Prelude.{true, false, ◌≡◌, ◌+◌, ◌-◌, ◌≤◌, ◌<◌};
 ghost use Rattle.symbol.specs.Record as R;
 

@@ -1,4 +1,6 @@
 // The two tables of a book that a run reads: its operators and its rules. Their layout (specs/Layout) is known here alone.
+#![tactic(auto)]
+
 ghost use Rattle.std.specs.Prelude.{◌≡◌, ◌+◌, ◌*◌, ◌<◌, ◌^◌, length, set};
 ghost use Rattle.tables.specs.Layout as L;
 

@@ -1,6 +1,8 @@
 // The states and the stacks of all units (document 01, 'Orders of a unit'), as the engine keeps them: a lent work area with the stacks, and a cell for
 // each unit, which is the place where its frames end and 65,536 times its rank. Rank 0 is busy; an idle unit's rank is its place in the idle queue, 1 for
 // the first.
+#![tactic(auto)]
+
 pub mod frames;
 
 ghost use Rattle.std.specs.Prelude.{◌≡◌, List, ℕ, ◌+◌, ◌-◌, ◌*◌, ◌/◌, ◌%◌, ◌<◌, ◌≤◌, set};
@@ -192,19 +194,15 @@ pub fn top_index(units: &[u32; 8], u: usize) -> u16
 
 // The first frame of unit u's stack.
 pub fn top(work: &[u8], units: &[u32; 8], u: usize) -> Frame
-    ghost s: { K.Store }
-    requires units_value { K.store work.now units.now ≡ s }
-    requires has_frame { U.HasFrame s u 0 }
-    ensures { U.TopIs u (flat result) s }
+    requires { let s : K.Store = K.store work.now units.now in U.HasFrame s u 0 }
+    ensures { let s : K.Store = K.store work.now units.now in U.TopIs u (flat result) s }
 {
     frames::frame_at(work, end_of(units, u) - 3)
 }
 
 pub fn set_top(work: &mut [u8], units: &[u32; 8], u: usize, f: Frame)
-    ghost s: { K.Store }
-    requires units_value { K.store work.old units.now ≡ s }
-    requires has_frame { U.HasFrame s u 0 × InThreeBytes (flat f) }
-    ensures { U.Changed u (U.topped (flat f)) s (K.store work.new s.cells) }
+    requires { let s : K.Store = K.store work.old units.now in U.HasFrame s u 0 × InThreeBytes (flat f) }
+    ensures { let s : K.Store = K.store work.old units.now in U.Changed u (U.topped (flat f)) s (K.store work.new s.cells) }
 {
     frames::put_frame(work, end_of(units, u) - 3, f);
 }
@@ -225,10 +223,8 @@ fn higher(x: u32) -> u32
 }
 
 pub fn push(work: &mut [u8], units: &mut [u32; 8], u: usize, f: Frame)
-    ghost s: { K.Store }
-    requires units_value { K.store work.old units.old ≡ s }
-    requires has_room { U.HasRoom s u 1 × InThreeBytes (flat f) }
-    ensures { U.Changed u (U.pushed (flat f)) s (K.store work.new units.new) }
+    requires { let s : K.Store = K.store work.old units.old in U.HasRoom s u 1 × InThreeBytes (flat f) }
+    ensures { let s : K.Store = K.store work.old units.old in U.Changed u (U.pushed (flat f)) s (K.store work.new units.new) }
 {
     frames::put_frame(work, end_of(units, u), f);
     units[u] = higher(units[u]);
@@ -236,10 +232,8 @@ pub fn push(work: &mut [u8], units: &mut [u32; 8], u: usize, f: Frame)
 
 // EXIT at unit v, which holds its JOIN: the count of the job at stack index i falls by one; if it is now 0, the unit is busy, and in no queue.
 pub fn arrive(work: &mut [u8], units: &mut [u32; 8], v: usize, i: usize)
-    ghost s: { K.Store }
-    requires units_value { K.store work.old units.old ≡ s }
-    requires has_frame { U.HasFrame s v i }
-    ensures { U.Arrived v i s (K.store work.new units.new) }
+    requires { let s : K.Store = K.store work.old units.old in U.HasFrame s v i }
+    ensures { let s : K.Store = K.store work.old units.old in U.Arrived v i s (K.store work.new units.new) }
 {
     let at = frames::base_of(v) + 3 * i;
     frames::lower_at(work, at);
@@ -250,10 +244,8 @@ pub fn arrive(work: &mut [u8], units: &mut [u32; 8], v: usize, i: usize)
 
 // The symbols from offset a to offset e give way to k others: the offsets of the jobs of count units go along.
 pub fn shift_units(work: &mut [u8], units: &[u32; 8], count: usize, a: usize, e: usize, k: usize)
-    ghost s: { K.Store }
-    requires units_value { K.store work.old units.now ≡ s }
-    requires shiftable { U.Shiftable count a e k s }
-    ensures { U.UnitsShifted count a e k s (K.store work.new s.cells) }
+    requires { let s : K.Store = K.store work.old units.now in U.Shiftable count a e k s }
+    ensures { let s : K.Store = K.store work.old units.now in U.UnitsShifted count a e k s (K.store work.new s.cells) }
 {
     let mut u = 0;
     while u < count {

@@ -117,10 +117,8 @@ fn apply(
     count: usize,
     place: Place,
 )
-    ghost s: { S.Arrays }
-    requires units_value { S.arrays symbols.old work.old units.now ≡ s }
-    requires replaceable { Replaceable s.symbols (length_in s.symbols) place.offset filled.end filled.size × (place.offset < length_in s.symbols) × (place.offset < filled.end) × (length scratch.old ≡ 1024) × W.UnitsDue s.store count place (length_in s.symbols) }
-    ensures { W.Rewritten place (drop (1024 - filled.size) scratch.old) filled.size filled.end count s (S.arrays symbols.new work.new s.store.cells) × (length scratch.new ≡ 1024) }
+    requires { let s : S.Arrays = S.arrays symbols.old work.old units.now in Replaceable s.symbols (length_in s.symbols) place.offset filled.end filled.size × (place.offset < length_in s.symbols) × (place.offset < filled.end) × (length scratch.old ≡ 1024) × W.UnitsDue s.store count place (length_in s.symbols) }
+    ensures { let s : S.Arrays = S.arrays symbols.old work.old units.now in W.Rewritten place (drop (1024 - filled.size) scratch.old) filled.size filled.end count s (S.arrays symbols.new work.new s.store.cells) × (length scratch.new ≡ 1024) }
 {
     let a = place.offset;
     let end = filled.end;
@@ -156,10 +154,8 @@ pub fn rewrite(
     p: Progress,
     l: Limits,
 ) -> Whole
-    ghost s: { S.Arrays }
-    requires units_value { S.arrays symbols.old work.old units.now ≡ s }
-    requires present { Present book.now operators.now net.now s.symbols place.offset × (length scratch.old ≡ 1024) × W.UnitsDue s.store l.units place (length_in s.symbols) × (place.operator ≡ operator (get_or symbols.old place.offset 0)) }
-    ensures { W.CarriedOut (book_by book.now net.now) place p l s (S.arrays symbols.new work.new s.store.cells) result × (length scratch.new ≡ 1024) }
+    requires { let s : S.Arrays = S.arrays symbols.old work.old units.now in Present book.now operators.now net.now s.symbols place.offset × (length scratch.old ≡ 1024) × W.UnitsDue s.store l.units place (length_in s.symbols) × (place.operator ≡ operator (get_or symbols.old place.offset 0)) }
+    ensures { let s : S.Arrays = S.arrays symbols.old work.old units.now in W.CarriedOut (book_by book.now net.now) place p l s (S.arrays symbols.new work.new s.store.cells) result × (length scratch.new ≡ 1024) }
 {
     match choose(
         book,

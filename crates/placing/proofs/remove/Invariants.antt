@@ -1,0 +1,14 @@
+-- `placing::remove` meets its contract: the loop's invariant: of the parts behind part i those up to part k have moved down. Assumes nothing.
+use Rattle.placing.proofs.Order.{Moved, moved_start, moved_more, removed}
+use mathlib.Core.Path.{◌≡◌, refl}
+use Prim.Native.Nat.{◌-◌, ◌≤◌}
+use native.Mathlib.Omega.{arith}
+use lib.ListN.{length, length-set}
+use borrow.Author.Rules.{rules}
+use Rattle.placing.proofs.remove.Given as goal
+
+abbrev pub invariant-loop-k : goal.invariant-loop-k
+invariant-loop-k l = (l.i ≤ l.k) × (l.k ≤ l.n) × (length l.order ≡ 1024) × Moved l.i l.k l.initial.order l.order
+
+abbrev pub decreases-loop-k : goal.decreases-loop-k
+decreases-loop-k l = l.n - l.k

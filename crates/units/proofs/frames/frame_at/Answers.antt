@@ -1,0 +1,8 @@
+-- `units::frames::frame_at` meets its contract: the halves of the word are the frame's two bytes. Assumes nothing.
+use borrow.Author.Rules.{rules}
+use Rattle.units.proofs.frames.frame_at.Goals as goal
+
+pub returns : goal.returns
+returns c =
+    let word = c.word_at.ensures in
+    rw (← word.0, ← word.1) c.frame_of.ensures

@@ -1,0 +1,13 @@
+-- `units::shift_units` meets its contract: the loop's invariant: the offsets of units 0 to u - 1 have moved. Assumes nothing.
+use Prim.Native.Nat.{◌-◌, ◌≤◌}
+use native.Mathlib.Omega.{arith}
+use borrow.Author.Rules.{rules}
+use Rattle.units.specs.Stacks.{store}
+use Rattle.units.proofs.Loops.{ShiftedBelow, frames_of, below_none, below_rest, below_more, below_all}
+use Rattle.units.proofs.shift_units.Given as goal
+
+abbrev pub invariant-loop-u : goal.invariant-loop-u
+invariant-loop-u l = (l.u ≤ l.count) × ShiftedBelow l.u l.a l.e l.k (store l.initial.work l.units) l.work
+
+abbrev pub decreases-loop-u : goal.decreases-loop-u
+decreases-loop-u l = l.count - l.u
