@@ -1,4 +1,6 @@
 // The line, checked against a book's operators (document 01, the row Term of 'What is checked where').
+#![tactic(auto)]
+
 ghost use Rattle.std.specs.Prelude.{◌≡◌};
 ghost use Rattle.tables.specs.Layout.{arity_in};
 ghost use Rattle.line.specs.Line.{judgement};

@@ -1,4 +1,6 @@
 // The eight slots of a buffer of named points (document 02, Change 11): which one bears a name, which one is free, whether a name stands twice.
+#![tactic(auto)]
+
 ghost use Rattle.std.specs.Prelude.{◌≡◌, suc, ◌≤◌, ◌<◌};
 ghost use Rattle.parking.specs.Points.{slot};
 ghost use Rattle.names.specs.Promises as C;

@@ -1,4 +1,6 @@
 // The area of a discrimination net (document 02, Change 8): what stands in it, found and put. Its layout (specs/Layout) is known here alone.
+#![tactic(auto)]
+
 ghost use Rattle.std.specs.Prelude.{◌≡◌, ◌+◌, ◌*◌, ◌^◌, ◌<◌, ◌≤◌, length};
 ghost use Rattle.net.specs.Layout as L;
 ghost use Rattle.net.specs.Promises as C;

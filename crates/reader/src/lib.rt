@@ -15,7 +15,7 @@ pub struct Reader<'a> {
 
 // A reader that stands at the first bit.
 pub fn new<'a>(bytes: &'a [u8]) -> Reader<'a>
-    ensures { (result.bytes ≡ bytes) × (result.at ≡ 0) }
+    ensures { (result.bytes ≡ bytes.entry) × (result.at ≡ 0) }
 {
     Reader { bytes, at: 0 }
 }
@@ -23,7 +23,7 @@ pub fn new<'a>(bytes: &'a [u8]) -> Reader<'a>
 // The reader, n bits on.
 pub fn skip<'a>(r: Reader<'a>, n: usize) -> Reader<'a>
     requires { r.at + n < 2 ^ 64 }
-    ensures { (result.bytes ≡ r.bytes) × (result.at ≡ r.at + n) }
+    ensures { (result.bytes ≡ r.entry.bytes) × (result.at ≡ r.entry.at + n) }
 {
     Reader {
         bytes: r.bytes,
@@ -34,7 +34,7 @@ pub fn skip<'a>(r: Reader<'a>, n: usize) -> Reader<'a>
 // The next n bits: their value and the position behind them, or that the bits run out.
 pub fn next<'a>(r: Reader<'a>, n: usize) -> Bits
     requires { (length r.bytes.now ≤ 2 ^ 60) × (n ≤ 16) }
-    ensures { Answers r.bytes.now r.at n result }
+    ensures { Answers r.entry.bytes.now r.entry.at n result }
 {
     bits::field(r.bytes, r.at, n)
 }

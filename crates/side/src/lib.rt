@@ -1,4 +1,6 @@
 // The symbols, sides and rules of a book, read from its packed bits (document 01, 'The book, bit by bit'; refusals 1, 4, 5, 7 and 8).
+#![tactic(auto)]
+
 ghost use Rattle.std.specs.Prelude.{◌≡◌, ◌+◌, ◌^◌, ◌<◌, ◌≤◌, length, ◌==◌};
 ghost use Rattle.side.specs.Mask.{bit};
 ghost use Rattle.side.specs.Promises.{SymbolAt, StandingAt, MetAt, StepAt, RestAt, LeftSideAt, RightSideAt, RuleAt};

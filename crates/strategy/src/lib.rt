@@ -1,5 +1,7 @@
 // An operator's strategy: read from the book's bits, settled, and laid out as the steps of a VISIT (document 01, 'The book, bit by bit',
 // 'Strategies, settled' and 'Orders of a unit').
+#![tactic(auto)]
+
 ghost use Rattle.std.specs.Prelude.{◌≡◌, [], ◌∷◌, ◌++◌, false, ◌+◌, ◌-◌, ◌^◌, ◌<◌, ◌≤◌, length, get_or, take, drop, replicate};
 ghost use Rattle.std.proofs.lemmas.List.Edits.{sets};
 ghost use Rattle.paper.specs.Strategy.{default, has};

@@ -1,4 +1,6 @@
 // The present term as an array of symbols in preorder, each with its size and its mark: where its parts stand, two compared, one copied, one marked.
+#![tactic(auto)]
+
 ghost use Rattle.std.specs.Prelude.{true, false, map, ◌≡◌, ◌+◌, ◌-◌, ◌<◌, ◌≤◌, length, get_or, take};
 ghost use Rattle.flat.specs.Rules.{spells};
 ghost use Rattle.flat.specs.Sizes as flat;

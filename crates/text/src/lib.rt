@@ -1,4 +1,6 @@
 // A payee's text as the symbols of its term (document 02, Change 1).
+#![tactic(auto)]
+
 ghost use Rattle.std.specs.Prelude.{◌≡◌, ◌<◌, length};
 ghost use Rattle.paper.specs.Text as T;
 ghost use Rattle.tables.specs.Layout.{arity_in};

@@ -1,0 +1,6 @@
+-- `net::root` meets its contract. Assumes nothing.
+use borrow.Author.Rules.{rules}
+use Rattle.net.proofs.root.Goals as goal
+
+pub returns : goal.returns
+returns c = rw c.index.ensures.0 at c.cell.ensures
