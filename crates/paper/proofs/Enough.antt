@@ -317,7 +317,7 @@ module _ (B : Book) (sound : Sound B) (t : Term) (c : Correct (arity B) t) (budg
     unfolding carried
     most_over_parts parts = omega (arith, parts_carried G B L parts (start units t), most_orders (flatten parts))
 
-    -- spent is shut out: the one_unit run's rewrites are within the budget, and those of every finished run are the same
+    -- spent is shut out: the one-unit run's rewrites are within the budget, and those of every finished run are the same
     not_spent : (schedule : List ℕ) → (run_by G B L units schedule t).ending ≡ Ending.spent → ⊥
     unfolding run
     not_spent schedule e =
