@@ -9,8 +9,6 @@ use Rattle.bits.proofs.Reading.{got, ran_out}
 use borrow.Author.Rules.{rules}
 use Rattle.standing.proofs.day_before.Goals as goal
 
-}
-
 pub returns-in-Value : goal.returns-in-Value
 unfolding return
 returns-in-Value c =
@@ -25,3 +23,4 @@ unfolding return
 returns-in-Out c = record {
   is = λ x xs e. absurd (refused_accepted (sym (ran_out c.field.ensures c.in-Out.is) ∙ e));
   small = omega arith;
+}

@@ -8,13 +8,7 @@ use borrow.Author.Rules.{rules}
 use Rattle.standing.specs.Dates.{rules_of}
 use Rattle.standing.proofs.Rules.{number_small, Keeping, keeping_none, keeping_more, keeping_same, keeping_all}
 use Rattle.standing.proofs.keep.Goals as goal
-
--- where the function starts, from its loop; the number i is one of a rule
-abbrev start : tie.At-loop invariant-loop decreases-loop → tie.Start invariant-loop decreases-loop
-start l = l.before.before.before.before.before.before.before
-
-number : (t : tie.In-loop invariant-loop decreases-loop) → t.before.loop.i < length (rules_of (start t.before).args.book.now)
-number t = omega (arith, (start t.before).pre.1, t.loop-test.true)
+use Rattle.standing.proofs.keep.Goals.{then-stands, else-stands}
 
 pub put_keys-requires : goal.put_keys-requires
 put_keys-requires c = let p = c.requires in (p.0, p.1, refl)
@@ -29,24 +23,28 @@ stands-requires c =
 
 pub copy_sides-requires : goal.copy_sides-requires
 copy_sides-requires c =
-    let b = number_small (start c).requires.0 c.loop-i.i (number c) in
+    let b = number_small c.requires.0 c.loop-i.i (omega arith) in
     (omega arith, omega (arith, c.loop-i.invariant.1.few))
 
 pub overflow_add-k : goal.overflow_add-k
 overflow_add-k c =
-    let b = number_small (start c).requires.0 c.loop-i.i (number c) in
+    let b = number_small c.requires.0 c.loop-i.i (omega arith) in
     omega (arith, c.loop-i.invariant.1.few)
 
 pub loop-i-preserved : goal.loop-i-preserved
 loop-i-preserved c =
-    let p = (start c).requires in
+    let p = c.requires in
+    let n : c.loop-i.i < length (rules_of c.args.book.now) = omega arith in
     let K = c.loop-i.invariant.1 in (
       omega (arith, c.loop-i-test.true),
-      ⊎_elim (λ w. rw (w.4, w.5) (keeping_more p.0 K (number c) w.0.taken c.stands.ensures w.3.ensures))
-          (λ w. rw (w.1, w.2) (keeping_same p.0 K (number c) w.0.left c.stands.ensures)) c.if-stands.branch,
+      (elim c.if-stands.branch [
+        | then-stands w ↦
+            rw (w.rules-is, w.k-is) (keeping_more p.0 K n w.if-stands.true c.stands.ensures w.copy_sides.ensures)
+        | else-stands w ↦ rw (w.rules-is, w.k-is) (keeping_same p.0 K n w.if-stands.false c.stands.ensures)
+      ]),
     )
 
 pub returns : goal.returns
 returns c =
-    let p = (start c).requires in
+    let p = c.requires in
     keeping_all p.0 c.loop-i.invariant.1 (omega (arith, p.1, c.loop-i-test.false)) c.offset-today.ensures.0

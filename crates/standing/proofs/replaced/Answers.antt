@@ -9,6 +9,7 @@ use Rattle.paper.specs.Dated as P
 use Rattle.standing.specs.Dates.{left_at, rules_of}
 use Rattle.standing.proofs.Rules.{number_small, replaces_other, replaced_found, replaced_next, replaced_none}
 use Rattle.standing.proofs.replaced.Goals as goal
+use Rattle.standing.proofs.replaced.Goals.{then-keys-j+else-replaces, else-keys-j}
 
 -- the number i is small
 pub bounds-keys-i : goal.bounds-keys-i
@@ -46,9 +47,10 @@ loop-j-preserved c =
     let p = c.requires in
     let h : c.loop-j.j < length (rules_of c.args.book.now) = omega (arith, p.3, c.loop-j-test.true) in
     c.loop-j.invariant ∙ replaced_next _ _ _ _ _ _ p.3 c.loop-j-test.true
-    (⊎_elim (λ w. sym w.1.ensures ∙ w.2.left)
-    (λ w. replaces_other _ _ _ _ (λ e. w.left (p.1.each c.loop-j.j h ∙ e ∙ sym (p.1.each _ p.2))))
-    c.if-keys-j.branch)
+    (elim c.if-keys-j.branch [
+      | then-keys-j+else-replaces w ↦ sym w.replaces.ensures ∙ w.if-replaces.false
+      | else-keys-j w ↦ replaces_other _ _ _ _ (λ e. w.if-keys-j.false (p.1.each c.loop-j.j h ∙ e ∙ sym (p.1.each _ p.2)))
+    ])
 
 pub returns : goal.returns
 returns c =
