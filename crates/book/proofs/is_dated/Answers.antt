@@ -8,8 +8,7 @@ use lib.Dec.{eqb}
 use lib.ListN.{length, get_or}
 use borrow.Author.Rules.{rules}
 use Rattle.paper.specs.Dated.{is_dated}
-use Rattle.book.proofs.is_dated.Statement.{statement}
-use Rattle.book.proofs.is_dated.Tie as tie
+use Rattle.book.proofs.is_dated.Goals as goal
 
 -- by its first byte, and with none
 first_byte : (bytes : List ℕ) → 0 < length bytes → eqb (get_or bytes 0 0) 0 ≡ is_dated bytes
@@ -22,11 +21,8 @@ unfolding is_dated
 no_byte [] h = refl
 no_byte (b ∷ bs) h = absurd (h (omega arith))
 
-returns : tie.Need-returns
-returns c = first_byte _ c.before.if1.true
+pub returns-then-book-gt0 : goal.returns-then-book-gt0
+returns-then-book-gt0 c = first_byte _ c.if-book-gt0.true
 
-returns-2 : tie.Need-returns-2
-returns-2 c = no_byte _ (λ l. omega (arith, c.if1.false))
-
-pub is-dated-spec : {M : Type 1} → statement M
-is-dated-spec = tie.close (tie.spec (λ c. search rules) returns returns-2)
+pub returns-else-book-gt0 : goal.returns-else-book-gt0
+returns-else-book-gt0 c = no_byte _ (λ l. omega (arith, c.if-book-gt0.false))
