@@ -2,7 +2,7 @@
 #![tactic(auto)]
 
 // How many units share the work, the budget, and what all parts of the run have counted.
-#[derive(Drop)]
+#[derive(Clone, Copy)]
 pub struct Numbers {
     pub units: usize,
     pub budget: u32,
