@@ -1,4 +1,4 @@
--- `splice::grow` meets its contract: one symbol after the other is put right. Assumes nothing.
+-- Answers of `grow`. Assumes nothing.
 use mathlib.Core.List.{List}
 use mathlib.Core.Path.{◌≡◌, refl, ◌∙◌}
 use Prim.Native.Nat.{ℕ, ◌+◌, ◌-◌, ◌≤◌, ◌<◌}
@@ -8,14 +8,8 @@ use lib.ListN.{length, get_or, set, length-set}
 use lib.Seq.{get_or-set_same, get_or-set_other}
 use borrow.Author.Rules.{rules}
 use Rattle.splice.specs.Promises.{Regrown, GrownBefore}
-use Rattle.splice.proofs.grow.Statement.{statement}
-use Rattle.splice.proofs.grow.Tie as tie
-
--- the symbols before offset i are put right, those from there on are as they were
-record Passed (a e n i : ℕ) (xs ys : List ℕ) : Type 0 where
-  pub before : (j : ℕ) → j < i → Regrown a e n j (get_or xs j 0) (get_or ys j 0)
-  pub behind : (j : ℕ) → i ≤ j → get_or ys j 0 ≡ get_or xs j 0
-  pub long : length ys ≡ length xs
+use Rattle.splice.proofs.grow.Invariants.{Passed}
+use Rattle.splice.proofs.grow.Goals as goal
 
 none_passed : {a e n i : ℕ} {xs : List ℕ} → i ≡ 0 → Passed a e n i xs xs
 none_passed z = record { before = λ j l. absurd (omega arith); behind = λ j l. refl; long = refl }
@@ -37,38 +31,24 @@ passed_next {a} {e} {n = n} {i = i} {x} {xs} {ys} h p f g r =
 all-passed : {a e n i : ℕ} {xs ys : List ℕ} → i ≡ a → Passed a e n i xs ys → GrownBefore a e n xs ys
 all-passed z p = record { before = λ j l. p.before j (omega arith); behind = λ j l. p.behind j (omega arith); long = p.long }
 
-abbrev invariant-loop : tie.invariant-loop
-invariant-loop symbols₀ a e n first less more at₀ i₀ symbols at i = (i ≤ a) × (at ≡ i) × Passed a e n i symbols₀ symbols
+pub loop-i-init : goal.loop-i-init
+loop-i-init c = (omega arith, refl, none_passed refl)
 
-abbrev decreases-loop : tie.decreases-loop
-decreases-loop symbols₀ a e n first less more at₀ i₀ symbols at i = a - i
-
-loop-holds : tie.Need-loop-init invariant-loop decreases-loop
-loop-holds c = (omega arith, refl, none_passed refl)
-
-regrown-requires : tie.Need-regrown-requires invariant-loop decreases-loop
-regrown-requires c κs =
-    let l = c.before.before.loop in
-    let s = c.before.before.before in
-    let a = s.args in
+pub regrown-requires : goal.regrown-requires
+regrown-requires c =
+    let l = c.loop-i in
+    let a = c.args in
     let end : a.a + (a.e - a.a) ≡ a.e = omega arith in (
       omega arith,
       omega arith,
       omega arith,
-      rw (l.invariant.2.behind l.i (omega arith), l.invariant.1, end) (s.requires.nested l.i (omega arith)),
+      rw (l.invariant.2.behind l.i (omega arith), l.invariant.1, end) (c.requires.nested l.i (omega arith)),
     )
 
-loop-again : tie.Need-loop-preserved invariant-loop decreases-loop
-loop-again c =
-    let l = c.before.before.before.loop in
+pub loop-i-preserved : goal.loop-i-preserved
+loop-i-preserved c =
+    let l = c.loop-i in
     (omega arith, omega arith, passed_next (omega arith) l.invariant.2 l.invariant.1 (omega arith) c.regrown.ensures)
 
-returns : tie.Need-returns invariant-loop decreases-loop
-returns c = all-passed (omega arith) c.before.loop.invariant.2
-
-pub grow_spec : {M : Type 1} → statement M
-grow_spec =
-    tie.close
-    (tie.spec invariant-loop decreases-loop (λ c. search rules) (λ c. search rules) (λ c. search rules) (λ c. search rules) loop-holds (λ c. search rules)
-    (λ c. search rules) regrown-requires (λ c. search rules) (λ c. search rules) (λ c. search rules) (λ c. search rules) (λ c. search rules) loop-again
-    returns)
+pub returns : goal.returns
+returns c = all-passed (omega arith) c.loop-i.invariant.2
