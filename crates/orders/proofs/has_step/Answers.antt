@@ -9,4 +9,4 @@ returns-in-None c =
 
 pub returns-in_default : goal.returns-in_default
 returns-in_default c =
-    some_here c.requires.1 _ c.requires.0 c.step_at.result c.step_at.ensures c.in_default.keys2
+    some_here c.requires.1 _ c.requires.0 c.step_at.result c.step_at.ensures c.in_default.not-None

@@ -24,7 +24,7 @@ returns-in-Join c =
 
 pub loop-i-preserved : goal.loop-i-preserved
 loop-i-preserved c =
-    (omega arith, sym (count_past c.requires.1 _ c.loop-i-test.true c.step_at.result c.step_at.ensures c.in_default.keys3 _ refl) ∙ c.loop-i.invariant.1)
+    (omega arith, sym (count_past c.requires.1 _ c.loop-i-test.true c.step_at.result c.step_at.ensures c.in_default.not-None c.in_default.not-Join _ refl) ∙ c.loop-i.invariant.1)
 
 pub returns : goal.returns
 returns c =
