@@ -6,22 +6,18 @@ use lib.ListN.{take}
 use Rattle.symbol.specs.Record.{operators}
 use Rattle.rule.proofs.Parts.{operators_length, operator_in}
 use Rattle.rule.proofs.Matches.{head_at, head_end}
-use Rattle.rule.proofs.stands.Statement.{statement}
-use Rattle.rule.proofs.stands.Tie as tie
+use Rattle.rule.proofs.stands.Goals as goal
 
-returns : tie.Need-returns
-returns c =
-    let a = c.before.before.args in
+pub returns-then-at-len : goal.returns-then-at-len
+returns-then-at-len c =
+    let a = c.args in
     let s = a.symbols.now in
     let l = operators_length s a.len (omega arith) in
     sym (head_at a.at (operators (take a.len s)) a.o c.operator_at.result (omega arith) (c.operator_at.ensures ∙ operator_in s a.len (omega arith) a.at (omega arith)))
 
-returns-2 : tie.Need-returns-2
-returns-2 c =
-    let a = c.before.args in
+pub returns-else-at-len : goal.returns-else-at-len
+returns-else-at-len c =
+    let a = c.args in
     let s = a.symbols.now in
     let l = operators_length s a.len (omega arith) in
     sym (head_end a.at (operators (take a.len s)) a.o (omega arith))
-
-pub stands-spec : {M : Type 1} → statement M
-stands-spec = tie.close (tie.spec (λ c κs. search rules) returns returns-2)
