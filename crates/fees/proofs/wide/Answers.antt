@@ -4,11 +4,7 @@ use lib.IntN.{pos}
 use mir.Facts.{to_z-of_z}
 use mir.Syntax.{w64}
 use borrow.Author.Rules.{rules}
-use Rattle.fees.proofs.wide.Statement.{statement}
-use Rattle.fees.proofs.wide.Tie as tie
+use Rattle.fees.proofs.wide.Goals as goal
 
-returns : tie.Need-returns
+pub returns : goal.returns
 returns c = to_z-of_z {w = w64} {z = pos c.args.x} (record { sfits = omega (arith, c.ranges.x.fits) })
-
-pub wide_spec : {M : Type 1} → statement M
-wide_spec = tie.close (tie.spec (λ c. search rules) returns)
