@@ -2,7 +2,6 @@
 -- Assumes nothing.
 use mathlib.Core.Bool.{Bool, true, false}
 use mathlib.Core.List.{List, [], ◌∷◌}
-use mathlib.Core.Logic.{inl, inr}
 use mathlib.Core.Path.{◌≡◌, refl, sym, ap, ap₂, ◌∙◌}
 use Prim.Native.Nat.{ℕ, zero, suc, ◌+◌, ◌*◌, ◌-◌, ◌≤◌, ◌<◌}
 use native.Mathlib.Decide.{ℕ_discrete}
@@ -15,12 +14,11 @@ use lib.Seq.{get_or-set_same, get_or-set_other}
 use borrow.Author.Tests.{eq-eqb, ne_eqb}
 use Rattle.flat.specs.Machine.{Frame}
 use Rattle.flat.specs.Rules.{jobs_at, exits_to, same_pair, upto}
-use types.Run.{OneOf}
-use denote.Enum.Declared.{tag_of}
 use Rattle.units.specs.Frames.{flat}
 use Rattle.units.specs.Stacks.{height, base, stack_of, height_in, Store}
+use Rattle.units.specs.declared.frames.Exit.{Exit}
 use Rattle.units.specs.declared.frames.Frame as D
-use Rattle.units.specs.contracts.frames.Frame.{the_type}
+use Rattle.units.specs.declared.frames.Job.{Job}
 use Rattle.point_frames.specs.Counting.{Kept, Heights, stack_in, frame_in, place, jobs_of, exits_of, all_jobs, all_exits, JobsRoom, JobsAdded, ExitsRoom, ExitsAdded, JobsTallied, ExitsTallied}
 use Rattle.point_frames.proofs.Stacks.{heights, height_is, lowest, stack_none}
 
@@ -173,12 +171,12 @@ pub job_no_exit : (a k c v i : ℕ) → exits_to v i (Frame.job a k c ∷ []) �
 unfolding exits_to
 job_no_exit a k c v i = refl
 
-pub neither : (f : D.Frame) → OneOf (2 ∷ 3 ∷ []) (tag_of the_type f) → ((x : ℕ) → jobs_at x (flat f ∷ []) ≡ 0) × ((v i : ℕ) → exits_to v i (flat f ∷ []) ≡ 0)
+pub neither : (f : D.Frame) → ((x : Job) → f ≡ D.Frame.Job x → ⊥) → ((x : Exit) → f ≡ D.Frame.Exit x → ⊥) → ((x : ℕ) → jobs_at x (flat f ∷ []) ≡ 0) × ((v i : ℕ) → exits_to v i (flat f ∷ []) ≡ 0)
 unfolding jobs_at exits_to
-neither (D.Frame.Job x) q = elim q [ inl d ↦ absurd (omega arith) | inr d ↦ absurd (omega arith) ]
-neither (D.Frame.Exit x) q = elim q [ inl d ↦ absurd (omega arith) | inr d ↦ absurd (omega arith) ]
-neither D.Frame.Sleep q = (λ x. refl, λ v i. refl)
-neither D.Frame.Bingo q = (λ x. refl, λ v i. refl)
+neither (D.Frame.Job x) q r = absurd (q x refl)
+neither (D.Frame.Exit x) q r = absurd (r x refl)
+neither D.Frame.Sleep q r = (λ x. refl, λ v i. refl)
+neither D.Frame.Bingo q r = (λ x. refl, λ v i. refl)
 
 pub jobs_same : {f : ℕ → ℕ} {jobs : List ℕ} → ((x : ℕ) → f x ≡ 0) → length jobs ≡ 1024 → JobsAdded f jobs jobs
 jobs_same {f} {jobs} z long = record { long = long; is = λ x m. sym (ap (λ (y : ℕ). get_or jobs x 0 + y) (z x) ∙ add-zero (get_or jobs x 0)) }

@@ -1,14 +1,11 @@
 -- Laws of a frame and the one below it: what a job and an EXIT may stand on, and a stack from the top down. Assumes nothing.
 use mathlib.Core.Bool.{Bool, true, false, not}
 use mathlib.Core.List.{List, [], ◌∷◌}
-use mathlib.Core.Logic.{inl, inr}
 use mathlib.Core.Path.{◌≡◌, refl, sym, ap, ap₂, ◌∙◌}
 use Prim.Native.Nat.{ℕ, zero, suc, ◌+◌, ◌-◌, ◌<◌}
 use native.Mathlib.Omega.{arith}
 use lib.Dec.{eqb, leb}
 use lib.ListN.{length}
-use types.Run.{OneOf}
-use denote.Enum.Declared.{tag_of}
 use borrow.Author.Tests.{le-leb}
 use Rattle.paper.specs.Book.{Book}
 use Rattle.paper.proofs.Tests.{eqb_false}
@@ -18,8 +15,9 @@ use Rattle.flat.specs.Meets.{frame}
 use Rattle.flat.specs.Tested.{and, at_join, taken, carries, holds, stack_good}
 use Rattle.units.specs.Frames.{flat}
 use Rattle.units.specs.Stacks.{base, stack_of, height_in, Store}
+use Rattle.units.specs.declared.frames.Exit.{Exit}
 use Rattle.units.specs.declared.frames.Frame as D
-use Rattle.units.specs.contracts.frames.Frame.{the_type}
+use Rattle.units.specs.declared.frames.Job.{Job}
 use Rattle.point_frames.specs.declared.steps.Rest.{Rest}
 use Rattle.point_frames.specs.Steps.{Told}
 use Rattle.point_frames.specs.Counting.{frame_in}
@@ -75,12 +73,12 @@ module _ {operators symbols : List ℕ} where
   unfolding holds
   holds_sleep = record { is = λ B s q. refl }
 
-  pub holds_other : (f : D.Frame) → OneOf (1 ∷ 3 ∷ []) (tag_of the_type f) → ByTerm operators symbols (λ B s. holds B s (flat f ∷ [])) false
+  pub holds_other : (f : D.Frame) → ((x : Job) → f ≡ D.Frame.Job x → ⊥) → (f ≡ D.Frame.Sleep → ⊥) → ByTerm operators symbols (λ B s. holds B s (flat f ∷ [])) false
   unfolding holds
-  holds_other (D.Frame.Job x) q = elim q [ inl d ↦ absurd (omega arith) | inr d ↦ absurd (omega arith) ]
-  holds_other (D.Frame.Exit x) q = record { is = λ B s p. refl }
-  holds_other D.Frame.Sleep q = elim q [ inl d ↦ absurd (omega arith) | inr d ↦ absurd (omega arith) ]
-  holds_other D.Frame.Bingo q = record { is = λ B s p. refl }
+  holds_other (D.Frame.Job x) q r = absurd (q x refl)
+  holds_other (D.Frame.Exit x) q r = record { is = λ B s p. refl }
+  holds_other D.Frame.Sleep q r = absurd (r refl)
+  holds_other D.Frame.Bingo q r = record { is = λ B s p. refl }
 
 -- A STACK FROM THE TOP DOWN
 
@@ -142,12 +140,12 @@ module _ (B : Book) (s : FlatState) (v : ℕ) where
   unfolding stack_good and
   last_bingo = refl
 
-  pub last_other : (f : D.Frame) → OneOf (0 ∷ 1 ∷ []) (tag_of the_type f) → stack_good B s v (flat f ∷ []) ≡ false
+  pub last_other : (f : D.Frame) → (f ≡ D.Frame.Sleep → ⊥) → (f ≡ D.Frame.Bingo → ⊥) → stack_good B s v (flat f ∷ []) ≡ false
   unfolding stack_good carries holds and
-  last_other (D.Frame.Job x) q = refl
-  last_other (D.Frame.Exit x) q = refl
-  last_other D.Frame.Sleep q = elim q [ inl d ↦ absurd (omega arith) | inr d ↦ absurd (omega arith) ]
-  last_other D.Frame.Bingo q = elim q [ inl d ↦ absurd (omega arith) | inr d ↦ absurd (omega arith) ]
+  last_other (D.Frame.Job x) q r = refl
+  last_other (D.Frame.Exit x) q r = refl
+  last_other D.Frame.Sleep q r = absurd (q refl)
+  last_other D.Frame.Bingo q r = absurd (r refl)
 
 -- A FRAME ON ANOTHER
 
@@ -160,8 +158,8 @@ module _ {operators symbols : List ℕ} {k : Store} {n : ℕ} where
       ByPoint operators symbols k n (λ B s. stands B s (Frame.exit w i) g) r
   stands_exit w i g t = record { is = λ B s q. t.is B s q.said }
 
-  pub stands_other : (f : D.Frame) (g : Frame) → OneOf (2 ∷ 3 ∷ []) (tag_of the_type f) → ByPoint operators symbols k n (λ B s. stands B s (flat f) g) false
-  stands_other (D.Frame.Job x) g q = elim q [ inl d ↦ absurd (omega arith) | inr d ↦ absurd (omega arith) ]
-  stands_other (D.Frame.Exit x) g q = elim q [ inl d ↦ absurd (omega arith) | inr d ↦ absurd (omega arith) ]
-  stands_other D.Frame.Sleep g q = record { is = λ B s p. refl }
-  stands_other D.Frame.Bingo g q = record { is = λ B s p. refl }
+  pub stands_other : (f : D.Frame) (g : Frame) → ((x : Job) → f ≡ D.Frame.Job x → ⊥) → ((x : Exit) → f ≡ D.Frame.Exit x → ⊥) → ByPoint operators symbols k n (λ B s. stands B s (flat f) g) false
+  stands_other (D.Frame.Job x) g q r = absurd (q x refl)
+  stands_other (D.Frame.Exit x) g q r = absurd (r x refl)
+  stands_other D.Frame.Sleep g q r = record { is = λ B s p. refl }
+  stands_other D.Frame.Bingo g q r = record { is = λ B s p. refl }

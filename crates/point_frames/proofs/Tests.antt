@@ -7,8 +7,6 @@ use Prim.Native.Nat.{ℕ, zero, suc, ◌+◌, ◌-◌, ◌<◌}
 use native.Mathlib.Omega.{arith}
 use lib.Dec.{eqb, leb, ltb}
 use lib.ListN.{length, get_or, drop}
-use types.Run.{OneOf}
-use denote.Enum.Declared.{tag_of}
 use Rattle.paper.specs.Book.{Book, steps}
 use Rattle.paper.specs.Strategy.{Step}
 use Rattle.paper.proofs.Tests.{leb_cases, ltb_cases, eqb_true, eqb_false, ltb_true}
@@ -22,8 +20,9 @@ use Rattle.tables.specs.Layout.{arity_in, steps_in}
 use Rattle.term.specs.Present.{length_in}
 use Rattle.units.specs.Frames.{flat}
 use Rattle.units.specs.Stacks.{Store}
+use Rattle.units.specs.declared.frames.Exit.{Exit}
 use Rattle.units.specs.declared.frames.Frame as D
-use Rattle.units.specs.contracts.frames.Frame.{the_type}
+use Rattle.units.specs.declared.frames.Job.{Job}
 use Rattle.point_frames.specs.declared.steps.Rest.{Rest}
 use Rattle.point_frames.specs.Steps.{Told}
 use Rattle.point_frames.specs.Counting.{frame_in, all_exits}
@@ -38,9 +37,8 @@ NotJob (Frame.exit v i) = Unit {0}
 NotJob Frame.sleep = Unit {0}
 NotJob Frame.bingo = Unit {0}
 
-pub not_job : (f : D.Frame) → OneOf (1 ∷ 2 ∷ 3 ∷ []) (tag_of the_type f) → NotJob (flat f)
-not_job (D.Frame.Job x) q =
-    elim q [ inl d ↦ absurd (omega arith) | inr q ↦ elim q [ inl d ↦ absurd (omega arith) | inr d ↦ absurd (omega arith) ] ]
+pub not_job : (f : D.Frame) → ((x : Job) → f ≡ D.Frame.Job x → ⊥) → NotJob (flat f)
+not_job (D.Frame.Job x) q = absurd (q x refl)
 not_job (D.Frame.Exit x) q = tt
 not_job D.Frame.Sleep q = tt
 not_job D.Frame.Bingo q = tt
@@ -256,9 +254,9 @@ module _ {operators symbols : List ℕ} {k : Store} {n : ℕ} (v i : ℕ) {f : F
   unfolding frame_good
   good_exit w j e t = by_frame (λ B s f. frame_good B s v i f) e (record { is = λ B s q. t.is B s q })
 
-  pub good_other : (g : D.Frame) → f ≡ flat g → OneOf (2 ∷ 3 ∷ []) (tag_of the_type g) → ByPoint operators symbols k n (λ B s. frame_good B s v i f) true
+  pub good_other : (g : D.Frame) → f ≡ flat g → ((x : Job) → g ≡ D.Frame.Job x → ⊥) → ((x : Exit) → g ≡ D.Frame.Exit x → ⊥) → ByPoint operators symbols k n (λ B s. frame_good B s v i f) true
   unfolding frame_good
-  good_other (D.Frame.Job x) e q = elim q [ inl d ↦ absurd (omega arith) | inr d ↦ absurd (omega arith) ]
-  good_other (D.Frame.Exit x) e q = elim q [ inl d ↦ absurd (omega arith) | inr d ↦ absurd (omega arith) ]
-  good_other D.Frame.Sleep e q = by_frame (λ B s f. frame_good B s v i f) e (record { is = λ B s p. refl })
-  good_other D.Frame.Bingo e q = by_frame (λ B s f. frame_good B s v i f) e (record { is = λ B s p. refl })
+  good_other (D.Frame.Job x) e q r = absurd (q x refl)
+  good_other (D.Frame.Exit x) e q r = absurd (r x refl)
+  good_other D.Frame.Sleep e q r = by_frame (λ B s f. frame_good B s v i f) e (record { is = λ B s p. refl })
+  good_other D.Frame.Bingo e q r = by_frame (λ B s f. frame_good B s v i f) e (record { is = λ B s p. refl })

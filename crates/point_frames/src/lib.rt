@@ -1,6 +1,8 @@
 // The rules of a saved point that concern frames and stacks (document 02, Change 11; flat/specs/Tested), tested in time linear in symbols and frames. Offsets
 // come first, so that a job's steps and arguments are read inside the term; then jobs and EXITs are counted; then each frame is tested by itself and with the
 // one below it.
+#![tactic(auto)]
+
 mod steps;
 mod tally;
 

@@ -9,7 +9,7 @@ use tables::Step;
 
 // Of some steps: whether there is one, whether the next is a JOIN, whether a JOIN comes before any WHOLE, the count of the next JOIN, the FORKs before it, and
 // how many arguments they name.
-#[derive(Drop)]
+#[derive(Clone, Copy)]
 pub struct Rest {
     pub some: bool,
     pub joins: bool,

@@ -1,7 +1,6 @@
 -- The laws that the loops cite: heights read one after another, frames passed from the top down, units counted, tests one by one. Assumes nothing.
 use mathlib.Core.Bool.{Bool, true, false, false≢true}
 use mathlib.Core.List.{List, [], ◌∷◌}
-use mathlib.Core.Logic.{inl, inr}
 use mathlib.Core.Path.{◌≡◌, refl, sym, ap, ap₂, ◌∙◌}
 use Prim.Native.Nat.{ℕ, suc, ◌+◌, ◌*◌, ◌-◌, ◌≤◌, ◌<◌}
 use native.Mathlib.Omega.{arith}
@@ -10,8 +9,6 @@ use lib.Dec.{eqb}
 use lib.ListN.{length, get_or, set, length-set, get_or-eq_default}
 use lib.Seq.{get_or-set_same, get_or-set_other}
 use borrow.Author.Tests.{lt-ltb, le-ltb}
-use types.Run.{OneOf}
-use denote.Enum.Declared.{tag_of}
 use Rattle.flat.specs.Machine as F
 use Rattle.flat.specs.Tested.{and, or}
 use Rattle.units.specs.Frames.{flat, frame_at, InThreeBytes}
@@ -19,7 +16,6 @@ use Rattle.units.specs.Stacks.{height, base, stack_of, height_in, Store}
 use Rattle.units.specs.Promises.{StacksFit}
 use Rattle.units.specs.declared.frames.Exit.{Exit}
 use Rattle.units.specs.declared.frames.Frame as D
-use Rattle.units.specs.contracts.frames.Frame.{the_type}
 use Rattle.units.proofs.Stacks.{length_stack, top}
 use Rattle.placing.specs.Order.{latest_first}
 use Rattle.point_order.specs.Passing.{highest_exit, part_of, lowered, without, stands, holds, none_left, takes, passes}
@@ -54,13 +50,13 @@ module _ (w : List ℕ) (from k m : ℕ) (e : m ≡ k + 1) (z : D.Frame) (d : fl
   highest_here x q =
       highest_next ∙ ap (λ (y : D.Frame). highest_exit (flat y ∷ stack_of w from k)) q ∙ ap (λ (n : ℕ). Highest.Exit n x) (length_stack w from k)
 
-  pub highest_past : OneOf (0 ∷ 2 ∷ 3 ∷ []) (tag_of the_type z) → highest_exit (stack_of w from m) ≡ highest_exit (stack_of w from k)
+  pub highest_past : ((x : Exit) → z ≡ D.Frame.Exit x → ⊥) → highest_exit (stack_of w from m) ≡ highest_exit (stack_of w from k)
   unfolding highest_exit
   highest_past q = highest_next ∙ go z q
     where
-      go : (y : D.Frame) → OneOf (0 ∷ 2 ∷ 3 ∷ []) (tag_of the_type y) → highest_exit (flat y ∷ stack_of w from k) ≡ highest_exit (stack_of w from k)
+      go : (y : D.Frame) → ((x : Exit) → y ≡ D.Frame.Exit x → ⊥) → highest_exit (flat y ∷ stack_of w from k) ≡ highest_exit (stack_of w from k)
       go (D.Frame.Job x) o = refl
-      go (D.Frame.Exit x) o = elim o [ inl a ↦ absurd (omega arith) | inr o ↦ elim o [ inl a ↦ absurd (omega arith) | inr a ↦ absurd (omega arith) ] ]
+      go (D.Frame.Exit x) o = absurd (o x refl)
       go D.Frame.Sleep o = refl
       go D.Frame.Bingo o = refl
 

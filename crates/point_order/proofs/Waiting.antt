@@ -1,14 +1,11 @@
 -- Laws of a waiting unit: the operator of a symbol, whether its step is a JOIN, the frame on top. Assumes nothing.
 use mathlib.Core.Bool.{Bool, true, false}
 use mathlib.Core.List.{List, [], ◌∷◌}
-use mathlib.Core.Logic.{inl, inr}
 use mathlib.Core.Path.{◌≡◌, refl, sym, ap, ap₂, ◌∙◌}
 use Prim.Native.Nat.{ℕ, zero, suc, ◌+◌, ◌-◌, ◌*◌, ◌≤◌, ◌<◌}
 use native.Mathlib.Omega.{arith}
 use lib.ListN.{length, get_or, drop, drop_of_length-le, get_or-eq_default}
 use borrow.Author.Tests.{lt-ltb}
-use types.Run.{OneOf}
-use denote.Enum.Declared.{tag_of}
 use Rattle.paper.specs.Book.{Book, steps}
 use Rattle.paper.specs.Strategy.{Step}
 use Rattle.flat.specs.Machine as F
@@ -24,7 +21,6 @@ use Rattle.units.specs.Frames.{flat, frame_at}
 use Rattle.units.specs.Stacks.{base, stack_of, height_in, Store, unit_in}
 use Rattle.units.specs.declared.frames.Job.{Job}
 use Rattle.units.specs.declared.frames.Frame as G
-use Rattle.units.specs.contracts.frames.Frame.{the_type}
 use Rattle.units.proofs.Stacks.{top}
 use Rattle.point_order.specs.Promises.{Told, JobWaits, UnitWaits}
 use Rattle.point_order.proofs.Tests.{and_true, and_false}
@@ -50,23 +46,16 @@ module _ {operators : List ℕ} {o : ℕ} (r : Rowed operators o) (k : ℕ) wher
     unfolding at_join
     join_here c d = sym (ap at_join (rw d at (here_is r k l (step z) e)).0)
 
-    pub join_other : OneOf (0 ∷ 1 ∷ 2 ∷ 3 ∷ []) (tag_of S.the_type z) → false ≡ at_join (drop k (steps_in operators o))
+    pub join_other : ((c : ℕ) → z ≡ D.Step.Join c → ⊥) → false ≡ at_join (drop k (steps_in operators o))
     unfolding at_join
     join_other q = go z e q
       where
-        four : OneOf (0 ∷ 1 ∷ 2 ∷ 3 ∷ []) 4 → ⊥
-        four q =
-            elim q [
-              | inl a ↦ omega arith
-              | inr q ↦ elim q [ inl a ↦ omega arith | inr q ↦ elim q [ inl a ↦ omega arith | inr a ↦ omega arith ] ]
-            ]
-
-        go : (y : D.Step) → step y ≡ step_of (code_in operators o k) → OneOf (0 ∷ 1 ∷ 2 ∷ 3 ∷ []) (tag_of S.the_type y) → false ≡ at_join (drop k (steps_in operators o))
+        go : (y : D.Step) → step y ≡ step_of (code_in operators o k) → ((c : ℕ) → y ≡ D.Step.Join c → ⊥) → false ≡ at_join (drop k (steps_in operators o))
         go D.Step.None d q = sym (ap at_join (here_is r k l _ d))
         go D.Step.Whole d q = sym (ap at_join (here_is r k l _ d).0)
         go (D.Step.Visit i) d q = sym (ap at_join (here_is r k l _ d).0)
         go (D.Step.Fork i) d q = sym (ap at_join (here_is r k l _ d).0)
-        go (D.Step.Join c) d q = absurd (four q)
+        go (D.Step.Join c) d q = absurd (q c refl)
 
 -- A JOB
 
@@ -122,12 +111,12 @@ module _ (operators symbols : List ℕ) (s : Store) (u h from : ℕ) (d : h ≡ 
   unfolding waits
   unit_sleep q = unit_waits true (λ B z t. ap (λ (y : G.Frame). waits B z (flat y ∷ below)) (sym q))
 
-  pub unit_other : OneOf (1 ∷ 3 ∷ []) (tag_of the_type f) → UnitWaits operators symbols s u false
+  pub unit_other : ((x : Job) → f ≡ G.Frame.Job x → ⊥) → (f ≡ G.Frame.Sleep → ⊥) → UnitWaits operators symbols s u false
   unfolding waits
-  unit_other o = unit_waits false (λ B z t. go B z f o)
+  unit_other o q = unit_waits false (λ B z t. go B z f o q)
     where
-      go : (B : Book) (z : F.FlatState) (y : G.Frame) → OneOf (1 ∷ 3 ∷ []) (tag_of the_type y) → false ≡ waits B z (flat y ∷ below)
-      go B z (G.Frame.Job x) o = elim o [ inl a ↦ absurd (omega arith) | inr a ↦ absurd (omega arith) ]
-      go B z (G.Frame.Exit x) o = refl
-      go B z G.Frame.Sleep o = elim o [ inl a ↦ absurd (omega arith) | inr a ↦ absurd (omega arith) ]
-      go B z G.Frame.Bingo o = refl
+      go : (B : Book) (z : F.FlatState) (y : G.Frame) → ((x : Job) → y ≡ G.Frame.Job x → ⊥) → (y ≡ G.Frame.Sleep → ⊥) → false ≡ waits B z (flat y ∷ below)
+      go B z (G.Frame.Job x) o q = absurd (o x refl)
+      go B z (G.Frame.Exit x) o q = refl
+      go B z G.Frame.Sleep o q = absurd (q refl)
+      go B z G.Frame.Bingo o q = refl

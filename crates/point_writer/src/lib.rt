@@ -1,4 +1,6 @@
 // A saved run in arrays, written as packed fields (document 02, Change 11), as flat/specs/Form says.
+#![tactic(auto)]
+
 ghost use Rattle.std.specs.Prelude.{◌≡◌, ◌+◌, ◌*◌, ◌^◌, ◌≤◌, ◌<◌, length, take};
 ghost use Rattle.paper.specs.Bits.{to_bits};
 ghost use Rattle.paper.specs.Sound.{All};

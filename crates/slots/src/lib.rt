@@ -1,4 +1,6 @@
 // The place of a named point (document 02, Change 11), as specs/Slot says: its name, and behind the name what was saved under it.
+#![tactic(auto)]
+
 ghost use Rattle.std.specs.Prelude.{◌++◌, ◌≡◌, ◌+◌, ◌≤◌, length, drop, replicate};
 ghost use Rattle.stream.specs.Promises.{WrittenAt};
 ghost use Rattle.point.specs.Saved.{Arrays, arrays, saved};

@@ -11,7 +11,7 @@ pub const HEIGHT: usize = 1026;
 
 // A term in work: its offset; its next order, 0 if that is its VISIT and otherwise one more than the order's index in its operator's steps; the count
 // of its next JOIN.
-#[derive(Drop)]
+#[derive(Clone, Copy)]
 pub struct Job {
     pub offset: u16,
     pub next: u8,
@@ -19,13 +19,13 @@ pub struct Job {
 }
 
 // An EXIT: the unit of its JOIN, and the index of its JOIN's job on that unit's stack.
-#[derive(Drop)]
+#[derive(Clone, Copy)]
 pub struct Exit {
     pub unit: u8,
     pub index: u16,
 }
 
-#[derive(Drop)]
+#[derive(Clone, Copy)]
 pub enum Frame {
     Job(Job),
     Exit(Exit),

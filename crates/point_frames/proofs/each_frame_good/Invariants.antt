@@ -1,0 +1,24 @@
+-- `point_frames::each_frame_good` meets its contract: the loop's invariant: all frames are good exactly if the lowest h are. Assumes nothing.
+use mathlib.Core.Path.{◌≡◌, ap, ◌∙◌}
+use Prim.Native.Nat.{◌-◌, ◌≤◌, ◌<◌}
+use native.Mathlib.Omega.{arith}
+use borrow.Author.Rules.{rules}
+use borrow.Author.Tests.{not-true, not-false}
+use Rattle.paper.specs.Book.{Book}
+use Rattle.flat.specs.Machine.{FlatState}
+use Rattle.flat.specs.Tested.{each_frame}
+use Rattle.flat.specs.Tested as T
+use Rattle.units.specs.Stacks.{base, stack_of, height_in, store}
+use Rattle.point_frames.specs.Counting.{stack_in}
+use Rattle.point_frames.specs.Promises.{Point}
+use Rattle.point_frames.proofs.Stacks.{heights, stack_some, frames_none, frames_pass, frames_fail}
+use Rattle.point_frames.proofs.each_frame_good.Given as goal
+
+abbrev pub invariant-loop-h : goal.invariant-loop-h
+invariant-loop-h l =
+    (l.h ≤ height_in l.cells l.v)
+    × ((B : Book) (s : FlatState) → Point l.operators l.symbols (store l.work l.cells) l.units B s →
+    each_frame (T.frame_good B s l.v) (stack_in (store l.work l.cells) l.units l.v) ≡ each_frame (T.frame_good B s l.v) (stack_of l.work (base l.v) l.h))
+
+abbrev pub decreases-loop-h : goal.decreases-loop-h
+decreases-loop-h l = l.h

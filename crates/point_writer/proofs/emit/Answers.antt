@@ -1,0 +1,8 @@
+-- `point_writer::emit` meets its contract. Assumes nothing.
+use native.Mathlib.Omega.{arith}
+use borrow.Author.Rules.{rules}
+use Rattle.point_writer.proofs.Puts.{put_field}
+use Rattle.point_writer.proofs.emit.Goals as goal
+
+pub returns : goal.returns
+returns c = (put_field _ _ _ c.put.ensures (omega arith), omega arith)

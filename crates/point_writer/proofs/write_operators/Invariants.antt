@@ -1,0 +1,24 @@
+-- `point_writer::write_operators` meets its contract. The loop's invariant: what puts the operators that are left puts them all. The measure is how many are left.
+-- Assumes nothing.
+use mathlib.Core.List.{List}
+use mathlib.Core.Path.{◌≡◌, refl, ap, ◌∙◌}
+use Prim.Native.Nat.{ℕ, ◌+◌, ◌*◌, ◌-◌, ◌≤◌}
+use native.Mathlib.Omega.{arith}
+use lib.ListN.{length, take, drop}
+use Rattle.paper.specs.Bits.{to_bits}
+use Rattle.paper.specs.Writer.{concat}
+use Rattle.symbol.specs.Record.{operator, operators}
+use Rattle.point_writer.specs.Promises.{Put}
+use Rattle.point_writer.proofs.Puts.{put_none, put_as, put_both}
+use Rattle.point_writer.proofs.Fields.{symbols_end, symbols_more}
+use borrow.Author.Rules.{rules}
+use Rattle.point_writer.proofs.write_operators.Given as goal
+
+abbrev pub invariant-loop-i : goal.invariant-loop-i
+invariant-loop-i l =
+    (l.i ≤ l.n) × (l.to ≡ l.at + 8 * l.i) × (length l.out ≡ length l.initial.out)
+    × ((out' : List ℕ) (r : ℕ) → Put l.to (concat (to_bits 8) (operators (drop l.i (take l.n l.symbols)))) l.out out' r →
+    Put l.at (concat (to_bits 8) (operators (take l.n l.symbols))) l.initial.out out' r)
+
+abbrev pub decreases-loop-i : goal.decreases-loop-i
+decreases-loop-i l = l.n - l.i

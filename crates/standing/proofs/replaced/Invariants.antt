@@ -1,0 +1,19 @@
+-- `standing::replaced` meets its contract. The loop's invariant: the rules from j on decide. The measure is how many are left. Assumes nothing.
+use mathlib.Core.Logic.{⊎_elim}
+use mathlib.Core.Path.{◌≡◌, refl, sym, ◌∙◌}
+use Prim.Native.Nat.{◌-◌, ◌<◌}
+use native.Mathlib.Omega.{arith}
+use lib.ListN.{length, take, drop}
+use borrow.Author.Rules.{rules}
+use Rattle.paper.specs.Dated as P
+use Rattle.standing.specs.Dates.{left_at, rules_of}
+use Rattle.standing.proofs.Rules.{number_small, replaces_other, replaced_found, replaced_next, replaced_none}
+use Rattle.standing.proofs.replaced.Given as goal
+
+abbrev pub invariant-loop-j : goal.invariant-loop-j
+invariant-loop-j l =
+    P.replaced l.first l.last (left_at (rules_of l.book) l.i) (drop l.from (take l.to (rules_of l.book)))
+    ≡ P.replaced l.first l.last (left_at (rules_of l.book) l.i) (drop l.j (take l.to (rules_of l.book)))
+
+abbrev pub decreases-loop-j : goal.decreases-loop-j
+decreases-loop-j l = l.to - l.j
