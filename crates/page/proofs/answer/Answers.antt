@@ -8,7 +8,6 @@ use Rattle.paper.specs.Page.{line, refused_word}
 use Rattle.engine.specs.declared.Answer as A
 use Rattle.page.specs.Promises.{lines}
 use Rattle.stream.proofs.Puts.{put_as}
-use borrow.Author.Rules.{rules}
 use Rattle.page.proofs.answer.Goals as goal
 
 pub slice_bounds-run_lines-end : goal.slice_bounds-run_lines-end

@@ -1,11 +1,7 @@
 -- Answers of `begins`. Assumes nothing.
-use Rattle.page.specs.Spec as S
 use Rattle.page.proofs.Prefix.{begins_all, begins_short, begins_other, begins_more}
-use mathlib.Core.Path.{◌≡◌, refl, sym, ◌∙◌}
-use Prim.Native.Nat.{◌-◌, ◌≤◌}
+use mathlib.Core.Path.{refl, sym, ◌∙◌}
 use native.Mathlib.Omega.{arith}
-use lib.ListN.{length, drop}
-use borrow.Author.Rules.{rules}
 use Rattle.page.proofs.begins.Goals as goal
 
 pub loop-i-init : goal.loop-i-init

@@ -1,12 +1,9 @@
 -- `page::begins` meets its contract. The loop's invariant: the bytes begin with the line if the bytes from i on begin with the line's rest. The
 -- measure is how many bytes of the line are left. Assumes nothing.
 use Rattle.page.specs.Spec as S
-use Rattle.page.proofs.Prefix.{begins_all, begins_short, begins_other, begins_more}
-use mathlib.Core.Path.{◌≡◌, refl, sym, ◌∙◌}
+use mathlib.Core.Path.{◌≡◌}
 use Prim.Native.Nat.{◌-◌, ◌≤◌}
-use native.Mathlib.Omega.{arith}
 use lib.ListN.{length, drop}
-use borrow.Author.Rules.{rules}
 use Rattle.page.proofs.begins.Given as goal
 
 abbrev pub invariant-loop-i : goal.invariant-loop-i

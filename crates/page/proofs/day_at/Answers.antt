@@ -1,8 +1,6 @@
 -- `page::day_at` meets its contract, by a law of the day for each way out. Assumes nothing.
 use mathlib.Core.Path.{refl, ◌∙◌}
 use native.Mathlib.Omega.{arith}
-use borrow.Author.Rules.{rules}
-use borrow.Author.Tests.{not-true, not-false}
 use Rattle.page.proofs.Input.{day_undated, day_cut, day_there}
 use Rattle.page.proofs.day_at.Goals as goal
 

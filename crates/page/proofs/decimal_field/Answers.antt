@@ -6,7 +6,6 @@ use mathlib.Core.Path.{◌≡◌, ap, ◌∙◌}
 use Prim.Native.Nat.{ℕ, ◌-◌}
 use native.Mathlib.Omega.{arith}
 use Rattle.stream.proofs.Puts.{put_as, put_both}
-use borrow.Author.Rules.{rules}
 use Rattle.page.proofs.decimal_field.Goals as goal
 
 pub returns : goal.returns

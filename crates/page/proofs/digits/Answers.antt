@@ -1,11 +1,9 @@
 -- Answers of `digits`. Assumes nothing.
-use Rattle.paper.specs.Page as D
 use Rattle.page.proofs.Decimals.{digits_start, digit_last, digit_more, digits_none}
-use mathlib.Core.Path.{◌≡◌, ◌∙◌}
-use Prim.Native.Nat.{◌-◌, ◌≤◌}
+use mathlib.Core.Path.{◌∙◌}
+use Prim.Native.Nat.{◌-◌}
 use native.Mathlib.Omega.{arith}
-use lib.ListN.{length, drop, length-set}
-use borrow.Author.Rules.{rules}
+use lib.ListN.{length-set}
 use Rattle.page.proofs.digits.Goals as goal
 
 pub loop-i-init : goal.loop-i-init

@@ -1,12 +1,9 @@
 -- `page::digits` meets its contract. The loop's invariant: the digits of what is left, put before those that stand from i on, are all digits. The
 -- measure is i. Assumes nothing.
 use Rattle.paper.specs.Page as D
-use Rattle.page.proofs.Decimals.{digits_start, digit_last, digit_more, digits_none}
-use mathlib.Core.Path.{◌≡◌, ◌∙◌}
-use Prim.Native.Nat.{◌-◌, ◌≤◌}
-use native.Mathlib.Omega.{arith}
-use lib.ListN.{length, drop, length-set}
-use borrow.Author.Rules.{rules}
+use mathlib.Core.Path.{◌≡◌}
+use Prim.Native.Nat.{◌≤◌}
+use lib.ListN.{length, drop}
 use Rattle.page.proofs.digits.Given as goal
 
 abbrev pub invariant-loop-i : goal.invariant-loop-i

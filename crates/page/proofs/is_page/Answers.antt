@@ -1,6 +1,5 @@
 -- `page::is_page` meets its contract: the byte string is the fixed line. Assumes nothing.
 use Rattle.paper.specs.Page.{line}
-use borrow.Author.Rules.{rules}
 use Rattle.page.proofs.is_page.Goals as goal
 
 pub returns : goal.returns

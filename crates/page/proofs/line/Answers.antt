@@ -2,7 +2,6 @@
 use native.Mathlib.Omega.{arith}
 use Rattle.stream.proofs.Puts.{put_as, put_both}
 use Rattle.page.proofs.Decimals.{one_field}
-use borrow.Author.Rules.{rules}
 use Rattle.page.proofs.line.Goals as goal
 
 pub returns : goal.returns

@@ -2,7 +2,6 @@
 use mathlib.Core.Path.{sym}
 use native.Mathlib.Omega.{arith}
 use lib.Seq.{length-take-le}
-use borrow.Author.Rules.{rules}
 use Rattle.page.proofs.Laws.{paged_ended, paged_filled}
 use Rattle.page.proofs.of_buffer.Goals as goal
 

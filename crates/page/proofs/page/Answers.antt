@@ -4,7 +4,6 @@ use native.Mathlib.Omega.{arith}
 use Rattle.paper.specs.Page.{line}
 use Rattle.stream.proofs.Puts.{put_as, put_both}
 use Rattle.page.proofs.Lines.{page_cut, page_whole, paged}
-use borrow.Author.Rules.{rules}
 use Rattle.page.proofs.page.Goals as goal
 
 pub run_page-requires : goal.run_page-requires

@@ -1,7 +1,6 @@
 -- `page::parts_of` meets its contract, by a law of the parts for each way out. Assumes nothing.
 use native.Mathlib.Omega.{arith}
 use Rattle.page.proofs.Input.{cut_first, cut_second, cut_rest, cut_day, cut_over, whole}
-use borrow.Author.Rules.{rules}
 use Rattle.page.proofs.parts_of.Goals as goal
 
 pub returns-in_default : goal.returns-in_default

@@ -2,12 +2,11 @@
 use mathlib.Core.List.{List}
 use lib.Seq.{paste, paste-zero, paste-suc}
 use Rattle.stream.proofs.Puts.{put_all}
-use mathlib.Core.Path.{◌≡◌, sym, ap, ◌∙◌}
-use Prim.Native.Nat.{ℕ, ◌+◌, ◌-◌, ◌≤◌}
+use mathlib.Core.Path.{sym, ap, ◌∙◌}
+use Prim.Native.Nat.{ℕ, ◌+◌}
 use native.Mathlib.Omega.{arith}
 use native.Mathlib.Numerals.{add-one}
-use lib.ListN.{length, get_or, set}
-use borrow.Author.Rules.{rules}
+use lib.ListN.{get_or, set}
 use Rattle.page.proofs.put.Goals as goal
 
 pub loop-i-init : goal.loop-i-init

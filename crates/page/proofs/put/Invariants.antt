@@ -1,13 +1,8 @@
 -- `page::put` meets its contract. The loop's invariant: the first i bytes are copied. The measure is how many are left. Assumes nothing.
-use mathlib.Core.List.{List}
-use lib.Seq.{paste, paste-zero, paste-suc}
-use Rattle.stream.proofs.Puts.{put_all}
-use mathlib.Core.Path.{◌≡◌, sym, ap, ◌∙◌}
-use Prim.Native.Nat.{ℕ, ◌+◌, ◌-◌, ◌≤◌}
-use native.Mathlib.Omega.{arith}
-use native.Mathlib.Numerals.{add-one}
-use lib.ListN.{length, get_or, set}
-use borrow.Author.Rules.{rules}
+use lib.Seq.{paste}
+use mathlib.Core.Path.{◌≡◌}
+use Prim.Native.Nat.{◌-◌, ◌≤◌}
+use lib.ListN.{length}
 use Rattle.page.proofs.put.Given as goal
 
 abbrev pub invariant-loop-i : goal.invariant-loop-i

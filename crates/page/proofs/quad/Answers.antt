@@ -1,7 +1,6 @@
 -- `page::quad` meets its contract, by the law of four bytes. Assumes nothing.
 use native.Mathlib.Omega.{arith}
 use Rattle.stream.proofs.Numbers.{number_four}
-use borrow.Author.Rules.{rules}
 use Rattle.page.proofs.quad.Goals as goal
 
 pub returns : goal.returns

@@ -4,7 +4,6 @@ use mathlib.Core.Path.{ap}
 use Prim.Native.Nat.{ℕ}
 use Rattle.paper.specs.Page.{line, end_word, rewrites_word}
 use Rattle.stream.proofs.Puts.{put_as, put_both}
-use borrow.Author.Rules.{rules}
 use Rattle.page.proofs.run_lines.Goals as goal
 
 pub returns : goal.returns

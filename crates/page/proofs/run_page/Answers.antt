@@ -1,13 +1,11 @@
 -- `page::run_page` meets its contract: the engine's answer is that of the request that was read. Assumes nothing.
 use mathlib.Core.List.{List}
-use mathlib.Core.Path.{◌∙◌}
-use Prim.Native.Nat.{ℕ, ◌+◌, ◌-◌}
+use Prim.Native.Nat.{ℕ, ◌-◌}
 use native.Mathlib.Omega.{arith}
 use lib.ListN.{length, drop, length-drop, length-replicate}
 use lib.Seq.{take_all}
 use Rattle.stream.proofs.Puts.{put_as}
 use Rattle.page.proofs.Lines.{reduced_fits, reduced_lines}
-use borrow.Author.Rules.{rules}
 use Rattle.page.proofs.run_page.Goals as goal
 
 pub answer-requires : goal.answer-requires

@@ -1,14 +1,8 @@
 -- Answers of `symbols`. Assumes nothing.
-use mathlib.Core.List.{List}
-use Rattle.paper.specs.Page.{spaced}
-use Rattle.stream.specs.Promises.{WrittenAt}
 use Rattle.stream.proofs.Puts.{put_none, put_as, put_both}
 use Rattle.page.proofs.Decimals.{field_short, spaced_more, spaced_end}
-use mathlib.Core.Path.{◌≡◌, ◌∙◌}
-use Prim.Native.Nat.{ℕ, ◌+◌, ◌*◌, ◌-◌, ◌≤◌}
+use mathlib.Core.Path.{◌∙◌}
 use native.Mathlib.Omega.{arith}
-use lib.ListN.{length, drop}
-use borrow.Author.Rules.{rules}
 use Rattle.page.proofs.symbols.Goals as goal
 
 pub loop-i-init : goal.loop-i-init

@@ -1,7 +1,6 @@
 -- `page::term_line` meets its contract: its three parts stand one after another. Assumes nothing.
 use Rattle.stream.proofs.Puts.{put_as, put_both}
 use Rattle.page.proofs.Decimals.{all_fields}
-use borrow.Author.Rules.{rules}
 use Rattle.page.proofs.term_line.Goals as goal
 
 pub returns : goal.returns
