@@ -1,5 +1,4 @@
 -- `apart::find` meets its contract: left sides are apart where their cells are parted. Assumes nothing.
-use borrow.Author.Rules.{rules}
 use Rattle.apart.proofs.Books.{built_cells, built_rows}
 use Rattle.apart.proofs.find.Goals as goal
 

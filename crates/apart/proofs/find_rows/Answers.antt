@@ -1,10 +1,7 @@
 -- Answers of `find_rows`. Assumes nothing.
-use mathlib.Core.Path.{◌≡◌, refl}
-use Prim.Native.Nat.{◌-◌, ◌≤◌}
+use mathlib.Core.Path.{refl}
 use native.Mathlib.Omega.{arith}
-use lib.ListN.{length}
-use borrow.Author.Rules.{rules}
-use Rattle.apart.proofs.Words.{FoundBefore, found_none, found_next, found_all}
+use Rattle.apart.proofs.Words.{found_none, found_next, found_all}
 use Rattle.apart.proofs.find_rows.Goals as goal
 
 pub loop-w-init : goal.loop-w-init

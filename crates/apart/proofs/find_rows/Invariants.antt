@@ -1,10 +1,8 @@
 -- `apart::find_rows` meets its contract: the bits before word w are found. Assumes nothing.
-use mathlib.Core.Path.{◌≡◌, refl}
+use mathlib.Core.Path.{◌≡◌}
 use Prim.Native.Nat.{◌-◌, ◌≤◌}
-use native.Mathlib.Omega.{arith}
 use lib.ListN.{length}
-use borrow.Author.Rules.{rules}
-use Rattle.apart.proofs.Words.{FoundBefore, found_none, found_next, found_all}
+use Rattle.apart.proofs.Words.{FoundBefore}
 use Rattle.apart.proofs.find_rows.Given as goal
 
 abbrev pub invariant-loop-w : goal.invariant-loop-w

@@ -1,7 +1,6 @@
 -- `apart::find_word` meets its contract: the words differ in the bits of the rules that are parted. Assumes nothing.
 use mathlib.Core.Path.{refl}
 use native.Mathlib.Omega.{arith}
-use borrow.Author.Rules.{rules}
 use Rattle.apart.proofs.Words.{word_found}
 use Rattle.apart.proofs.find_word.Goals as goal
 

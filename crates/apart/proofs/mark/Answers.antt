@@ -1,11 +1,6 @@
 -- Answers of `mark`. Assumes nothing.
-use mathlib.Core.Path.{◌≡◌, refl, sym, ◌∙◌}
-use Prim.Native.Nat.{◌-◌, ◌≤◌}
+use mathlib.Core.Path.{refl, sym, ◌∙◌}
 use native.Mathlib.Omega.{arith}
-use lib.ListN.{drop}
-use borrow.Author.Rules.{rules}
-use Rattle.overlap.specs.Trie.{cells}
-use Rattle.apart.specs.Rows.{places_of, mark_all}
 use Rattle.apart.proofs.Cells.{node_inside, place_inside, mark_places, mark_nodes, mark_end, mark_places_end}
 use Rattle.apart.proofs.mark.Goals as goal
 

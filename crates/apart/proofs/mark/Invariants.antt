@@ -1,12 +1,9 @@
 -- `apart::mark` meets its contract: the cells from the k-th on are left to mark. Assumes nothing.
-use mathlib.Core.Path.{◌≡◌, refl, sym, ◌∙◌}
+use mathlib.Core.Path.{◌≡◌}
 use Prim.Native.Nat.{◌-◌, ◌≤◌}
-use native.Mathlib.Omega.{arith}
 use lib.ListN.{drop}
-use borrow.Author.Rules.{rules}
 use Rattle.overlap.specs.Trie.{cells}
 use Rattle.apart.specs.Rows.{places_of, mark_all}
-use Rattle.apart.proofs.Cells.{node_inside, place_inside, mark_places, mark_nodes, mark_end, mark_places_end}
 use Rattle.apart.proofs.mark.Given as goal
 
 abbrev pub invariant-loop-k : goal.invariant-loop-k

@@ -1,12 +1,11 @@
 -- Answers of `mark_word`. Assumes nothing.
 use mathlib.Core.Path.{◌∙◌}
-use Prim.Native.Nat.{◌-◌, ◌≤◌}
+use Prim.Native.Nat.{◌-◌}
 use native.Mathlib.Nat.{one-mul}
 use native.Mathlib.Omega.{arith}
 use lib.Pow.{shl_exact}
-use borrow.Author.Rules.{rules}
 use borrow.Author.Tests.{ltb-true, ltb-false}
-use Rattle.apart.proofs.Words.{MarkedBefore, marks_none, marks_next, marks_all}
+use Rattle.apart.proofs.Words.{marks_none, marks_next, marks_all}
 use Rattle.apart.proofs.mark_word.Goals as goal
 
 pub loop-j-init : goal.loop-j-init

@@ -1,10 +1,7 @@
 -- Answers of `put_word`. Assumes nothing.
 use mathlib.Core.Path.{◌≡◌, ◌∙◌}
-use Prim.Native.Nat.{◌-◌, ◌≤◌}
 use native.Mathlib.Omega.{arith}
-use lib.ListN.{length, length-set}
-use borrow.Author.Rules.{rules}
-use Rattle.apart.specs.Promises.{WordPut}
+use lib.ListN.{length-set}
 use Rattle.apart.proofs.Words.{put_none, put_next}
 use Rattle.apart.proofs.put_word.Goals as goal
 

@@ -1,11 +1,8 @@
 -- `apart::put_word` meets its contract: the word is put in the rows before the i-th. Assumes nothing.
-use mathlib.Core.Path.{◌≡◌, ◌∙◌}
+use mathlib.Core.Path.{◌≡◌}
 use Prim.Native.Nat.{◌-◌, ◌≤◌}
-use native.Mathlib.Omega.{arith}
-use lib.ListN.{length, length-set}
-use borrow.Author.Rules.{rules}
+use lib.ListN.{length}
 use Rattle.apart.specs.Promises.{WordPut}
-use Rattle.apart.proofs.Words.{put_none, put_next}
 use Rattle.apart.proofs.put_word.Given as goal
 
 abbrev pub invariant-loop-i : goal.invariant-loop-i

@@ -1,11 +1,6 @@
 -- Answers of `row`. Assumes nothing.
-use mathlib.Core.Path.{◌≡◌, refl, sym, ◌∙◌}
-use Prim.Native.Nat.{◌-◌, ◌≤◌}
+use mathlib.Core.Path.{refl, sym, ◌∙◌}
 use native.Mathlib.Omega.{arith}
-use lib.ListN.{drop}
-use borrow.Author.Rules.{rules}
-use Rattle.overlap.specs.Trie.{cells}
-use Rattle.apart.specs.Rows.{differ_all}
 use Rattle.apart.proofs.Cells.{node_inside, place_inside, differ_next, differ_end}
 use Rattle.apart.proofs.row.Goals as goal
 

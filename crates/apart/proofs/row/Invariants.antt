@@ -1,12 +1,9 @@
 -- `apart::row` meets its contract: the cells from the k-th on are left to compare. Assumes nothing.
-use mathlib.Core.Path.{◌≡◌, refl, sym, ◌∙◌}
+use mathlib.Core.Path.{◌≡◌}
 use Prim.Native.Nat.{◌-◌, ◌≤◌}
-use native.Mathlib.Omega.{arith}
 use lib.ListN.{drop}
-use borrow.Author.Rules.{rules}
 use Rattle.overlap.specs.Trie.{cells}
 use Rattle.apart.specs.Rows.{differ_all}
-use Rattle.apart.proofs.Cells.{node_inside, place_inside, differ_next, differ_end}
 use Rattle.apart.proofs.row.Given as goal
 
 abbrev pub invariant-loop-k : goal.invariant-loop-k

@@ -1,6 +1,5 @@
 -- `fees::are_shares` meets its contract, test by test. Assumes nothing.
 use Rattle.paper.proofs.Tests.{eqb_true, eqb_false, ltb_true, ltb_false}
-use borrow.Author.Rules.{rules}
 use Rattle.fees.specs.Fees.{are_shares}
 use Rattle.fees.proofs.are_shares.Goals as goal
 

@@ -1,13 +1,8 @@
 -- `fees::before` meets its contract: so far the first j owners are counted. Assumes nothing.
-use mathlib.Core.Bool.{Bool, true, false}
-use mathlib.Core.Logic.{⊎_elim}
-use mathlib.Core.Path.{◌≡◌, refl, sym, ap, ◌∙◌}
-use Prim.Native.Nat.{ℕ, ◌+◌, ◌-◌, ◌≤◌, ◌<◌}
-use native.Mathlib.Omega.{arith}
-use lib.ListN.{length, get_or}
-use borrow.Author.Rules.{rules}
+use mathlib.Core.Path.{◌≡◌}
+use Prim.Native.Nat.{◌-◌, ◌≤◌}
+use lib.ListN.{get_or}
 use Rattle.fees.specs.Fees as F
-use Rattle.fees.proofs.Loops.{count_none, count_next}
 use Rattle.fees.proofs.before.Given as goal
 
 abbrev pub invariant-loop-j : goal.invariant-loop-j

@@ -1,13 +1,5 @@
 -- `fees::charge` meets its contract: the amount first. Assumes nothing.
-use mathlib.Core.List.{List, ◌++◌}
-use mathlib.Core.Path.{◌≡◌, refl, sym, ap, ◌∙◌}
-use Prim.Native.Nat.{ℕ}
-use native.Mathlib.Omega.{arith}
-use lib.IntN.{ℤ}
 use mir.Facts.{to_z-of_z}
-use borrow.Author.Rules.{rules}
-use Rattle.fees.specs.Fees as F
-use Rattle.fees.specs.Promises as C
 use Rattle.fees.proofs.Answers.{refused_as, within, too_low, too_high, inside}
 use Rattle.fees.proofs.charge.Goals as goal
 

@@ -1,16 +1,8 @@
 -- `fees::charge_by` meets its contract, check by check. Assumes nothing.
-use mathlib.Core.List.{List, ◌++◌}
-use mathlib.Core.Path.{◌≡◌, refl, sym, ap, ◌∙◌}
-use Prim.Native.Nat.{ℕ}
-use native.Mathlib.Omega.{arith}
-use lib.IntN.{ℤ}
-use lib.ListN.{length, drop}
+use mathlib.Core.Path.{sym, ap, ◌∙◌}
 use mir.Facts.{to_z-of_z}
-use borrow.Author.Rules.{rules}
-use borrow.Author.Tests.{not-true, not-false}
 use Rattle.fees.specs.Fees as F
 use Rattle.fees.specs.Promises as C
-use Rattle.fees.specs.declared.Rate as D
 use Rattle.fees.proofs.Answers.{refused_as, charged_as, by_none, by_above, by_shares, by_all, parts_long, net_splits, net_fits, net_kept}
 use Rattle.fees.proofs.Values.{fee_kept}
 use Rattle.fees.proofs.charge_by.Goals as goal

@@ -1,8 +1,6 @@
 -- `fees::cut` meets its contract: the product fits, and so does the quotient. Assumes nothing.
-use lib.Dec.{lit<}
 use mir.Facts.{to_z-of_z}
-use Rattle.fees.proofs.Values.{factor, product_fits, quotient_fits, cut_kept}
-use borrow.Author.Rules.{rules}
+use Rattle.fees.proofs.Values.{factor, product_fits, cut_kept}
 use Rattle.fees.proofs.cut.Goals as goal
 
 -- TODO div-result : tie.Need-nonzero-div-result

@@ -1,10 +1,7 @@
 -- `fees::fee` meets its contract, for each sign. Assumes nothing.
-use mathlib.Core.Path.{◌≡◌, ap, ◌∙◌}
 use native.Mathlib.Omega.{arith}
-use lib.IntN.{ℤ}
 use mir.Facts.{to_z-of_z}
-use Rattle.fees.specs.Fees as F
-use Rattle.fees.proofs.Values.{turned_fits, turned_kept, positive_turned, positive, range_turned, fee_fits, fee_kept, refund_fits, refund_kept}
+use Rattle.fees.proofs.Values.{turned_fits, turned_kept, positive_turned, positive, range_turned, fee_kept, refund_fits, refund_kept}
 use Rattle.fees.proofs.fee.Goals as goal
 
 pub overflow_sub-amount : goal.overflow_sub-amount

@@ -1,8 +1,6 @@
 -- `fees::part` meets its contract: a cent more or less fits. Assumes nothing.
-use mathlib.Core.Path.{◌≡◌}
 use mir.Facts.{to_z-of_z}
 use Rattle.fees.proofs.Values.{cut_back, no_cent, cent_less_fits, cent_more_fits, cent_less, cent_more}
-use borrow.Author.Rules.{rules}
 use Rattle.fees.proofs.part.Goals as goal
 
 pub overflow_sub-result : goal.overflow_sub-result

@@ -1,8 +1,6 @@
 -- `fees::payment_fee` meets its contract: product and sum fit. Assumes nothing.
-use lib.Dec.{lit<}
 use mir.Facts.{to_z-of_z}
-use Rattle.fees.proofs.Values.{factor, product_fits, payment_fits, payment_quotient, payment_fee}
-use borrow.Author.Rules.{rules}
+use Rattle.fees.proofs.Values.{factor, product_fits, payment_fits, payment_fee}
 use Rattle.fees.proofs.payment_fee.Goals as goal
 
 -- TODO div-result : tie.Need-nonzero-div-result

@@ -1,17 +1,16 @@
 -- Answers of `remainders`. Assumes nothing.
 use mathlib.Core.List.{List, ◌++◌}
-use mathlib.Core.Path.{◌≡◌, refl, sym, ap, ap₂, ◌∙◌}
-use Prim.Native.Nat.{ℕ, ◌+◌, ◌-◌, ◌≤◌, ◌<◌}
+use mathlib.Core.Path.{◌≡◌, refl, ap, ap₂, ◌∙◌}
+use Prim.Native.Nat.{ℕ}
 use native.Mathlib.Omega.{arith}
 use lib.IntN.{ℤ, nat_abs}
-use lib.ListN.{length, get_or, take, drop, set, length-set}
+use lib.ListN.{length, drop, set, length-set}
 use mir.Facts.{to_z-of_z}
 use mir.Syntax.{w64}
-use mir.Val.{SFits, to_z}
-use borrow.Author.Rules.{rules}
+use mir.Val.{SFits}
 use Rattle.fees.specs.Fees as F
 use Rattle.fees.specs.Promises.{Splits}
-use Rattle.fees.proofs.Loops.{in_range, set_next, nothing_yet, still, still_first, still_small, next_fits, next_kept, still_last}
+use Rattle.fees.proofs.Loops.{in_range, set_next, nothing_yet, still_first, still_small, next_fits, next_kept, still_last}
 use Rattle.fees.proofs.Values.{kept, size_casts, size_cast}
 use Rattle.fees.proofs.remainders.Goals as goal
 

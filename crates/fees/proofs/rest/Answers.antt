@@ -1,10 +1,7 @@
 -- `fees::rest` meets its contract: the product and the remainder fit. Assumes nothing.
-use mathlib.Core.Path.{◌≡◌, refl, sym, ap, ◌∙◌}
-use native.Mathlib.Omega.{arith}
-use lib.Dec.{lit<}
+use mathlib.Core.Path.{◌∙◌}
 use mir.Facts.{to_z-of_z}
-use Rattle.fees.proofs.Values.{factor, product_fits, quotient_fits, size_casts, size_cast, rest_small, rest_size}
-use borrow.Author.Rules.{rules}
+use Rattle.fees.proofs.Values.{factor, product_fits, size_casts, size_cast, rest_small, rest_size}
 use Rattle.fees.proofs.rest.Goals as goal
 
 -- TODO rem-size : tie.Need-nonzero-rem-size

@@ -1,7 +1,6 @@
 -- `fees::root_rate` meets its contract, for each answer. Assumes nothing.
-use mathlib.Core.Path.{◌≡◌, refl, sym, ap, ◌∙◌}
+use mathlib.Core.Path.{◌∙◌}
 use native.Mathlib.Omega.{arith}
-use borrow.Author.Rules.{rules}
 use Rattle.fees.proofs.Loops.{no_root, rate_missing, rate_read}
 use Rattle.fees.proofs.root_rate.Goals as goal
 

@@ -1,18 +1,9 @@
 -- `fees::split` meets its contract: so far the first i parts are written. Assumes nothing.
-use mathlib.Core.List.{List, ◌++◌}
-use mathlib.Core.Path.{◌≡◌, refl, sym, ap, ap₂, ◌∙◌}
-use Prim.Native.Nat.{ℕ, ◌+◌, ◌-◌, ◌≤◌, ◌<◌}
-use native.Mathlib.Omega.{arith}
-use lib.IntN.{ℤ}
-use lib.ListN.{length, get_or, drop, set, length-set}
-use mir.Facts.{to_z-of_z}
-use mir.Syntax.{w64}
-use mir.Val.{SFits, to_z}
-use borrow.Author.Rules.{rules}
+use mathlib.Core.List.{◌++◌}
+use mathlib.Core.Path.{◌≡◌}
+use Prim.Native.Nat.{◌-◌, ◌≤◌}
+use lib.ListN.{length, drop}
 use Rattle.fees.specs.Fees as F
-use Rattle.fees.specs.Promises.{Splits}
-use Rattle.fees.proofs.Loops.{in_range, set_next, nothing_yet, part_at, part_kept}
-use Rattle.fees.proofs.Values.{kept}
 use Rattle.fees.proofs.split.Given as goal
 
 abbrev pub invariant-loop-i : goal.invariant-loop-i

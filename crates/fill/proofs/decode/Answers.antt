@@ -1,12 +1,10 @@
 -- Answers of `decode`. Assumes nothing.
 use mathlib.Core.Logic.{inl, inr}
-use mathlib.Core.Path.{◌≡◌, refl}
-use Prim.Native.Nat.{◌+◌, ◌*◌, ◌-◌, ◌≤◌}
+use mathlib.Core.Path.{refl}
 use native.Mathlib.Omega.{arith}
-use lib.ListN.{length}
 use borrow.Author.Rules.{rules}
 use borrow.Author.Tests.{ltb-true, ltb-false}
-use Rattle.fill.proofs.Decoding.{Decoding, decoding_starts, decoding_went, decoding_ended}
+use Rattle.fill.proofs.Decoding.{decoding_starts, decoding_went, decoding_ended}
 use Rattle.fill.proofs.decode.Goals as goal
 
 pub loop-due-init : goal.loop-due-init

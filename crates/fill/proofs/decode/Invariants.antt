@@ -1,12 +1,8 @@
 -- `fill::decode` meets its contract: the codes read by then and those of the symbols to come are the whole. Assumes nothing.
-use mathlib.Core.Logic.{inl, inr}
-use mathlib.Core.Path.{◌≡◌, refl}
+use mathlib.Core.Path.{◌≡◌}
 use Prim.Native.Nat.{◌+◌, ◌*◌, ◌-◌, ◌≤◌}
-use native.Mathlib.Omega.{arith}
 use lib.ListN.{length}
-use borrow.Author.Rules.{rules}
-use borrow.Author.Tests.{ltb-true, ltb-false}
-use Rattle.fill.proofs.Decoding.{Decoding, decoding_starts, decoding_went, decoding_ended}
+use Rattle.fill.proofs.Decoding.{Decoding}
 use Rattle.fill.proofs.decode.Given as goal
 
 abbrev pub invariant-loop-due : goal.invariant-loop-due

@@ -1,7 +1,6 @@
 -- `fill::decode_one` meets its contract. Assumes nothing.
 use mathlib.Core.Path.{◌∙◌}
 use native.Mathlib.Omega.{arith}
-use borrow.Author.Rules.{rules}
 use Rattle.fill.proofs.Decoding.{decoded_operator, decoded_variable}
 use Rattle.fill.proofs.decode_one.Goals as goal
 

@@ -1,11 +1,7 @@
 -- Answers of `fill`. Assumes nothing.
 use mathlib.Core.Path.{refl}
-use Prim.Native.Nat.{◌≤◌}
 use native.Mathlib.Omega.{arith}
-use borrow.Author.Rules.{rules}
-use Rattle.term.specs.Present.{operators_in, marks_in}
-use Rattle.rule.specs.Packed.{binding}
-use Rattle.fill.proofs.Filling.{Filling, filling_starts, filling_ready, filling_went, filling_stopped, filling_ended}
+use Rattle.fill.proofs.Filling.{filling_starts, filling_ready, filling_went, filling_stopped, filling_ended}
 use Rattle.fill.proofs.fill.Goals as goal
 
 pub decode-i-requires : goal.decode-i-requires

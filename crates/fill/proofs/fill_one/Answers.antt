@@ -1,7 +1,6 @@
 -- `fill::fill_one` meets its contract. Assumes nothing.
 use mathlib.Core.Path.{refl}
 use native.Mathlib.Omega.{arith}
-use borrow.Author.Rules.{rules}
 use Rattle.fill.proofs.Sides.{operator_code, variable_code}
 use Rattle.fill.proofs.Placing.{over_operator, operator_room, filled_operator, part_there, over_variable, filled_variable}
 use Rattle.fill.proofs.fill_one.Goals as goal

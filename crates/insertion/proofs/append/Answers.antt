@@ -1,9 +1,6 @@
 -- Answers of `append`. Assumes nothing.
-use mathlib.Core.Path.{◌≡◌}
-use Prim.Native.Nat.{◌-◌, ◌<◌}
+use Prim.Native.Nat.{◌-◌}
 use native.Mathlib.Omega.{arith}
-use borrow.Author.Rules.{rules}
-use Rattle.net.specs.Layout.{same_in}
 use Rattle.net.specs.Net.{Same}
 use Rattle.insertion.proofs.Walks.{same_on, appended}
 use Rattle.insertion.proofs.append.Goals as goal

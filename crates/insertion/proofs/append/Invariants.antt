@@ -2,11 +2,8 @@
 -- told in their order, so the measure is how many are left. Assumes nothing.
 use mathlib.Core.Path.{◌≡◌}
 use Prim.Native.Nat.{◌-◌, ◌<◌}
-use native.Mathlib.Omega.{arith}
-use borrow.Author.Rules.{rules}
 use Rattle.net.specs.Layout.{same_in}
 use Rattle.net.specs.Net.{Same}
-use Rattle.insertion.proofs.Walks.{same_on, appended}
 use Rattle.insertion.proofs.append.Given as goal
 
 abbrev pub invariant-loop-next : goal.invariant-loop-next

@@ -1,11 +1,10 @@
 -- Answers of `build`. Assumes nothing.
-use mathlib.Core.Path.{◌≡◌, refl, ◌∙◌}
-use Prim.Native.Nat.{◌-◌, ◌≤◌, ◌<◌}
+use mathlib.Core.Path.{refl, ◌∙◌}
+use Prim.Native.Nat.{◌<◌}
 use native.Mathlib.Omega.{arith}
 use lib.ListN.{length}
-use borrow.Author.Rules.{rules}
 use Rattle.tables.specs.Tables.{book_of}
-use Rattle.insertion.proofs.Books.{Building, few, positions, building_none, building_sides, ready, building_on, built}
+use Rattle.insertion.proofs.Books.{few, positions, building_none, building_sides, ready, building_on, built}
 use Rattle.insertion.proofs.build.Goals as goal
 use Rattle.insertion.proofs.build.Goals.{In-loop-j}
 

@@ -1,6 +1,5 @@
 -- `insertion::follow` meets its contract. Assumes nothing.
 use native.Mathlib.Omega.{arith}
-use borrow.Author.Rules.{rules}
 use borrow.Author.Tests.{eq-eqb, ne_eqb}
 use Rattle.insertion.proofs.follow.Goals as goal
 

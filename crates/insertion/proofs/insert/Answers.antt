@@ -1,7 +1,6 @@
 -- `insertion::insert` meets its contract. Assumes nothing.
 use mathlib.Core.Path.{sym, ◌∙◌}
 use native.Mathlib.Omega.{arith}
-use borrow.Author.Rules.{rules}
 use Rattle.insertion.proofs.Walks.{placed_root, read_there, placed_behind, placed_off}
 use Rattle.insertion.proofs.insert.Goals as goal
 

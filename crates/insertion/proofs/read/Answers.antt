@@ -1,5 +1,4 @@
 -- `insertion::read` meets its contract. Assumes nothing.
-use borrow.Author.Rules.{rules}
 use Rattle.insertion.proofs.Symbols.{read_operator, read_variable}
 use Rattle.insertion.proofs.read.Goals as goal
 

@@ -1,10 +1,7 @@
 -- Answers of `walk`. Assumes nothing.
 use mathlib.Core.Path.{refl, sym, ◌∙◌}
-use Prim.Native.Nat.{◌-◌}
 use native.Mathlib.Omega.{arith}
-use borrow.Author.Rules.{rules}
-use Rattle.net.specs.Net.{book_by}
-use Rattle.insertion.proofs.Walks.{Reached, reached_first, behind_is, not_deep, reached_on, off_is}
+use Rattle.insertion.proofs.Walks.{reached_first, behind_is, not_deep, reached_on, off_is}
 use Rattle.insertion.proofs.walk.Goals as goal
 
 pub left_side-left-requires : goal.left_side-left-requires

@@ -1,11 +1,8 @@
 -- `insertion::walk` meets its contract. The loop's invariant: rule j has reached a depth of a rule's path. The measure is how deep it may still go.
 -- Assumes nothing.
-use mathlib.Core.Path.{refl, sym, ◌∙◌}
 use Prim.Native.Nat.{◌-◌}
-use native.Mathlib.Omega.{arith}
-use borrow.Author.Rules.{rules}
 use Rattle.net.specs.Net.{book_by}
-use Rattle.insertion.proofs.Walks.{Reached, reached_first, behind_is, not_deep, reached_on, off_is}
+use Rattle.insertion.proofs.Walks.{Reached}
 use Rattle.insertion.proofs.walk.Given as goal
 
 abbrev pub invariant-loop-due : goal.invariant-loop-due

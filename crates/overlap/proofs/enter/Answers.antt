@@ -1,7 +1,6 @@
 -- `overlap::enter` meets its contract, as the laws of entering say. Assumes nothing.
 use mathlib.Core.Path.{ap}
 use lib.ListN.{set}
-use borrow.Author.Rules.{rules}
 use Rattle.overlap.proofs.Entering.{seekable, entered}
 use Rattle.overlap.proofs.enter.Goals as goal
 

@@ -1,9 +1,8 @@
 -- `overlap::node_of` meets its contract, by what the links lead to. Assumes nothing.
 use mathlib.Core.List.{List}
-use mathlib.Core.Path.{◌≡◌, refl, subst}
+use mathlib.Core.Path.{refl, subst}
 use Prim.Native.Nat.{ℕ, ◌<◌}
 use native.Mathlib.Omega.{arith}
-use borrow.Author.Rules.{rules}
 use Rattle.overlap.specs.Trie.{Leads}
 use Rattle.overlap.specs.Promises.{Seekable}
 use Rattle.overlap.specs.declared.Found as S

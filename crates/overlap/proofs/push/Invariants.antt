@@ -1,12 +1,9 @@
 -- `overlap::push` meets its contract: the places put by then stand in front of those that were due. Assumes nothing.
-use mathlib.Core.List.{List, ◌++◌, append-nil}
-use mathlib.Core.Path.{◌≡◌, refl, sym, ap, ◌∙◌}
-use Prim.Native.Nat.{ℕ, zero, suc, ◌+◌, ◌-◌, ◌≤◌}
-use native.Mathlib.Omega.{arith}
+use mathlib.Core.List.{◌++◌}
+use mathlib.Core.Path.{◌≡◌}
+use Prim.Native.Nat.{◌+◌, ◌-◌, ◌≤◌}
 use lib.ListN.{length, drop}
-use borrow.Author.Rules.{rules}
 use Rattle.overlap.specs.Trie.{upto}
-use Rattle.overlap.proofs.Walking.{pushed, upto_none}
 use Rattle.overlap.proofs.push.Given as goal
 
 abbrev pub invariant-loop-left : goal.invariant-loop-left

@@ -1,7 +1,6 @@
 -- `overlap::put_node` meets its contract: four stores. Assumes nothing.
 use mathlib.Core.Path.{refl, ap}
 use lib.ListN.{set}
-use borrow.Author.Rules.{rules}
 use Rattle.overlap.proofs.put_node.Goals as goal
 
 pub returns : goal.returns

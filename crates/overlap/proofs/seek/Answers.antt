@@ -1,13 +1,11 @@
 -- Answers of `seek`. Assumes nothing.
 use mathlib.Core.List.{List}
 use mathlib.Core.Path.{◌≡◌, sym}
-use Prim.Native.Nat.{ℕ, ◌+◌, ◌-◌, ◌*◌, ◌<◌}
+use Prim.Native.Nat.{ℕ, ◌+◌, ◌*◌, ◌<◌}
 use native.Mathlib.Omega.{arith}
 use lib.ListN.{get_or}
-use borrow.Author.Rules.{rules}
 use Rattle.overlap.specs.Trie.{Leads}
 use Rattle.overlap.specs.Promises.{Seekable}
-use Rattle.overlap.specs.declared.Found as S
 use Rattle.overlap.proofs.seek.Goals as goal
 
 -- where a link leads

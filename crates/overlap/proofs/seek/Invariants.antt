@@ -1,12 +1,6 @@
 -- `overlap::seek` meets its contract: where the links lead from the slot at hand they lead from the place. Assumes nothing.
-use mathlib.Core.List.{List}
-use mathlib.Core.Path.{◌≡◌, sym}
-use Prim.Native.Nat.{ℕ, ◌+◌, ◌-◌, ◌*◌, ◌<◌}
-use native.Mathlib.Omega.{arith}
-use lib.ListN.{get_or}
-use borrow.Author.Rules.{rules}
+use Prim.Native.Nat.{◌-◌, ◌<◌}
 use Rattle.overlap.specs.Trie.{Leads}
-use Rattle.overlap.specs.Promises.{Seekable}
 use Rattle.overlap.specs.declared.Found as S
 use Rattle.overlap.proofs.seek.Given as goal
 

@@ -1,12 +1,10 @@
 -- Answers of `walk`. Assumes nothing.
-use mathlib.Core.Logic.{◌⊎◌, inl, inr, ⊎_elim}
-use mathlib.Core.Path.{◌≡◌, refl, sym, ap, ◌∙◌}
-use Prim.Native.Nat.{ℕ, ◌+◌, ◌-◌, ◌≤◌, ◌<◌}
+use mathlib.Core.Logic.{inl, inr}
+use mathlib.Core.Path.{refl}
 use native.Mathlib.Omega.{arith}
 use borrow.Author.Rules.{rules}
-use borrow.Author.Tests.{ltb-true, ltb-false}
-use Rattle.overlap.specs.Trie.{trie}
-use Rattle.overlap.proofs.Walking.{Walking, walking_starts, walking_passed, walking_entered, walking_ended, cell_inside, place_below, operator_fits, entered_base}
+use borrow.Author.Tests.{ltb-true}
+use Rattle.overlap.proofs.Walking.{walking_starts, walking_passed, walking_entered, walking_ended, cell_inside, place_below, operator_fits, entered_base}
 use Rattle.overlap.proofs.walk.Goals as goal
 use Rattle.overlap.proofs.walk.Goals.{in-Variable, in-Operator}
 

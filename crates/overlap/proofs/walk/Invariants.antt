@@ -1,12 +1,7 @@
 -- `overlap::walk` meets its contract: what was read by then and what is to come is the whole left side. Assumes nothing.
-use mathlib.Core.Logic.{◌⊎◌, inl, inr, ⊎_elim}
-use mathlib.Core.Path.{◌≡◌, refl, sym, ap, ◌∙◌}
-use Prim.Native.Nat.{ℕ, ◌+◌, ◌-◌, ◌≤◌, ◌<◌}
-use native.Mathlib.Omega.{arith}
-use borrow.Author.Rules.{rules}
-use borrow.Author.Tests.{ltb-true, ltb-false}
+use Prim.Native.Nat.{◌-◌}
 use Rattle.overlap.specs.Trie.{trie}
-use Rattle.overlap.proofs.Walking.{Walking, walking_starts, walking_passed, walking_entered, walking_ended, cell_inside, place_below, operator_fits, entered_base}
+use Rattle.overlap.proofs.Walking.{Walking}
 use Rattle.overlap.proofs.walk.Given as goal
 
 abbrev pub invariant-loop-top : goal.invariant-loop-top

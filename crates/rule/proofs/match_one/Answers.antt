@@ -1,7 +1,6 @@
 -- `rule::match_one` meets its contract. Assumes nothing.
 use mathlib.Core.Path.{sym, ◌∙◌}
 use native.Mathlib.Omega.{arith}
-use borrow.Author.Rules.{rules}
 use Rattle.rule.proofs.Parts.{operators_length, part_true, part_in}
 use Rattle.rule.proofs.Matches.{differs_at, step_same, step_variable, apart_at}
 use Rattle.rule.proofs.match_one.Goals as goal

@@ -1,16 +1,7 @@
 -- Answers of `match_rest`. Assumes nothing.
 use mathlib.Core.Logic.{inl, inr}
 use mathlib.Core.Path.{refl}
-use Prim.Native.Nat.{◌+◌, ◌*◌, ◌≤◌}
 use native.Mathlib.Omega.{arith}
-use lib.ListN.{take}
-use borrow.Author.Rules.{rules}
-use borrow.Author.Tests.{ltb-true, ltb-false}
-use Rattle.flat.specs.Symbols.{Binding}
-use Rattle.symbol.specs.Record.{operators as operators_of}
-use Rattle.rule.specs.Packed.{binding}
-use Rattle.rule.specs.Promises.{BoundWithin, RestMatched}
-use Rattle.rule.specs.declared.Found.{Found}
 use Rattle.rule.proofs.Matches.{ended, stopped, went}
 use Rattle.rule.proofs.match_rest.Goals as goal
 

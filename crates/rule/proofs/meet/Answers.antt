@@ -1,6 +1,5 @@
 -- `rule::meet` meets its contract. Assumes nothing.
 use native.Mathlib.Omega.{arith}
-use borrow.Author.Rules.{rules}
 use Rattle.rule.proofs.Parts.{operators_length}
 use Rattle.rule.proofs.Matches.{met_first, met_same, met_other}
 use Rattle.rule.proofs.meet.Goals as goal

@@ -1,7 +1,6 @@
 -- `rule::other_stands` meets its contract. Assumes nothing.
 use borrow.Author.Tests.{eqb-false, not-true}
 use native.Mathlib.Omega.{arith}
-use borrow.Author.Rules.{rules}
 use Rattle.rule.proofs.Matches.{other_stands}
 use Rattle.rule.proofs.other_stands.Goals as goal
 

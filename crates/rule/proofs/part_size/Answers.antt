@@ -1,7 +1,6 @@
 -- `rule::part_size` meets its contract. Assumes nothing.
 use mathlib.Core.Path.{◌∙◌}
 use native.Mathlib.Omega.{arith}
-use borrow.Author.Rules.{rules}
 use Rattle.rule.proofs.Parts.{size_in, size_behind}
 use Rattle.rule.proofs.part_size.Goals as goal
 

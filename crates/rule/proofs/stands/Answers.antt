@@ -1,7 +1,6 @@
 -- `rule::stands` meets its contract. Assumes nothing.
 use mathlib.Core.Path.{sym, ◌∙◌}
 use native.Mathlib.Omega.{arith}
-use borrow.Author.Rules.{rules}
 use lib.ListN.{take}
 use Rattle.symbol.specs.Record.{operators}
 use Rattle.rule.proofs.Parts.{operators_length, operator_in}
