@@ -1,4 +1,6 @@
 // The run over a schedule (document 01, 'How a run ends'), whole or in parts (document 02, Change 11).
+#![tactic(auto)]
+
 ghost use Rattle.std.specs.Prelude.{◌≡◌, ◌<◌};
 ghost use Rattle.paper.specs.Page.{ending_number};
 ghost use Rattle.flat.specs.Machine.{FlatState};
