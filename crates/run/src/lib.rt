@@ -11,7 +11,7 @@ use entry::Entry;
 use whole::{Limits, Progress};
 
 // How a run ended.
-#[derive(Drop)]
+#[derive(Clone, Copy)]
 pub enum Ending {
     Finished,
     Spent,
