@@ -9,9 +9,7 @@ use Rattle.paper.specs.Tree.{preorder}
 use Rattle.paper.specs.Run.{Answer}
 use Rattle.engine.specs.Spec as R
 use Rattle.engine.specs.declared.Answer as D
-use borrow.Author.Rules.{rules}
-use Rattle.run_cases.proofs.try_run.Statement.{statement}
-use Rattle.run_cases.proofs.try_run.Tie as tie
+use Rattle.run_cases.proofs.try_run.Goals as goal
 
 abbrev length-of : Result R.Values → ℕ
 length-of (refused k) = 0
@@ -29,17 +27,7 @@ module _ (book line : List ℕ) (units budget day : ℕ) (schedule work net outp
   within : R.Reduced book line units budget day schedule work net output work' net' output' r → length-of (R.values r) ≤ length output'
   within d = within-known d _ refl
 
-say-run-requires : tie.Need-say-run-requires
-say-run-requires c κs =
-    let b = c.before.before in
-    let e = b.before.before.before.before.before.before.before.before.reduce.ensures in
-    within _ _ _ _ _ _ _ _ _ _ _ _ _ (rw b.run.given.1 at e)
-
-pub try-run-spec : {M : Type 1} → statement M
-try-run-spec =
-    tie.close
-    (tie.spec (λ c κs. search rules) (λ c. search rules) (λ c κs. search rules) (λ c. search rules) (λ c. search rules) (λ c κs. search rules)
-    (λ c. search rules) (λ c. search rules) (λ c κs. search rules) (λ c κs. search rules) (λ c. search rules) say-run-requires (λ c. search rules)
-    (λ c. search rules) (λ c κs. search rules) (λ c. search rules) (λ c. search rules) (λ c κs. search rules) (λ c κs. search rules)
-    (λ c. search rules) (λ c. search rules) (λ c. search rules) (λ c. search rules) (λ c. search rules) (λ c. search rules) (λ c. search rules)
-    (λ c. search rules))
+pub say_run-requires : goal.say_run-requires
+say_run-requires c =
+    let e = c.reduce.ensures in
+    within _ _ _ _ _ _ _ _ _ _ _ _ _ (rw c.in-Ran.is at e)
