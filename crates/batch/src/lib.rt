@@ -1,5 +1,7 @@
 // Many lines by one book: the book is read and its net built once, then each line is reduced as by itself and gets its record, one after another. Nothing lent
 // is written before frame and book have been checked.
+#![tactic(auto)]
+
 ghost use Rattle.std.specs.Prelude.{◌≡◌, ◌+◌, ◌≤◌, length};
 ghost use Rattle.paper.specs.Line.{symbol_limit};
 ghost use Rattle.paper.specs.Page.{all_below};
