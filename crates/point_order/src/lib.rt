@@ -1,5 +1,7 @@
 // The rules of a saved point (document 02, Change 11) on the order of placing and on the idle queue, decided on the arrays that it was read into. Pending
 // parts are taken off their units' stacks, the latest first: the job that a part's EXIT names must still stand.
+#![tactic(auto)]
+
 ghost use Rattle.std.specs.Prelude.{◌≡◌, ℕ, ◌+◌, ◌*◌, ◌<◌, ◌≤◌, length, drop, get_or};
 ghost use Rattle.flat.specs.Tested as T;
 ghost use Rattle.tables.specs.Layout as L;

@@ -1,4 +1,6 @@
 // The rules of a saved point (document 02, Change 11), decided on the arrays that it was read into.
+#![tactic(auto)]
+
 ghost use Rattle.point.specs.Saved.{arrays};
 ghost use Rattle.point_rules.specs.Promises as C;
 

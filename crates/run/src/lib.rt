@@ -20,7 +20,7 @@ pub enum Ending {
 }
 
 // What a run answers: its ending, rewrites made, entries used, FORKs granted and kept, and the present term's length.
-#[derive(Drop)]
+#[derive(Clone, Copy)]
 pub struct Run {
     pub ending: Ending,
     pub rewrites: u32,

@@ -1,7 +1,6 @@
 -- `book::ends` meets its contract, by the laws of Parts. Assumes nothing.
 use Rattle.bits.proofs.Reading.{got, ran_out}
 use Rattle.book.proofs.Parts.{ended_byte, ended_out, ended_value}
-use borrow.Author.Rules.{rules}
 use Rattle.book.proofs.ends.Goals as goal
 
 pub returns-then-k-ge8 : goal.returns-then-k-ge8

@@ -1,5 +1,4 @@
 -- `book::keep_standing` meets its contract, by the laws of Parts. Assumes nothing.
-use borrow.Author.Rules.{rules}
 use Rattle.book.proofs.Parts.{dated_all, dated_kept, undated_kept}
 use Rattle.book.proofs.keep_standing.Goals as goal
 

@@ -1,6 +1,5 @@
 -- `book::pass_day` meets its contract: a field of 16 bits in a dated book, and nothing in another. Assumes nothing.
 use mathlib.Core.Path.{refl}
-use borrow.Author.Rules.{rules}
 use Rattle.bits.proofs.Reading.{got, ran_out}
 use Rattle.book.proofs.pass_day.Goals as goal
 

@@ -1,6 +1,5 @@
 -- `book::read_book` meets its contract, by the laws of Parts. Assumes nothing.
 use native.Mathlib.Omega.{arith}
-use borrow.Author.Rules.{rules}
 use Rattle.bits.proofs.Reading.{got, got_as, ran_out}
 use Rattle.book.proofs.Parts.{count_out, count_zero, operators_refused, tail_refuses, all_read, kept_few, book_is}
 use Rattle.book.proofs.read_book.Goals as goal

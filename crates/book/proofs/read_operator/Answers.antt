@@ -1,7 +1,6 @@
 -- `book::read_operator` meets its contract, by the laws of Operators. Assumes nothing.
 use mathlib.Core.Path.{refl}
 use native.Mathlib.Omega.{arith}
-use borrow.Author.Rules.{rules}
 use Rattle.bits.proofs.Reading.{got, got_as, ran_out}
 use Rattle.book.proofs.Operators.{operator_out, operator_refused, operator_read}
 use Rattle.book.proofs.read_operator.Goals as goal

@@ -1,9 +1,5 @@
 -- Answers of `read_operators`. Assumes nothing.
-use Prim.Native.Nat.{◌-◌, ◌≤◌}
 use native.Mathlib.Omega.{arith}
-use borrow.Author.Rules.{rules}
-use Rattle.book.specs.Promises.{OperatorsTaken}
-use Rattle.book.specs.declared.Part.{Part}
 use Rattle.book.proofs.Operators.{operators_none, operators_all, operators_next, operators_stop}
 use Rattle.book.proofs.read_operators.Goals as goal
 

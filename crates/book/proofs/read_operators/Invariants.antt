@@ -1,11 +1,8 @@
 -- `book::read_operators` meets its contract. The loop's invariant: the first o operators are read, and the table holds them. The measure is how
 -- many are left. Assumes nothing.
 use Prim.Native.Nat.{◌-◌, ◌≤◌}
-use native.Mathlib.Omega.{arith}
-use borrow.Author.Rules.{rules}
 use Rattle.book.specs.Promises.{OperatorsTaken}
 use Rattle.book.specs.declared.Part.{Part}
-use Rattle.book.proofs.Operators.{operators_none, operators_all, operators_next, operators_stop}
 use Rattle.book.proofs.read_operators.Given as goal
 
 abbrev pub invariant-loop-o : goal.invariant-loop-o

@@ -1,6 +1,5 @@
 -- `book::read_rule` meets its contract, by the laws of Rules. Assumes nothing.
 use native.Mathlib.Omega.{arith}
-use borrow.Author.Rules.{rules}
 use Rattle.book.proofs.Rules.{rule_inside, day_refused, rule_refused, rule_read}
 use Rattle.book.proofs.read_rule.Goals as goal
 

@@ -1,10 +1,6 @@
 -- Answers of `read_rules`. Assumes nothing.
 use mathlib.Core.Path.{refl}
-use Prim.Native.Nat.{◌-◌, ◌≤◌}
 use native.Mathlib.Omega.{arith}
-use borrow.Author.Rules.{rules}
-use Rattle.book.specs.Promises.{RulesTaken}
-use Rattle.book.specs.declared.Part.{Part}
 use Rattle.book.proofs.Rules.{rules_none, rules_all, rules_next, rules_stop}
 use Rattle.book.proofs.read_rules.Goals as goal
 

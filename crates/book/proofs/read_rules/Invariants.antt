@@ -1,12 +1,8 @@
 -- `book::read_rules` meets its contract. The loop's invariant: the first i rules are read, and the table holds them. The measure is how many
 -- are left. Assumes nothing.
-use mathlib.Core.Path.{refl}
 use Prim.Native.Nat.{◌-◌, ◌≤◌}
-use native.Mathlib.Omega.{arith}
-use borrow.Author.Rules.{rules}
 use Rattle.book.specs.Promises.{RulesTaken}
 use Rattle.book.specs.declared.Part.{Part}
-use Rattle.book.proofs.Rules.{rules_none, rules_all, rules_next, rules_stop}
 use Rattle.book.proofs.read_rules.Given as goal
 
 abbrev pub invariant-loop-i : goal.invariant-loop-i

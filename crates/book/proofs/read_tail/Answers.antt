@@ -1,6 +1,5 @@
 -- `book::read_tail` meets its contract, by the laws of Parts. Assumes nothing.
 use native.Mathlib.Omega.{arith}
-use borrow.Author.Rules.{rules}
 use Rattle.bits.proofs.Reading.{got, got_as, ran_out}
 use Rattle.book.proofs.Parts.{tail_out, tail_refused, tail_ends, tail_goes_on}
 use Rattle.book.proofs.read_tail.Goals as goal

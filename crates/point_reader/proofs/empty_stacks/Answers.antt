@@ -1,10 +1,9 @@
 -- Answers of `empty_stacks`. Assumes nothing.
 use mathlib.Core.Path.{subst}
-use Prim.Native.Nat.{ℕ, ◌-◌, ◌≤◌}
+use Prim.Native.Nat.{ℕ}
 use native.Mathlib.Omega.{arith}
 use Rattle.point_reader.specs.Promises.{EmptyBelow}
 use Rattle.point_reader.proofs.Units.{empty_none, empty_more}
-use borrow.Author.Rules.{rules}
 use Rattle.point_reader.proofs.empty_stacks.Goals as goal
 
 pub loop-u-init : goal.loop-u-init

@@ -2,7 +2,6 @@
 use native.Mathlib.Omega.{arith}
 use Rattle.bits.proofs.Reading.{got, ran_out}
 use Rattle.point_reader.proofs.Fields.{got_told, number_both, number_first, number_second}
-use borrow.Author.Rules.{rules}
 use Rattle.point_reader.proofs.field32.Goals as goal
 
 pub returns-in_default : goal.returns-in_default

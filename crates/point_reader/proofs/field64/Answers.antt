@@ -1,7 +1,6 @@
 -- `point_reader::field64` meets its contract: two fields of 32 bits are one of 64. Assumes nothing.
 use native.Mathlib.Omega.{arith}
 use Rattle.point_reader.proofs.Fields.{told, untold, number_both, number_first, number_second}
-use borrow.Author.Rules.{rules}
 use Rattle.point_reader.proofs.field64.Goals as goal
 
 pub returns-in_default : goal.returns-in_default

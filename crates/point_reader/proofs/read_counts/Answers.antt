@@ -2,7 +2,6 @@
 use native.Mathlib.Omega.{arith}
 use Rattle.point_reader.proofs.Fields.{told, untold}
 use Rattle.point_reader.proofs.Numbers.{rewrites_out, rewrites_large, entries_out, granted_out, kept_out, counts_read}
-use borrow.Author.Rules.{rules}
 use Rattle.point_reader.proofs.read_counts.Goals as goal
 
 pub returns-in_default : goal.returns-in_default

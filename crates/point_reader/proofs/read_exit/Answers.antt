@@ -2,7 +2,6 @@
 use native.Mathlib.Omega.{arith}
 use Rattle.bits.proofs.Reading.{got, got_as, ran_out}
 use Rattle.point_reader.proofs.Frames.{unit_out, index_out, exit_read}
-use borrow.Author.Rules.{rules}
 use Rattle.point_reader.proofs.read_exit.Goals as goal
 
 pub returns-in_default : goal.returns-in_default

@@ -2,7 +2,6 @@
 use Rattle.bits.proofs.Reading.{got, ran_out}
 use Rattle.point_reader.proofs.Frames.{kind_out, frame_job, frame_exit, frame_sleep, frame_bingo}
 use native.Mathlib.Omega.{arith}
-use borrow.Author.Rules.{rules}
 use Rattle.point_reader.proofs.read_frame.Goals as goal
 
 pub returns-in_default : goal.returns-in_default

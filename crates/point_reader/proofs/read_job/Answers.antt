@@ -2,7 +2,6 @@
 use native.Mathlib.Omega.{arith}
 use Rattle.bits.proofs.Reading.{got, got_as, ran_out}
 use Rattle.point_reader.proofs.Frames.{offset_out, next_out, count_out, job_read}
-use borrow.Author.Rules.{rules}
 use Rattle.point_reader.proofs.read_job.Goals as goal
 
 pub returns-in_default : goal.returns-in_default

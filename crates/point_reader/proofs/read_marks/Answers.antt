@@ -1,10 +1,7 @@
 -- Answers of `read_marks`. Assumes nothing.
-use mathlib.Core.Logic.{⊎_elim}
-use Prim.Native.Nat.{◌-◌}
 use native.Mathlib.Omega.{arith}
 use Rattle.bits.proofs.Reading.{got, ran_out}
-use Rattle.point_reader.proofs.Term.{Marking, marking_start, marking_plain, marking_mark, marking_out, marking_all}
-use borrow.Author.Rules.{rules}
+use Rattle.point_reader.proofs.Term.{marking_start, marking_plain, marking_mark, marking_out, marking_all}
 use Rattle.point_reader.proofs.read_marks.Goals as goal
 use Rattle.point_reader.proofs.read_marks.Goals.{then-b-ne0, else-b-ne0}
 

@@ -3,7 +3,6 @@ use native.Mathlib.Omega.{arith}
 use Rattle.bits.proofs.Reading.{got, ran_out}
 use Rattle.point_reader.proofs.Fields.{told, untold}
 use Rattle.point_reader.proofs.Numbers.{units_out, budget_out, counts_none, symbols_out, head_read}
-use borrow.Author.Rules.{rules}
 use Rattle.point_reader.proofs.read_numbers.Goals as goal
 
 pub returns-in_default : goal.returns-in_default

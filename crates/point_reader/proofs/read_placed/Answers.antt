@@ -1,8 +1,7 @@
 -- Answers of `read_placed`. Assumes nothing.
 use native.Mathlib.Omega.{arith}
 use Rattle.bits.proofs.Reading.{got, ran_out}
-use Rattle.point_reader.proofs.Order.{Ordering, ordering_start, ordering_more, ordering_out, ordering_all}
-use borrow.Author.Rules.{rules}
+use Rattle.point_reader.proofs.Order.{ordering_start, ordering_more, ordering_out, ordering_all}
 use Rattle.point_reader.proofs.read_placed.Goals as goal
 
 pub loop-i-init : goal.loop-i-init

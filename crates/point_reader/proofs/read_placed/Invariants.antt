@@ -1,8 +1,5 @@
 -- `point_reader::read_placed` meets its contract: the loop's invariant: all but the earliest i parts are read. Assumes nothing.
-use native.Mathlib.Omega.{arith}
-use Rattle.bits.proofs.Reading.{got, ran_out}
-use Rattle.point_reader.proofs.Order.{Ordering, ordering_start, ordering_more, ordering_out, ordering_all}
-use borrow.Author.Rules.{rules}
+use Rattle.point_reader.proofs.Order.{Ordering}
 use Rattle.point_reader.proofs.read_placed.Given as goal
 
 abbrev pub invariant-loop-i : goal.invariant-loop-i

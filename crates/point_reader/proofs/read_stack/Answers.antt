@@ -1,8 +1,7 @@
 -- Answers of `read_stack`. Assumes nothing.
 use mathlib.Core.Path.{refl}
 use native.Mathlib.Omega.{arith}
-use Rattle.point_reader.proofs.Units.{Stacking, stacking_start, stacking_more, stacking_out, stacking_all}
-use borrow.Author.Rules.{rules}
+use Rattle.point_reader.proofs.Units.{stacking_start, stacking_more, stacking_out, stacking_all}
 use Rattle.point_reader.proofs.read_stack.Goals as goal
 
 pub loop-left-init : goal.loop-left-init

@@ -1,8 +1,5 @@
 -- `point_reader::read_stack` meets its contract: the loop's invariant: all but the lowest `left` frames are read. Assumes nothing.
-use mathlib.Core.Path.{refl}
-use native.Mathlib.Omega.{arith}
-use Rattle.point_reader.proofs.Units.{Stacking, stacking_start, stacking_more, stacking_out, stacking_all}
-use borrow.Author.Rules.{rules}
+use Rattle.point_reader.proofs.Units.{Stacking}
 use Rattle.point_reader.proofs.read_stack.Given as goal
 
 abbrev pub invariant-loop-left : goal.invariant-loop-left

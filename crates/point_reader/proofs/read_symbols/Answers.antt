@@ -1,9 +1,7 @@
 -- Answers of `read_symbols`. Assumes nothing.
-use Prim.Native.Nat.{◌-◌, ◌≤◌}
 use native.Mathlib.Omega.{arith}
 use Rattle.bits.proofs.Reading.{got, got_as, ran_out}
-use Rattle.point_reader.proofs.Term.{Listing, listing_start, listing_more, listing_out, listing_all}
-use borrow.Author.Rules.{rules}
+use Rattle.point_reader.proofs.Term.{listing_start, listing_more, listing_out, listing_all}
 use Rattle.point_reader.proofs.read_symbols.Goals as goal
 
 pub loop-i-init : goal.loop-i-init

@@ -1,9 +1,6 @@
 -- `point_reader::read_symbols` meets its contract: the loop's invariant: the first i symbols are read. Assumes nothing.
 use Prim.Native.Nat.{◌-◌, ◌≤◌}
-use native.Mathlib.Omega.{arith}
-use Rattle.bits.proofs.Reading.{got, got_as, ran_out}
-use Rattle.point_reader.proofs.Term.{Listing, listing_start, listing_more, listing_out, listing_all}
-use borrow.Author.Rules.{rules}
+use Rattle.point_reader.proofs.Term.{Listing}
 use Rattle.point_reader.proofs.read_symbols.Given as goal
 
 abbrev pub invariant-loop-i : goal.invariant-loop-i

@@ -3,7 +3,6 @@ use mathlib.Core.Path.{sym, ◌∙◌}
 use native.Mathlib.Omega.{arith}
 use lib.Seq.{length-take-le}
 use Rattle.point_reader.proofs.Term.{sound_spells, term_no_symbols, term_refused, term_unmarked, term_marks}
-use borrow.Author.Rules.{rules}
 use Rattle.point_reader.proofs.read_term.Goals as goal
 
 pub returns-in_default : goal.returns-in_default

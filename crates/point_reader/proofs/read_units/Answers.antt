@@ -1,10 +1,7 @@
 -- Answers of `read_units`. Assumes nothing.
-use mathlib.Core.Path.{◌≡◌, refl, ◌∙◌}
-use Prim.Native.Nat.{◌-◌, ◌≤◌}
+use mathlib.Core.Path.{refl, ◌∙◌}
 use native.Mathlib.Omega.{arith}
-use lib.ListN.{length}
-use Rattle.units.specs.Stacks.{store}
-use Rattle.point_reader.proofs.Units.{empty_fit, Uniting, uniting_start, uniting_more, uniting_none, uniting_all}
+use Rattle.point_reader.proofs.Units.{empty_fit, uniting_start, uniting_more, uniting_none, uniting_all}
 use borrow.Author.Rules.{rules}
 use Rattle.point_reader.proofs.read_units.Goals as goal
 

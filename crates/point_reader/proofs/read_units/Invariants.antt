@@ -1,11 +1,9 @@
 -- `point_reader::read_units` meets its contract: the loop's invariant: the first u units are read. Assumes nothing.
-use mathlib.Core.Path.{◌≡◌, refl, ◌∙◌}
+use mathlib.Core.Path.{◌≡◌}
 use Prim.Native.Nat.{◌-◌, ◌≤◌}
-use native.Mathlib.Omega.{arith}
 use lib.ListN.{length}
 use Rattle.units.specs.Stacks.{store}
-use Rattle.point_reader.proofs.Units.{empty_fit, Uniting, uniting_start, uniting_more, uniting_none, uniting_all}
-use borrow.Author.Rules.{rules}
+use Rattle.point_reader.proofs.Units.{Uniting}
 use Rattle.point_reader.proofs.read_units.Given as goal
 
 abbrev pub invariant-loop-u : goal.invariant-loop-u

@@ -1,12 +1,8 @@
 -- Answers of `alike`. Assumes nothing.
 use mathlib.Core.Path.{sym}
-use Prim.Native.Nat.{◌-◌}
 use native.Mathlib.Omega.{arith}
-use borrow.Author.Rules.{rules}
-use Rattle.paper.specs.Naming as N
-use Rattle.standing.specs.Dates.{left_at, rules_of}
-use Rattle.standing.proofs.Walk.{Walk, walk_ends, walk_small, walk_stops, walk_goes_on}
-use Rattle.standing.proofs.Rules.{number_small, left_before, alike_starts}
+use Rattle.standing.proofs.Walk.{walk_ends, walk_small, walk_stops, walk_goes_on}
+use Rattle.standing.proofs.Rules.{number_small, alike_starts}
 use Rattle.standing.proofs.alike.Goals as goal
 
 pub right_side-end-requires : goal.right_side-end-requires

@@ -1,6 +1,5 @@
 -- `standing::compare` meets its contract, by the laws of Symbols. Assumes nothing.
 use native.Mathlib.Omega.{arith}
-use borrow.Author.Rules.{rules}
 use Rattle.standing.proofs.Symbols.{same_operators, other_operator, variable_operator, two_variables}
 use Rattle.standing.proofs.compare.Goals as goal
 

@@ -1,5 +1,4 @@
 -- `standing::copy_sides` meets its contract. Assumes nothing.
-use borrow.Author.Rules.{rules}
 use Rattle.standing.proofs.copy_sides.Goals as goal
 
 pub returns : goal.returns

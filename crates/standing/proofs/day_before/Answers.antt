@@ -1,12 +1,11 @@
 -- `standing::day_before` meets its contract: the day is what the paper's reader of a field answers there. Assumes nothing.
-use mathlib.Core.Path.{◌≡◌, sym, ap, ◌∙◌}
+use mathlib.Core.Path.{sym, ap, ◌∙◌}
 use Prim.Native.Nat.{ℕ}
 use native.Mathlib.Omega.{arith}
 use Rattle.paper.specs.Result.{Read}
 use Rattle.paper.proofs.Readers.{accepted_injective, refused_accepted}
 use Rattle.paper.specs.Result.{return}
 use Rattle.bits.proofs.Reading.{got, ran_out}
-use borrow.Author.Rules.{rules}
 use Rattle.standing.proofs.day_before.Goals as goal
 
 pub returns-in-Value : goal.returns-in-Value

@@ -1,12 +1,10 @@
 -- Answers of `keep`. Assumes nothing.
-use mathlib.Core.Logic.{⊎_elim}
-use mathlib.Core.Path.{◌≡◌, refl}
-use Prim.Native.Nat.{◌-◌, ◌≤◌, ◌<◌}
+use mathlib.Core.Path.{refl}
+use Prim.Native.Nat.{◌<◌}
 use native.Mathlib.Omega.{arith}
 use lib.ListN.{length}
-use borrow.Author.Rules.{rules}
 use Rattle.standing.specs.Dates.{rules_of}
-use Rattle.standing.proofs.Rules.{number_small, Keeping, keeping_none, keeping_more, keeping_same, keeping_all}
+use Rattle.standing.proofs.Rules.{number_small, keeping_none, keeping_more, keeping_same, keeping_all}
 use Rattle.standing.proofs.keep.Goals as goal
 use Rattle.standing.proofs.keep.Goals.{then-stands, else-stands}
 

@@ -1,7 +1,6 @@
 -- `standing::key_of` meets its contract, by the laws of Keys. Assumes nothing.
 use mathlib.Core.Path.{refl}
 use native.Mathlib.Omega.{arith}
-use borrow.Author.Rules.{rules}
 use Rattle.standing.proofs.Keys.{key_variable, key_operator}
 use Rattle.standing.proofs.key_of.Goals as goal
 

@@ -1,11 +1,9 @@
 -- Answers of `put_keys`. Assumes nothing.
-use mathlib.Core.Path.{◌≡◌}
-use Prim.Native.Nat.{◌-◌, ◌≤◌, ◌<◌}
+use Prim.Native.Nat.{◌<◌}
 use native.Mathlib.Omega.{arith}
 use lib.ListN.{length}
-use borrow.Author.Rules.{rules}
 use Rattle.standing.specs.Dates.{rules_of}
-use Rattle.standing.proofs.Rules.{KeysUpTo, keys_more, number_small, left_before, key_is}
+use Rattle.standing.proofs.Rules.{keys_more, number_small, left_before, key_is}
 use Rattle.standing.proofs.put_keys.Goals as goal
 
 pub loop-i-init : goal.loop-i-init

@@ -1,11 +1,8 @@
 -- `standing::put_keys` meets its contract. The loop's invariant: the first i keys are put. The measure is how many are left. Assumes nothing.
 use mathlib.Core.Path.{◌≡◌}
-use Prim.Native.Nat.{◌-◌, ◌≤◌, ◌<◌}
-use native.Mathlib.Omega.{arith}
+use Prim.Native.Nat.{◌-◌, ◌≤◌}
 use lib.ListN.{length}
-use borrow.Author.Rules.{rules}
-use Rattle.standing.specs.Dates.{rules_of}
-use Rattle.standing.proofs.Rules.{KeysUpTo, keys_more, number_small, left_before, key_is}
+use Rattle.standing.proofs.Rules.{KeysUpTo}
 use Rattle.standing.proofs.put_keys.Given as goal
 
 abbrev pub invariant-loop-i : goal.invariant-loop-i

@@ -1,12 +1,9 @@
 -- Answers of `replaced`. Assumes nothing.
-use mathlib.Core.Logic.{⊎_elim}
-use mathlib.Core.Path.{◌≡◌, refl, sym, ◌∙◌}
-use Prim.Native.Nat.{◌-◌, ◌<◌}
+use mathlib.Core.Path.{refl, sym, ◌∙◌}
+use Prim.Native.Nat.{◌<◌}
 use native.Mathlib.Omega.{arith}
-use lib.ListN.{length, take, drop}
-use borrow.Author.Rules.{rules}
-use Rattle.paper.specs.Dated as P
-use Rattle.standing.specs.Dates.{left_at, rules_of}
+use lib.ListN.{length}
+use Rattle.standing.specs.Dates.{rules_of}
 use Rattle.standing.proofs.Rules.{number_small, replaces_other, replaced_found, replaced_next, replaced_none}
 use Rattle.standing.proofs.replaced.Goals as goal
 use Rattle.standing.proofs.replaced.Goals.{then-keys-j+else-replaces, else-keys-j}

@@ -1,13 +1,9 @@
 -- `standing::replaced` meets its contract. The loop's invariant: the rules from j on decide. The measure is how many are left. Assumes nothing.
-use mathlib.Core.Logic.{⊎_elim}
-use mathlib.Core.Path.{◌≡◌, refl, sym, ◌∙◌}
-use Prim.Native.Nat.{◌-◌, ◌<◌}
-use native.Mathlib.Omega.{arith}
-use lib.ListN.{length, take, drop}
-use borrow.Author.Rules.{rules}
+use mathlib.Core.Path.{◌≡◌}
+use Prim.Native.Nat.{◌-◌}
+use lib.ListN.{take, drop}
 use Rattle.paper.specs.Dated as P
 use Rattle.standing.specs.Dates.{left_at, rules_of}
-use Rattle.standing.proofs.Rules.{number_small, replaces_other, replaced_found, replaced_next, replaced_none}
 use Rattle.standing.proofs.replaced.Given as goal
 
 abbrev pub invariant-loop-j : goal.invariant-loop-j

@@ -1,7 +1,6 @@
 -- `standing::replaces` meets its contract, by the laws of Rules. Assumes nothing.
 use mathlib.Core.Path.{refl, sym, ◌∙◌}
 use native.Mathlib.Omega.{arith}
-use borrow.Author.Rules.{rules}
 use Rattle.standing.proofs.Rules.{number_small, left_before, day_is, replaces_early, replaces_late, replaces_alike}
 use Rattle.standing.proofs.replaces.Goals as goal
 

@@ -1,7 +1,4 @@
 -- `standing::same_name` meets its contract, by the laws of Names. Assumes nothing.
-use mathlib.Core.Path.{refl, sym, ◌∙◌}
-use native.Mathlib.Omega.{arith}
-use borrow.Author.Rules.{rules}
 use Rattle.standing.proofs.Names.{names_differ, names_known, names_new}
 use Rattle.standing.proofs.same_name.Goals as goal
 

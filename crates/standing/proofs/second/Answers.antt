@@ -1,6 +1,5 @@
 -- `standing::second` meets its contract, by the laws of Keys. Assumes nothing.
 use native.Mathlib.Omega.{arith}
-use borrow.Author.Rules.{rules}
 use Rattle.standing.proofs.Keys.{second_none, second_operator, second_variable}
 use Rattle.standing.proofs.second.Goals as goal
 

@@ -2,7 +2,6 @@
 use mathlib.Core.Path.{refl}
 use Prim.Native.Nat.{◌+◌}
 use native.Mathlib.Omega.{arith}
-use borrow.Author.Rules.{rules}
 use Rattle.standing.specs.Dates.{rules_of}
 use Rattle.standing.proofs.Rules.{number_small, left_before, day_is, stands_late, stands_not, stands_unless, behind_all}
 use Rattle.standing.proofs.stands.Goals as goal

@@ -1,14 +1,9 @@
 -- Answers of `copy`. Assumes nothing.
-use mathlib.Core.List.{List}
 use Rattle.bits.proofs.Reading.{got, ran_out}
-use Rattle.side.specs.Promises.{bits_at}
-use Rattle.writer.specs.Promises.{BitsPut}
 use Rattle.writer.proofs.Puts.{put_no_bits, put_as, put_both, copy_more, there}
-use mathlib.Core.Path.{◌≡◌, refl, ◌∙◌}
-use Prim.Native.Nat.{ℕ, ◌+◌, ◌*◌, ◌-◌, ◌≤◌}
+use mathlib.Core.Path.{refl, ◌∙◌}
+use Prim.Native.Nat.{◌-◌}
 use native.Mathlib.Omega.{arith}
-use lib.ListN.{length, take}
-use borrow.Author.Rules.{rules}
 use Rattle.writer.proofs.copy.Goals as goal
 
 pub loop-left-init : goal.loop-left-init

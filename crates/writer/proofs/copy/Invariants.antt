@@ -1,15 +1,11 @@
 -- `writer::copy` meets its contract. The loop's invariant: what puts the bits that are left puts them all. The measure is how many are left.
 -- Assumes nothing.
 use mathlib.Core.List.{List}
-use Rattle.bits.proofs.Reading.{got, ran_out}
 use Rattle.side.specs.Promises.{bits_at}
 use Rattle.writer.specs.Promises.{BitsPut}
-use Rattle.writer.proofs.Puts.{put_no_bits, put_as, put_both, copy_more, there}
-use mathlib.Core.Path.{◌≡◌, refl, ◌∙◌}
+use mathlib.Core.Path.{◌≡◌}
 use Prim.Native.Nat.{ℕ, ◌+◌, ◌*◌, ◌-◌, ◌≤◌}
-use native.Mathlib.Omega.{arith}
 use lib.ListN.{length, take}
-use borrow.Author.Rules.{rules}
 use Rattle.writer.proofs.copy.Given as goal
 
 abbrev pub invariant-loop-left : goal.invariant-loop-left

@@ -1,6 +1,5 @@
 -- `writer::emit` meets its contract, by the laws of Puts. Assumes nothing.
 use native.Mathlib.Omega.{arith}
-use borrow.Author.Rules.{rules}
 use Rattle.writer.proofs.Puts.{put_field, put_out}
 use Rattle.writer.proofs.emit.Goals as goal
 

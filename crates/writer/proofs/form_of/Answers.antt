@@ -1,7 +1,6 @@
 -- `writer::form_of` meets its contract. Assumes nothing.
 use mathlib.Core.Path.{sym, ◌∙◌}
 use native.Mathlib.Omega.{arith}
-use borrow.Author.Rules.{rules}
 use Rattle.writer.proofs.form_of.Goals as goal
 
 pub returns-then-is_dated : goal.returns-then-is_dated

@@ -1,12 +1,8 @@
 -- Answers of `is_default`. Assumes nothing.
-use Rattle.paper.specs.Strategy.{upward, default}
-use Rattle.paper.specs.Writer.{numbers, same}
 use Rattle.writer.proofs.Lists.{default_short, default_start, default_more, default_differs, default_last}
-use mathlib.Core.Path.{◌≡◌, sym, ◌∙◌}
-use Prim.Native.Nat.{◌+◌, ◌-◌, ◌≤◌}
+use mathlib.Core.Path.{sym, ◌∙◌}
+use Prim.Native.Nat.{◌+◌, ◌-◌}
 use native.Mathlib.Omega.{arith}
-use lib.ListN.{take, drop}
-use borrow.Author.Rules.{rules}
 use Rattle.writer.proofs.is_default.Goals as goal
 
 pub returns-then-len-n : goal.returns-then-len-n

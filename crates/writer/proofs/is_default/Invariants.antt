@@ -2,12 +2,9 @@
 -- is how many arguments are left. Assumes nothing.
 use Rattle.paper.specs.Strategy.{upward, default}
 use Rattle.paper.specs.Writer.{numbers, same}
-use Rattle.writer.proofs.Lists.{default_short, default_start, default_more, default_differs, default_last}
-use mathlib.Core.Path.{◌≡◌, sym, ◌∙◌}
-use Prim.Native.Nat.{◌+◌, ◌-◌, ◌≤◌}
-use native.Mathlib.Omega.{arith}
+use mathlib.Core.Path.{◌≡◌}
+use Prim.Native.Nat.{◌-◌, ◌≤◌}
 use lib.ListN.{take, drop}
-use borrow.Author.Rules.{rules}
 use Rattle.writer.proofs.is_default.Given as goal
 
 abbrev pub invariant-loop-i : goal.invariant-loop-i

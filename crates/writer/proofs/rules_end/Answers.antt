@@ -1,11 +1,9 @@
 -- Answers of `rules_end`. Assumes nothing.
 use Rattle.bits.proofs.Reading.{got, ran_out}
-use Rattle.writer.specs.Promises.{RulesEnd}
 use Rattle.writer.proofs.Rules.{rules_none, rules_out_of_bits, rules_refused, rules_more}
-use Prim.Native.Nat.{ℕ, ◌+◌, ◌-◌, ◌≤◌}
+use Prim.Native.Nat.{◌+◌, ◌-◌}
 use native.Mathlib.Omega.{arith}
 use native.Mathlib.Numerals.{unary_clauses}
-use borrow.Author.Rules.{rules}
 use Rattle.writer.proofs.rules_end.Goals as goal
 
 pub loop-i-init : goal.loop-i-init

@@ -1,12 +1,7 @@
 -- `writer::rules_end` meets its contract. The loop's invariant: where the rules that are left end, all end. The measure is how many are left.
 -- Assumes nothing.
-use Rattle.bits.proofs.Reading.{got, ran_out}
 use Rattle.writer.specs.Promises.{RulesEnd}
-use Rattle.writer.proofs.Rules.{rules_none, rules_out_of_bits, rules_refused, rules_more}
-use Prim.Native.Nat.{ℕ, ◌+◌, ◌-◌, ◌≤◌}
-use native.Mathlib.Omega.{arith}
-use native.Mathlib.Numerals.{unary_clauses}
-use borrow.Author.Rules.{rules}
+use Prim.Native.Nat.{ℕ, ◌-◌, ◌≤◌}
 use Rattle.writer.proofs.rules_end.Given as goal
 
 abbrev pub invariant-loop-i : goal.invariant-loop-i

@@ -2,7 +2,6 @@
 use mathlib.Core.Path.{refl}
 use native.Mathlib.Omega.{arith}
 use lib.Pow.{pow_pos}
-use borrow.Author.Rules.{rules}
 use Rattle.writer.proofs.Books.{book_put}
 use Rattle.writer.proofs.Laws.{few}
 use Rattle.writer.proofs.write_accepted.Goals as goal

@@ -1,7 +1,6 @@
 -- `writer::write_book` meets its contract, as the laws of the answers say. Assumes nothing.
 use native.Mathlib.Omega.{arith}
 use Rattle.writer.proofs.Laws.{answers_prefix}
-use borrow.Author.Rules.{rules}
 use Rattle.writer.proofs.write_book.Goals as goal
 
 pub returns-then-book-gt65536 : goal.returns-then-book-gt65536

@@ -1,6 +1,5 @@
 -- `writer::write_fitting` meets its contract, as the laws of the answers say. Assumes nothing.
 use native.Mathlib.Omega.{arith}
-use borrow.Author.Rules.{rules}
 use Rattle.writer.proofs.Laws.{answers_short, answers_written}
 use Rattle.writer.proofs.write_fitting.Goals as goal
 

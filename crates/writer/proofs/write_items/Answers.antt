@@ -1,15 +1,8 @@
 -- Answers of `write_items`. Assumes nothing.
-use mathlib.Core.List.{List}
-use Rattle.paper.specs.Bits.{to_bits}
-use Rattle.paper.specs.Writer.{concat}
-use Rattle.writer.specs.Promises.{BitsPut}
 use Rattle.writer.proofs.Puts.{put_none, put_as, put_both}
 use Rattle.writer.proofs.Lists.{items_more, items_end}
-use mathlib.Core.Path.{◌≡◌, refl, ◌∙◌}
-use Prim.Native.Nat.{ℕ, ◌+◌, ◌*◌, ◌-◌, ◌≤◌}
+use mathlib.Core.Path.{refl, ◌∙◌}
 use native.Mathlib.Omega.{arith}
-use lib.ListN.{length, take, drop}
-use borrow.Author.Rules.{rules}
 use Rattle.writer.proofs.write_items.Goals as goal
 
 pub loop-i-init : goal.loop-i-init

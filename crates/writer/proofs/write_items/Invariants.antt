@@ -4,13 +4,9 @@ use mathlib.Core.List.{List}
 use Rattle.paper.specs.Bits.{to_bits}
 use Rattle.paper.specs.Writer.{concat}
 use Rattle.writer.specs.Promises.{BitsPut}
-use Rattle.writer.proofs.Puts.{put_none, put_as, put_both}
-use Rattle.writer.proofs.Lists.{items_more, items_end}
-use mathlib.Core.Path.{◌≡◌, refl, ◌∙◌}
+use mathlib.Core.Path.{◌≡◌}
 use Prim.Native.Nat.{ℕ, ◌+◌, ◌*◌, ◌-◌, ◌≤◌}
-use native.Mathlib.Omega.{arith}
 use lib.ListN.{length, take, drop}
-use borrow.Author.Rules.{rules}
 use Rattle.writer.proofs.write_items.Given as goal
 
 abbrev pub invariant-loop-i : goal.invariant-loop-i

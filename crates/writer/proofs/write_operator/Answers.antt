@@ -4,7 +4,6 @@ use native.Mathlib.Omega.{arith}
 use Rattle.bits.proofs.Reading.{got, got_as, ran_out}
 use Rattle.writer.proofs.Puts.{put_both}
 use Rattle.writer.proofs.Operators.{operator_out, operator_refused, operator_read}
-use borrow.Author.Rules.{rules}
 use Rattle.writer.proofs.write_operator.Goals as goal
 
 pub returns-in_default : goal.returns-in_default

@@ -1,13 +1,9 @@
 -- Answers of `write_operators`. Assumes nothing.
-use mathlib.Core.List.{List}
 use native.Mathlib.Numerals.{unary_clauses}
-use Rattle.writer.specs.Promises.{OperatorsWritten}
 use Rattle.writer.proofs.Operators.{operators_none, operators_more}
-use mathlib.Core.Path.{◌≡◌, refl, ◌∙◌}
-use Prim.Native.Nat.{ℕ, ◌+◌, ◌*◌, ◌-◌, ◌≤◌}
+use mathlib.Core.Path.{refl, ◌∙◌}
+use Prim.Native.Nat.{◌+◌, ◌-◌}
 use native.Mathlib.Omega.{arith}
-use lib.ListN.{length}
-use borrow.Author.Rules.{rules}
 use Rattle.writer.proofs.write_operators.Goals as goal
 
 pub loop-o-init : goal.loop-o-init

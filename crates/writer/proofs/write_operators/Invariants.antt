@@ -1,14 +1,10 @@
 -- `writer::write_operators` meets its contract. The loop's invariant: what writes the operators that are left writes them all. The measure is how
 -- many are left. Assumes nothing.
 use mathlib.Core.List.{List}
-use native.Mathlib.Numerals.{unary_clauses}
 use Rattle.writer.specs.Promises.{OperatorsWritten}
-use Rattle.writer.proofs.Operators.{operators_none, operators_more}
-use mathlib.Core.Path.{◌≡◌, refl, ◌∙◌}
+use mathlib.Core.Path.{◌≡◌}
 use Prim.Native.Nat.{ℕ, ◌+◌, ◌*◌, ◌-◌, ◌≤◌}
-use native.Mathlib.Omega.{arith}
 use lib.ListN.{length}
-use borrow.Author.Rules.{rules}
 use Rattle.writer.proofs.write_operators.Given as goal
 
 abbrev pub invariant-loop-o : goal.invariant-loop-o

@@ -4,7 +4,6 @@ use Prim.Native.Nat.{◌-◌}
 use native.Mathlib.Omega.{arith}
 use Rattle.bits.proofs.Reading.{got, ran_out}
 use Rattle.writer.proofs.Rules.{rules_out, rules_copied}
-use borrow.Author.Rules.{rules}
 use Rattle.writer.proofs.write_rules.Goals as goal
 
 pub returns-in_default : goal.returns-in_default

@@ -1,6 +1,5 @@
 -- `writer::write_short` meets its contract, as the laws of the answers say. Assumes nothing.
 use Rattle.writer.proofs.Laws.{accepted_of, answers_refused}
-use borrow.Author.Rules.{rules}
 use Rattle.writer.proofs.write_short.Goals as goal
 
 pub write_fitting-requires : goal.write_fitting-requires

@@ -3,7 +3,6 @@ use mathlib.Core.Path.{sym, ◌∙◌}
 use native.Mathlib.Omega.{arith}
 use Rattle.writer.proofs.Puts.{put_as, put_both}
 use Rattle.writer.proofs.Lists.{bits_of_default, bits_of_list}
-use borrow.Author.Rules.{rules}
 use Rattle.writer.proofs.write_strategy.Goals as goal
 
 pub returns-then-is_default : goal.returns-then-is_default

@@ -1,0 +1,30 @@
+-- Answers of `each_once`. Assumes nothing.
+use mathlib.Core.List.{List}
+use mathlib.Core.Path.{◌≡◌, refl, sym, ◌∙◌}
+use Prim.Native.Nat.{ℕ, suc}
+use native.Mathlib.Omega.{arith}
+use lib.Dec.{eqb}
+use borrow.Author.Rules.{rules}
+use Rattle.flat.specs.Rules.{of_rank}
+use Rattle.flat.specs.Tested.{each_below}
+use Rattle.units.specs.Stacks.{units_of}
+use Rattle.point_order.proofs.Ranks.{once_next, once_stop, once_end}
+use Rattle.point_order.proofs.each_once.Goals as goal
+
+pub loop-r-init : goal.loop-r-init
+loop-r-init c w = refl
+
+pub returns-then-of_rank-ne1 : goal.returns-then-of_rank-ne1
+returns-then-of_rank-ne1 c =
+    let l = c.loop-r in
+    record { is = λ w. sym (l.invariant w ∙ once_stop w c.of_rank.ensures c.loop-r-test.true c.if-of_rank-ne1.true) }
+
+pub loop-r-preserved : goal.loop-r-preserved
+loop-r-preserved c w =
+    let l = c.loop-r in
+    l.invariant w ∙ once_next w c.of_rank.ensures c.loop-r-test.true c.if-of_rank-ne1.false
+
+pub returns : goal.returns
+returns c =
+    let l = c.loop-r in
+    record { is = λ w. sym (l.invariant w ∙ once_end w _ _ l.r (omega arith)) }

@@ -1,0 +1,13 @@
+-- `point_order::operator_of` meets its contract. Assumes nothing.
+use native.Mathlib.Omega.{arith}
+use borrow.Author.Rules.{rules}
+use Rattle.point_order.proofs.Waiting.{operator_in, operator_behind}
+use Rattle.point_order.proofs.operator_of.Goals as goal
+
+pub returns-then-a-length : goal.returns-then-a-length
+returns-then-a-length c =
+    operator_in c.args.symbols.now c.args.a c.requires.0 c.requires.1 _ (omega arith) c.operator_at.ensures
+
+pub returns : goal.returns
+returns c =
+    operator_behind c.args.symbols.now c.args.a c.requires.0 c.requires.1 (omega arith)

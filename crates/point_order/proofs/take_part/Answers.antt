@@ -1,0 +1,30 @@
+-- `point_order::take_part` meets its contract. Assumes nothing.
+use native.Mathlib.Omega.{arith}
+use borrow.Author.Rules.{rules}
+use Rattle.point_order.proofs.Loops.{found_below, part_is, part_foreign, part_missing, part_found}
+use Rattle.point_order.proofs.take_part.Goals as goal
+
+pub returns-then-units-v : goal.returns-then-units-v
+returns-then-units-v c =
+    part_foreign _ _ _ _ c.requires.2 c.if-units-v.true
+
+pub highest_exit-requires : goal.highest_exit-requires
+highest_exit-requires c =
+    omega (arith, c.base_of.ensures, c.requires.2.within c.args.v, c.requires.0.regions.bytes)
+
+pub stands-requires : goal.stands-requires
+stands-requires c =
+    let f = found_below _ _ _ _ c.highest_exit.ensures.1 c.in-Exit.is in
+    (f.1, omega (arith, c.requires.0.placed c.in-Exit.exit.unit f.1))
+
+pub returns-in-Exit : goal.returns-in-Exit
+returns-in-Exit c =
+    let f = found_below _ _ _ _ c.highest_exit.ensures.1 c.in-Exit.is in
+    part_found _ _ _ _ c.requires.2 c.in-Exit.j c.in-Exit.exit (omega arith) (omega arith) (omega (arith, f.0, c.requires.2.within c.args.v))
+    (part_is c.args.work.now c.args.tops.now c.args.v c.base_of.result c.base_of.ensures c.highest_exit.ensures.0 c.in-Exit.is)
+    c.stands.ensures
+
+pub returns-in-None : goal.returns-in-None
+returns-in-None c =
+    part_missing _ _ _ _ c.requires.2 (omega arith)
+    (part_is c.args.work.now c.args.tops.now c.args.v c.base_of.result c.base_of.ensures c.highest_exit.ensures.0 c.in-None.is)
