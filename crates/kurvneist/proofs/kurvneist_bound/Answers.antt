@@ -1,6 +1,5 @@
 -- `kurvneist::kurvneist_bound` meets its contract, as the law of the answer says. Assumes nothing.
 use Rattle.kurvneist.proofs.Laws.{bound_told}
-use borrow.Author.Rules.{rules}
 use Rattle.kurvneist.proofs.kurvneist_bound.Goals as goal
 
 pub returns : goal.returns

@@ -1,7 +1,5 @@
 -- `kurvneist::kurvneist_charge` meets its contract, for each answer. Assumes nothing.
-use mathlib.Core.List.{[], ◌∷◌}
-use mathlib.Core.Path.{◌≡◌, refl, ap, ◌∙◌}
-use lib.IntN.{ℤ}
+use mathlib.Core.Path.{refl}
 use mir.Facts.{to_z-of_z}
 use mir.Syntax.{w64}
 use mir.Val.{SFits}

@@ -1,6 +1,5 @@
 -- `kurvneist::kurvneist_park` meets its contract, as the law of the answer says. Assumes nothing.
 use Rattle.kurvneist.proofs.Laws.{parked}
-use borrow.Author.Rules.{rules}
 use Rattle.kurvneist.proofs.kurvneist_park.Goals as goal
 
 pub returns : goal.returns

@@ -1,6 +1,5 @@
 -- `kurvneist::kurvneist_payee_lines` meets its contract, as the law of the answer says. Assumes nothing.
 use Rattle.kurvneist.proofs.Laws.{lines_told}
-use borrow.Author.Rules.{rules}
 use Rattle.kurvneist.proofs.kurvneist_payee_lines.Goals as goal
 
 pub returns : goal.returns

@@ -1,6 +1,5 @@
 -- `kurvneist::kurvneist_reduce` meets its contract, as the law of the answer says. Assumes nothing.
 use Rattle.kurvneist.proofs.Laws.{reduced}
-use borrow.Author.Rules.{rules}
 use Rattle.kurvneist.proofs.kurvneist_reduce.Goals as goal
 
 pub returns : goal.returns

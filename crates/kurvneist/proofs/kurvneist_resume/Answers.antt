@@ -1,6 +1,5 @@
 -- `kurvneist::kurvneist_resume` meets its contract, as the law of the answer says. Assumes nothing.
 use Rattle.kurvneist.proofs.Laws.{resumed}
-use borrow.Author.Rules.{rules}
 use Rattle.kurvneist.proofs.kurvneist_resume.Goals as goal
 
 pub returns : goal.returns

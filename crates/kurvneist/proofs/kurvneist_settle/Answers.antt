@@ -1,7 +1,6 @@
 -- `kurvneist::kurvneist_settle` meets its contract, as the law of the answer says. Assumes nothing.
 use mir.Facts.{to_z-of_z}
 use Rattle.kurvneist.proofs.Laws.{settled_told}
-use borrow.Author.Rules.{rules}
 use Rattle.kurvneist.proofs.kurvneist_settle.Goals as goal
 
 pub returns : goal.returns

@@ -2,7 +2,6 @@
 use mathlib.Core.Path.{refl}
 use Rattle.paper.specs.Strict.{strict_number}
 use Rattle.kurvneist.proofs.Laws.{judged}
-use borrow.Author.Rules.{rules}
 use Rattle.kurvneist.proofs.kurvneist_strict_book.Goals as goal
 
 pub returns-in-Refused : goal.returns-in-Refused

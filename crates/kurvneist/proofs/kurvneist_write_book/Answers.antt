@@ -1,6 +1,5 @@
 -- `kurvneist::kurvneist_write_book` meets its contract, as the law of the answer says. Assumes nothing.
 use Rattle.kurvneist.proofs.Laws.{wrote}
-use borrow.Author.Rules.{rules}
 use Rattle.kurvneist.proofs.kurvneist_write_book.Goals as goal
 
 pub returns-in-Refused : goal.returns-in-Refused

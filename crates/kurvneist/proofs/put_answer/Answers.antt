@@ -1,6 +1,5 @@
 -- `kurvneist::put_answer` meets its contract for each case of the answer. Assumes nothing.
 use mathlib.Core.Path.{refl}
-use borrow.Author.Rules.{rules}
 use Rattle.kurvneist.proofs.put_answer.Goals as goal
 
 pub returns-in-Ran : goal.returns-in-Ran

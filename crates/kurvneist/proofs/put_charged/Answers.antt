@@ -1,7 +1,6 @@
 -- `kurvneist::put_charged` meets its contract: one store. Assumes nothing.
 use mathlib.Core.List.{[], ◌∷◌}
 use Rattle.kurvneist.proofs.Laws.{whole}
-use borrow.Author.Rules.{rules}
 use Rattle.kurvneist.proofs.put_charged.Goals as goal
 
 pub returns : goal.returns

@@ -1,6 +1,5 @@
 -- `kurvneist::put_done` meets its contract for each case of the answer. Assumes nothing.
 use mathlib.Core.Path.{refl}
-use borrow.Author.Rules.{rules}
 use Rattle.kurvneist.proofs.put_done.Goals as goal
 
 pub returns-in-Done : goal.returns-in-Done

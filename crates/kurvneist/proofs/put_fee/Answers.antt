@@ -4,7 +4,6 @@ use mathlib.Core.Path.{ap, ◌∙◌}
 use lib.IntN.{ℤ}
 use mir.Facts.{to_z-of_z}
 use Rattle.kurvneist.proofs.Laws.{whole}
-use borrow.Author.Rules.{rules}
 use Rattle.kurvneist.proofs.put_fee.Goals as goal
 
 pub returns : goal.returns

@@ -1,7 +1,6 @@
 -- `kurvneist::put_numbers` meets its contract: six stores. Assumes nothing.
 use mathlib.Core.List.{[], ◌∷◌}
 use Rattle.kurvneist.proofs.Laws.{whole}
-use borrow.Author.Rules.{rules}
 use Rattle.kurvneist.proofs.put_numbers.Goals as goal
 
 pub returns : goal.returns

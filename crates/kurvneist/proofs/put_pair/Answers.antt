@@ -1,7 +1,6 @@
 -- `kurvneist::put_pair` meets its contract: two stores. Assumes nothing.
 use mathlib.Core.List.{[], ◌∷◌}
 use Rattle.kurvneist.proofs.Laws.{whole}
-use borrow.Author.Rules.{rules}
 use Rattle.kurvneist.proofs.put_pair.Goals as goal
 
 pub returns : goal.returns

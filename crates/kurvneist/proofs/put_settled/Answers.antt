@@ -1,5 +1,4 @@
 -- `kurvneist::put_settled` meets its contract for each case of the answer. Assumes nothing.
-use mathlib.Core.Path.{◌≡◌, refl, ap, ◌∙◌}
 use mir.Facts.{to_z-of_z}
 use mir.Syntax.{w64}
 use mir.Val.{SFits}
