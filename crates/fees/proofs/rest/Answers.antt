@@ -4,11 +4,6 @@ use mir.Facts.{to_z-of_z}
 use Rattle.fees.proofs.Values.{factor, product_fits, size_casts, size_cast, rest_small, rest_size}
 use Rattle.fees.proofs.rest.Goals as goal
 
--- TODO rem-size : tie.Need-nonzero-rem-size
--- rem-size c =
---     let s = c.before in
---     (lit< tt, quotient_fits s.args.net s.args.share s.requires (to_z-of_z s.ranges.net) (factor c.wide.ensures s.requires))
-
 pub overflow_mul-net : goal.overflow_mul-net
 overflow_mul-net c =
     product_fits c.args.net c.args.share c.requires (to_z-of_z c.ranges.net) (factor c.wide.ensures c.requires)
