@@ -16,7 +16,7 @@ fn main() {
     let archive = folder.join(ARCHIVE);
     if !archive.is_file() {
         stop(&format!(
-            "{} is not there. Run `rt staticlib kurvneist` in the repository first,\n\
+            "{} is not there. Run `tools/build kurvneist` in the repository first,\n\
              or name the folder that holds it in the environment variable KURVNEIST_LIB.",
             archive.display()
         ));

@@ -1,7 +1,7 @@
 /*
  * Asks how long a schedule suffices, and runs on so many rounds. In the repository's folder:
  *
- *   rt staticlib kurvneist
+ *   tools/build kurvneist
  *   cc -O2 -Wall -Wextra -Ilibrary/include -o target/bound library/examples/bound.c target/staticlib/libkurvneist.a
  *   target/bound
  */

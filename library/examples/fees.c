@@ -1,7 +1,7 @@
 /*
  * Posts a line and charges it, as a payment and as its refund. In the repository's folder:
  *
- *   rt staticlib kurvneist
+ *   tools/build kurvneist
  *   cc -O2 -Wall -Wextra -Ilibrary/include -o target/fees library/examples/fees.c target/staticlib/libkurvneist.a
  *   target/fees
  */

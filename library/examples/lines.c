@@ -1,7 +1,7 @@
 /*
  * Posts a few lines by one book, through answers that are too short for all records at once. In the repository's folder:
  *
- *   rt staticlib kurvneist
+ *   tools/build kurvneist
  *   cc -O2 -Wall -Wextra -Ilibrary/include -o target/lines library/examples/lines.c target/staticlib/libkurvneist.a
  *   target/lines
  */

@@ -1,7 +1,7 @@
 /*
  * Posts a payee as four people type it; all four come out alike. In the repository's folder:
  *
- *   rt staticlib kurvneist
+ *   tools/build kurvneist
  *   cc -O2 -Wall -Wextra -Ilibrary/include -o target/payee library/examples/payee.c target/staticlib/libkurvneist.a
  *   target/payee
  */

@@ -1,7 +1,7 @@
 /*
  * Parks a run and goes on with it. In the repository's folder:
  *
- *   rt staticlib kurvneist
+ *   tools/build kurvneist
  *   cc -O2 -Wall -Wextra -Ilibrary/include -o target/points library/examples/points.c target/staticlib/libkurvneist.a
  *   target/points
  */

@@ -1,7 +1,7 @@
 /*
  * Posts one line. In the repository's folder:
  *
- *   rt staticlib kurvneist
+ *   tools/build kurvneist
  *   cc -O2 -Wall -Wextra -Ilibrary/include -o target/post library/examples/post.c target/staticlib/libkurvneist.a
  *   target/post
  */

@@ -1,7 +1,7 @@
 /*
  * Says of two books whether the order of their rules is free. In the repository's folder:
  *
- *   rt staticlib kurvneist
+ *   tools/build kurvneist
  *   cc -O2 -Wall -Wextra -Ilibrary/include -o target/strict library/examples/strict.c target/staticlib/libkurvneist.a
  *   target/strict
  */

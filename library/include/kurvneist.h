@@ -1,7 +1,7 @@
 /*
  * Kurvneist: reduces lines by rule books on one to eight simulated units.
  *
- * The functions of libkurvneist.a (x86-64), which `rt staticlib kurvneist` writes. docs/FORMAT.md says what the bytes of
+ * The functions of libkurvneist.a (x86-64), which `tools/build kurvneist` writes. docs/FORMAT.md says what the bytes of
  * a book, a line, a text, a page and a point are, bit by bit, how fees are charged, and in which order faults are refused.
  *
  * Buffers. Each is lent as a pointer and its length in bytes; shares as a pointer and how many there are. A null pointer is

@@ -111,7 +111,7 @@ module _ (u n : ℕ) where
       marked cs (set ws d x) c (length-set ws d x ∙ l) a ∙ elim (eqb_cases c d) [
         | inl p ↦
             let e : has_bit u x ≡ true = bit_or_lem u (get_or ws d 0) (2 ^ u) ∙ rw (bit_own u) (either_true (has_bit u (get_or ws d 0))) in
-            rw (p.0, has, p.1, get_or-set_same ws d x 0 (omega arith), e) (either_true (has d cs))
+            rw (p.0, has, p.1, get_or-set_same ws d x 0 (omega arith), e) (either_true (has c cs))
         | inr p ↦ rw (p.0, has, get_or-set_other ws d c x 0 p.1)
       ]
 

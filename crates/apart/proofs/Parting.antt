@@ -71,6 +71,7 @@ denies_not false false p q f g = absurd (q (f p))
 
 -- a node's place is among those of nodes
 pub place_in : (places : List ℕ) (y : ℕ) (ys : List ℕ) → In y ys → In (get_or places y 0) (places_of places ys)
+place_in places y [] x' = elim x' [ ]
 place_in places y (x ∷ ys) (inl e) = inl (ap (λ (z : ℕ). get_or places z 0) e)
 place_in places y (x ∷ ys) (inr i) = inr (place_in places y ys i)
 
@@ -299,6 +300,7 @@ module _ (T : Trie) (operators : List ℕ) where
     ]
 
     in_place : (c : ℕ) (ys : List ℕ) → In c (places_of T.places ys) → (y : ℕ) × In y ys × (c ≡ place_of T y)
+    in_place c [] x' = elim x' [ ]
     in_place c (x ∷ ys) (inl e) = (x, inl refl, e)
     in_place c (x ∷ ys) (inr i) = let (y, j, e) = in_place c ys i in (y, inr j, e)
 

@@ -1,6 +1,8 @@
 // Which left sides of a book no term matches together (document 02, Change 13), for all pairs of rules at once. Two left sides are apart exactly if they
 // have different nodes at one place, where a variable has none. Which rules have a place or a node is kept as bits, 64 rules in a word: a rule's row has
 // a bit for each rule that is apart from it.
+#![tactic(auto)]
+
 ghost use Rattle.std.specs.Prelude.{◌≡◌, ◌+◌, ◌*◌, ◌^◌, ◌<◌, ◌≤◌, length, replicate};
 ghost use Rattle.tables.specs.Tables.{TablesOf, book_of};
 ghost use Rattle.overlap.specs.Trie.{cells};

@@ -1,4 +1,6 @@
 // The reader of books for the benchmark: its tables are the caller's, so that they can be compared. An undated book ignores the day.
+#![tactic(auto)]
+
 ghost use Rattle.std.specs.Prelude.{◌≡◌, length};
 
 use book::Book;

@@ -1,4 +1,6 @@
 // A book's net, and a rewrite, for the benchmark.
+#![tactic(auto)]
+
 ghost use Rattle.std.specs.Prelude.{true, ◌≡◌, ◌≤◌, ◌<◌, length, get_or, take};
 ghost use Rattle.flat.specs.Rules.{spells};
 ghost use Rattle.tables.specs.Layout.{arity_in, day_in};

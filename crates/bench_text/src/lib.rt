@@ -1,4 +1,6 @@
 // A payee's text read for the benchmark: the table of operators is the caller's.
+#![tactic(auto)]
+
 ghost use Rattle.std.specs.Prelude.{◌≡◌, length};
 
 use text::Text;

@@ -10,7 +10,7 @@ use Rattle.paper.specs.Result.{Result, refused, accepted, Read, Reader, if, retu
 use Rattle.paper.specs.Bits.{to_bits, bits_of, field}
 use Rattle.paper.specs.Book.{Operator, Rule, Book}
 use Rattle.paper.specs.Reader.{read_operator, read_rule, read_count, all_zero, read_end, read_bits, read_book}
-use Rattle.paper.specs.Dated.{DatedRule, DatedBook, AnyBook, is_dated, read_dated_rule, read_dated_bits, read_dated, read_any, on_day}
+use Rattle.paper.specs.Dated.{DatedRule, DatedBook, AnyBook, is_dated, read_dated_bits, read_dated, read_any, on_day}
 use Rattle.paper.proofs.Dated.{read_as_dated, read_as_undated}
 use Rattle.side.specs.Promises.{bits_at}
 use Rattle.book.specs.Promises.{read_rule_of, undated_rules, read_tail, begins, in_form}

@@ -1,10 +1,10 @@
 -- The operators' table grows by an entry at its end. Assumes nothing.
 use mathlib.Core.List.{List, [], ◌∷◌, ◌++◌}
-use mathlib.Core.Path.{◌≡◌, sym, ap, ◌∙◌, subst}
+use mathlib.Core.Path.{◌≡◌, ap, ◌∙◌}
 use Prim.Native.Nat.{ℕ, ◌+◌, ◌*◌, ◌≤◌, ◌<◌}
 use native.Mathlib.Omega.{arith}
-use lib.ListN.{length, get_or, set, take, length-append, length-set, get_or-append}
-use lib.Seq.{get_or_at, get_or-take, get_or-set_same, get_or-set_other, drop-set-lt, length-take-le}
+use lib.ListN.{length, set, take, length-set, get_or-append}
+use lib.Seq.{get_or-take, get_or-set_same, get_or-set_other, drop-set-lt, length-take-le}
 use Rattle.paper.specs.Strategy.{layout}
 use Rattle.paper.specs.Book.{Operator}
 use Rattle.tables.specs.Layout.{row, arity_in, row_in, set_row}

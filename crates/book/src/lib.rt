@@ -1,5 +1,7 @@
 // A book in one pass over its bytes: the refusal, or the tables that a run needs (document 01, 'The book, bit by bit'; refusals 1 to 9 but 6). Of a
 // dated book (document 02, Change 5) the table keeps the rules that stand on the day.
+#![tactic(auto)]
+
 ghost use Rattle.std.specs.Prelude.{◌≡◌, ◌<◌, ◌≤◌, length};
 ghost use Rattle.paper.specs.Dated.{is_dated};
 ghost use Rattle.book.specs.Promises.{OperatorTaken, OperatorsTaken, DayPassed, RuleTaken, RulesTaken, EndsAt, TailAt, begins, AllRead, StandingKept, BookAt};

@@ -1,5 +1,7 @@
 // Cases from standard input, each 2 bytes book length, 2 bytes output length, 2 bytes day (most significant byte first) and the book. For each, a line
 // with what the reader answers on that day, what the writer answers, and the writer's output in hexadecimal, whole.
+#![tactic(auto)]
+
 ghost use Rattle.std.specs.Prelude.{◌≡◌, ◌<◌, ◌≤◌, length};
 
 use book::Book;

@@ -1,7 +1,12 @@
 // What the programs that try cases share: numbers and bytes from standard input, and words, numbers and bytes to standard output.
+#![tactic(auto)]
+
 ghost use Rattle.std.specs.Prelude.{◌≡◌, ◌+◌, ◌*◌, ◌<◌, ◌≤◌, length};
 
-use libc::{STDIN_FILENO, STDOUT_FILENO};
+// The descriptors of standard input and output.
+const STDIN_FILENO: i32 = 0;
+
+const STDOUT_FILENO: i32 = 1;
 
 // Two bytes as one number, the most significant first.
 pub fn number(high: u8, low: u8) -> usize

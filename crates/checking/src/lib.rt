@@ -1,5 +1,7 @@
 // The check of a buffer of named points (document 02, Change 11): whether every point keeps the rules and no name stands twice, where a name is placed, and which point
 // bears it. Nothing is written.
+#![tactic(auto)]
+
 ghost use Rattle.std.specs.Prelude.{◌≡◌, ◌≤◌, length};
 ghost use Rattle.parking.specs.Form.{read_slot};
 ghost use Rattle.parking.specs.Points.{points_fault};

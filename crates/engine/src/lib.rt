@@ -1,5 +1,7 @@
 // The entry points of a run: any book, line or text, units, budget, schedule, work area, net and output are taken. What is asked is checked in the order
 // of document 01's table, then the run is made; nothing lent is written before the last check has passed.
+#![tactic(auto)]
+
 ghost use Rattle.std.specs.Prelude.{◌++◌, ◌≡◌, ℕ, ◌^◌, ◌≤◌, ◌<◌, length, take, drop, replicate};
 ghost use Rattle.paper.specs.Page.{all_below};
 ghost use Rattle.flat.specs.Machine.{FlatState};
@@ -34,7 +36,7 @@ pub enum Answer {
 }
 
 // What stands where the term stands: a term, or a payee's text.
-#[derive(Drop)]
+#[derive(Clone, Copy)]
 pub enum Form {
     Term,
     Text,
@@ -145,9 +147,9 @@ pub fn post(
     requires given { C.Given (book_by book.now net.now) line.now n }
     requires asked { C.Asked limits schedule.now (length work.old) }
     requires symbols_len { (length symbols.old ≡ 1024) × (length scratch.old ≡ 1024) }
-    ensures { C.Posted (book_by book.now net.now) (take n line.now) limits schedule.now
+    ensures posted { C.Posted (book_by book.now net.now) (take n line.now) limits schedule.now
         symbols.new result }
-    ensures { length scratch.new ≡ 1024 }
+    ensures scratch_long { length scratch.new ≡ 1024 }
 {
     let mut cells = [0u32; 8];
     let mut order = [0u16; 1024];

@@ -207,13 +207,13 @@ module _ {bytes operators net symbols scratch work units order : List ℕ} {u : 
         omega (arith, ap length d, length-drop (x.next - 1) (steps_in operators o), ap length steps_are)
 
     -- where the answer is none of VISIT, FORK and JOIN, it is WHOLE
-    pub whole_there : 1 ≤ x.next → (y : D.Step) → step y ≡ step_of (code_in operators o (x.next - 1)) → OneOf (0 ∷ 1 ∷ []) (tag_of the_type y) →
-        some Step.whole ≡ step_of (code_in operators o (x.next - 1))
-    whole_there one D.Step.None e q = absurd (step_there one e)
-    whole_there one D.Step.Whole e q = e
-    whole_there one (D.Step.Visit i) e q = elim q [ inl d ↦ absurd (omega arith) | inr d ↦ absurd (omega arith) ]
-    whole_there one (D.Step.Fork i) e q = elim q [ inl d ↦ absurd (omega arith) | inr d ↦ absurd (omega arith) ]
-    whole_there one (D.Step.Join i) e q = elim q [ inl d ↦ absurd (omega arith) | inr d ↦ absurd (omega arith) ]
+    pub whole_there : 1 ≤ x.next → (y : D.Step) → step y ≡ step_of (code_in operators o (x.next - 1)) → ((i : ℕ) → y ≡ D.Step.Visit i → ⊥) →
+        ((i : ℕ) → y ≡ D.Step.Fork i → ⊥) → ((i : ℕ) → y ≡ D.Step.Join i → ⊥) → some Step.whole ≡ step_of (code_in operators o (x.next - 1))
+    whole_there one D.Step.None e v f j = absurd (step_there one e)
+    whole_there one D.Step.Whole e v f j = e
+    whole_there one (D.Step.Visit i) e v f j = absurd (v i refl)
+    whole_there one (D.Step.Fork i) e v f j = absurd (f i refl)
+    whole_there one (D.Step.Join i) e v f j = absurd (j i refl)
 
     -- its next order, if that is a step: the one that the table has there
     module _ {y : Step} (one : 1 ≤ x.next) (e : some y ≡ step_of (code_in operators o (x.next - 1))) where

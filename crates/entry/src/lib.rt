@@ -1,4 +1,6 @@
 // One schedule entry (document 01, 'Orders of a unit'): a busy unit carries out the order of its top frame, for an idle one nothing happens.
+#![tactic(auto)]
+
 ghost use Rattle.std.proofs.Math.Option.{some};
 ghost use Rattle.std.specs.Prelude.{◌≡◌, ◌+◌, ◌-◌, ◌^◌, ◌≤◌, ◌<◌, length, get_or, drop};
 ghost use Rattle.paper.specs.Strategy as P;
@@ -28,7 +30,7 @@ pub enum Entry {
 }
 
 // The unit whose turn it is, the job on top of its stack, and the operator of the job's term, which is read once.
-#[derive(Drop)]
+#[derive(Clone, Copy)]
 struct Task {
     unit: usize,
     job: Job,

@@ -1,9 +1,9 @@
 -- The code's answers against the definition's, check by check. Assumes nothing.
-use mathlib.Core.Bool.{Bool, true, false, true≢false}
-use mathlib.Core.List.{List, [], ◌∷◌, ◌++◌}
+use mathlib.Core.Bool.{true, false, true≢false}
+use mathlib.Core.List.{List, ◌++◌}
 use mathlib.Core.Option.{Option, none, some}
 use mathlib.Core.Path.{◌≡◌, refl, sym, ap, ◌∙◌}
-use Prim.Native.Nat.{ℕ, zero, suc, ◌-◌, ◌^◌, ◌≤◌, ◌<◌}
+use Prim.Native.Nat.{ℕ, ◌≤◌, ◌<◌}
 use native.Mathlib.Omega.{arith}
 use lib.IntN.{ℤ, pos, negsuc, nat_abs, ◌-ℤ◌}
 use lib.ListN.{length, drop}
@@ -12,12 +12,12 @@ use mir.Syntax.{w64}
 use mir.Val.{SFits}
 use Rattle.paper.specs.Result.{Result, refused, accepted}
 use Rattle.paper.proofs.Tests.{ltb_true, ltb_false, ltb_less}
-use Rattle.fees.specs.Fees.{fee, net_of, part, listed, parts, root_rate, are_shares, Charge, charge_by, charge}
+use Rattle.fees.specs.Fees.{fee, net_of, part, parts, root_rate, are_shares, Charge, charge_by, charge}
 use Rattle.fees.specs.Spec.{ChargedAs}
 use Rattle.fees.specs.Promises.{InRange, Splits}
 use Rattle.fees.specs.declared.Charged as D
 use Rattle.fees.proofs.Signs.{sign_size}
-use Rattle.fees.proofs.Sizes.{fee_size, net_is}
+use Rattle.fees.proofs.Sizes.{net_is}
 use Rattle.fees.proofs.Laws.{shared, length_listed, ltb_not_less}
 use Rattle.fees.proofs.Values.{kept, kept_as, fits_size, fee_kept}
 

@@ -6,21 +6,21 @@ use mathlib.Core.List.{List, [], ◌∷◌, ◌++◌, map, map-append}
 use mathlib.Core.Logic.{◌⊎◌, inl, inr, ◌≢◌}
 use mathlib.Core.Option.{Option, none, some}
 use mathlib.Core.Path.{◌≡◌, refl, sym, ap, ◌∙◌}
-use Prim.Native.Nat.{ℕ, zero, suc, ◌+◌, ◌*◌, ◌-◌, ◌/◌, ◌%◌, ◌^◌, ◌≤◌, ◌<◌}
-use native.Mathlib.Nat.{mul-le-mul, div-add-mod', mod-lt}
+use Prim.Native.Nat.{ℕ, zero, suc, ◌+◌, ◌*◌, ◌-◌, ◌≤◌, ◌<◌}
+use native.Mathlib.Nat.{mul-le-mul}
 use native.Mathlib.Omega.{arith}
 use lib.Dec.{eqb, ltb}
-use lib.IntN.{ℤ, pos, negsuc, neg_ℤ, nat_abs, ◌+ℤ◌, ◌-ℤ◌, ◌*ℤ◌, neg_ℤ-neg_ℤ, neg_ℤ-+ℤ, +ℤ_comm, -ℤ-+ℤ_cancel}
+use lib.IntN.{ℤ, pos, neg_ℤ, nat_abs, ◌+ℤ◌, ◌-ℤ◌, ◌*ℤ◌, neg_ℤ-neg_ℤ, neg_ℤ-+ℤ, +ℤ_comm, -ℤ-+ℤ_cancel}
 use lib.ListN.{length, get_or, length-append, get_or-append}
 use lib.Seq.{get_or_at}
 use mir.Syntax.{w64}
 use mir.Val.{SFits}
 use Rattle.paper.specs.Result.{Result, refused, accepted, if}
 use Rattle.paper.proofs.Tests.{either, ltb_cases, ltb_less, eqb_cases, eqb_equal}
-use Rattle.fees.specs.Fees.{with_sign, fee, net_of, sum, cut, left, rest_of, how_many, comes_before, gets_one, part, listed, parts, root_rate, total, are_shares, Charge, charge_by, charge}
-use Rattle.fees.proofs.Signs.{size_of, sign_size, times, plus, minus, turned, size_turned, fits}
-use Rattle.fees.proofs.Counting.{bit, truly_fewer, first_ones, Before, came, owners_order}
-use Rattle.fees.proofs.Sizes.{fee_size, fee_near, fee_small, fee_is, net_is, part_size, size_near, part_is, part_small, parts_are, listed_same, sum_below, sizes_add_up, signed_sum, cuts, left_is, left_few}
+use Rattle.fees.specs.Fees.{with_sign, fee, net_of, sum, left, rest_of, how_many, comes_before, gets_one, part, listed, parts, root_rate, total, are_shares, Charge, charge_by, charge}
+use Rattle.fees.proofs.Signs.{size_of, sign_size, times, minus, turned, size_turned, fits}
+use Rattle.fees.proofs.Counting.{truly_fewer, first_ones, Before, came, owners_order}
+use Rattle.fees.proofs.Sizes.{fee_size, fee_near, fee_small, fee_is, net_is, part_size, size_near, part_is, part_small, parts_are, listed_same, sizes_add_up, signed_sum, left_is, left_few}
 
 -- THE CHECKS
 

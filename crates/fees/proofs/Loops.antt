@@ -1,14 +1,14 @@
 -- One turn of each loop: sums of shares, counts of owners, lists written element by element. Assumes nothing.
-use mathlib.Core.Bool.{Bool, true, false}
+use mathlib.Core.Bool.{Bool}
 use mathlib.Core.List.{List, [], ◌∷◌, ◌++◌, map, map-append}
 use mathlib.Core.Logic.{◌≢◌}
-use mathlib.Core.Option.{Option, none, some}
+use mathlib.Core.Option.{none, some}
 use mathlib.Core.Path.{◌≡◌, refl, sym, ap, ◌∙◌}
-use Prim.Native.Nat.{ℕ, zero, suc, ◌+◌, ◌*◌, ◌-◌, ◌^◌, ◌≤◌, ◌<◌}
+use Prim.Native.Nat.{ℕ, zero, suc, ◌+◌, ◌*◌, ◌-◌, ◌≤◌, ◌<◌}
 use native.Mathlib.Numerals.{add-one}
 use native.Mathlib.Omega.{arith}
 use lib.Dec.{eqb, ltb}
-use lib.IntN.{ℤ, pos, neg_ℤ, nat_abs, ◌+ℤ◌, ◌-ℤ◌, neg_ℤ-+ℤ, +ℤ_assoc, +ℤ_idr}
+use lib.IntN.{ℤ, neg_ℤ, nat_abs, ◌+ℤ◌, ◌-ℤ◌, neg_ℤ-+ℤ, +ℤ_assoc, +ℤ_idr}
 use lib.ListN.{length, get_or, take, drop, set, get_or-append}
 use mir.Syntax.{w64}
 use mir.Val.{SFits}
@@ -16,7 +16,7 @@ use lib.Seq.{take-suc, take_all, drop-cons, set_at, append_snoc}
 use Rattle.paper.specs.Result.{if}
 use Rattle.paper.specs.Page.{number}
 use Rattle.paper.proofs.Tests.{ltb_true, ltb_false}
-use Rattle.fees.specs.Fees.{with_sign, sum, cut, rest, left, rest_of, how_many, comes_before, gets_one, part, listed, rate_of, root_rate, total}
+use Rattle.fees.specs.Fees.{with_sign, sum, cut, left, rest_of, how_many, comes_before, gets_one, part, listed, rate_of, root_rate, total}
 use Rattle.fees.specs.Promises.{InRange, Splits}
 use Rattle.fees.proofs.Signs.{size_of, sign_size, minus, sum_snoc}
 use Rattle.fees.proofs.Counting.{bit, same_count}

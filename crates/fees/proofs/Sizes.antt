@@ -1,17 +1,15 @@
 -- The sizes of fee, cuts, remainders and parts, which are those of amounts without a sign: the net amount is a sign and m cents. Assumes nothing.
 use mathlib.Core.Bool.{Bool, true, false}
-use mathlib.Core.List.{List, [], ◌∷◌, ◌++◌, map}
+use mathlib.Core.List.{List, [], ◌∷◌, map}
 use mathlib.Core.Logic.{◌⊎◌, inl, inr, ◌≢◌}
 use mathlib.Core.Path.{◌≡◌, refl, sym, ap, ◌∙◌}
 use Prim.Native.Nat.{ℕ, zero, suc, ◌+◌, ◌*◌, ◌-◌, ◌/◌, ◌%◌, ◌≤◌, ◌<◌}
-use native.Mathlib.Nat.{mul-zero, mul-add, mul-le-mul_left, div-add-mod', mod-lt, zero-mul}
-use native.Mathlib.Numerals.{add-one}
+use native.Mathlib.Nat.{mul-zero, mul-add, mul-le-mul_left, div-add-mod', mod-lt}
 use native.Mathlib.Omega.{arith}
 use lib.Dec.{eqb, ltb}
-use lib.IntN.{ℤ, pos, negsuc, nat_abs, ◌+ℤ◌, ◌-ℤ◌, ◌*ℤ◌}
+use lib.IntN.{ℤ, pos, negsuc, nat_abs, ◌+ℤ◌, ◌-ℤ◌}
 use lib.Signed.{quot_z, rem_z}
 use lib.ListN.{length, get_or}
-use Rattle.paper.specs.Result.{if}
 use Rattle.paper.proofs.Tests.{ltb_cases, ltb_less, eqb_cases}
 use Rattle.fees.specs.Fees.{with_sign, fee, net_of, sum, cut, rest, left, rest_of, how_many, comes_before, gets_one, part, listed, parts, total}
 use Rattle.fees.proofs.Signs.{size_of, sign_size, times, quotient, remainder, plus, minus, sum_snoc}

@@ -1,5 +1,7 @@
 // The fee of an amount, by the rate of the root of a term that was posted, and the net amount split among its owners (document 02, Change 12). Amounts are
 // cents; rates and shares are ten-thousandths.
+#![tactic(auto)]
+
 ghost use Rattle.std.specs.Prelude.{◌++◌, ◌≡◌, ◌^◌, ◌≤◌, ◌<◌, eqb, ltb, pos, nat_abs, ◌+ℤ◌, length, get_or, drop, ◌≤ℤ◌};
 ghost use Rattle.paper.specs.Result.{if};
 ghost use Rattle.fees.specs.Fees as F;

@@ -1,5 +1,7 @@
 // The right side of a packed rule filled (document 01, 'Reduction one after the other'), each symbol with its size (document 02, Change 7);
 // copies take their marks along (Change 10).
+#![tactic(auto)]
+
 ghost use Rattle.std.specs.Prelude.{◌≡◌, ◌≤◌, ◌^◌, length};
 ghost use Rattle.tables.specs.Layout.{arity_in};
 ghost use Rattle.term.specs.Present.{operators_in, marks_in, Sized};

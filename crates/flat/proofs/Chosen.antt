@@ -20,7 +20,7 @@ use Rattle.flat.specs.Symbols.{argument}
 use Rattle.flat.specs.Machine.{Frame, FlatUnit, FlatState, unit}
 use Rattle.flat.specs.Rules.{nth_frame, jobs, jobs_at, exits_to, same_pair, upto, stack}
 use Rattle.flat.specs.Relation.{Valid, offset}
-use Rattle.flat.specs.Meets.{named, Job, Taken, Carries, Stacked, frame, Meets}
+use Rattle.flat.specs.Meets.{Job, Taken, Carries, Stacked, frame, Meets}
 use Rattle.flat.proofs.Bounds.{place_at, offset_unique, jobs_cons, upto_swap}
 use Rattle.flat.proofs.Counts.{same_pair_is}
 use Rattle.flat.proofs.Heights.{same_parent}

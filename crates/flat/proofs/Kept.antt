@@ -21,7 +21,6 @@ use Rattle.paper.proofs.Stack.{bottom, blocks_same, blocks_other, same_in}
 use Rattle.paper.proofs.Tests.{eqb_cases}
 use Rattle.paper.proofs.Trees.{size_preorder}
 use Rattle.paper.proofs.View.{Block, block, list}
-use Rattle.flat.specs.Symbols.{argument}
 use Rattle.flat.specs.Machine.{Frame, FlatUnit, FlatState, next_count}
 use Rattle.flat.specs.Rules.{InGroup, AtJoin, nth_frame, jobs, exits_to, upto, stack}
 use Rattle.flat.specs.Relation.{Valid, offset, Rooted, Some, recount, Placed, PlacedUnit, at, Ranked, list_of, frame_of, stack_of, unit_of, GoodFrame, GoodFrames, Rests, Under, Stacked}

@@ -1,12 +1,12 @@
 -- The packed fields of a point behind its book and day (document 02, Change 11: "term, marks, each unit's orders and state, idle queue, the order in which
 -- pending parts were placed, unit count, budget, counts, .. in packed fields"), written and read. A unit's state and its place in the idle queue are its rank. Sizes
 -- are not written: they are those of the symbols. Assumes nothing.
-use Rattle.std.specs.Prelude.{Bool, true, false, List, [], ◌∷◌, ◌++◌, ℕ, zero, suc, pred, length}
+use Rattle.std.specs.Prelude.{Bool, true, false, List, ◌++◌, ℕ, zero, suc, pred, length}
 use Rattle.paper.specs.Result.{Reader, return, ◌>>=◌, repeat}
 use Rattle.paper.specs.Bits.{to_bits, field}
 use Rattle.paper.specs.Writer.{concat}
 use Rattle.flat.specs.Sizes.{sizes}
-use Rattle.flat.specs.Machine.{Frame, FlatUnit, flat_unit, FlatState}
+use Rattle.flat.specs.Machine.{Frame, FlatUnit, flat_unit}
 use Rattle.flat.specs.Parts.{Parked}
 
 -- a frame: its kind, and what it bears

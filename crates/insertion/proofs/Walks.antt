@@ -23,7 +23,7 @@ use Rattle.net.specs.Net.{part, key, path, Same}
 use Rattle.net.specs.Promises.{CellPut, WayPut}
 use Rattle.net.proofs.Leading.{agree_less, agree_at}
 use Rattle.net.proofs.Growing.{Gone, gone_first, gone_along, gone_over, grow_root, grow_same, grow_way, same_snoc}
-use Rattle.insertion.specs.Promises.{width, SymbolRead, Keyed, Ready, branch, chosen, Appended, PlaceIs, Inserted}
+use Rattle.insertion.specs.Promises.{SymbolRead, Keyed, Ready, branch, chosen, Appended, PlaceIs, Inserted}
 use Rattle.insertion.specs.declared.Symbol as D
 use Rattle.insertion.specs.declared.Parting as Pa
 use Rattle.insertion.specs.declared.Place as Pl

@@ -1,5 +1,7 @@
 // The net of a book's rules, built in its area (document 02, Change 8): each rule in book order goes along the paths that are there until it parts from
 // them.
+#![tactic(auto)]
+
 ghost use Rattle.std.specs.Prelude.{◌≡◌, suc, ◌<◌, ◌≤◌, ◌^◌, length};
 ghost use Rattle.tables.specs.Layout.{day_in};
 ghost use Rattle.tables.specs.Tables.{TablesOf};

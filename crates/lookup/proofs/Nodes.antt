@@ -104,11 +104,11 @@ stands_at bytes (s ∷ ss) (suc d) p rest l f n e r k =
 
 -- A TERM'S END
 
-pub before_end : (a s q z : ℕ) → ltb q (a + z) ≡ true → z ≡ s → q < a + s
-before_end a s q z h e = omega (arith, ltb-true q (a + z) h, e)
+pub before_end : (a s q z : ℕ) → q < a + z → z ≡ s → q < a + s
+before_end a s q z h e = omega arith
 
-pub behind_end : (a s q z : ℕ) → ltb q (a + z) ≡ false → z ≡ s → a + s ≤ q
-behind_end a s q z h e = omega (arith, ltb-false q (a + z) h, e)
+pub behind_end : (a s q z : ℕ) → a + z ≤ q → z ≡ s → a + s ≤ q
+behind_end a s q z h e = omega arith
 
 -- one term is due at an offset of the present term
 pub one_due : (ar : ℕ → ℕ) (symbols : List ℕ) (a : ℕ) → Sized ar symbols → a < length_in symbols → Due ar (operators_in symbols) (end symbols a) 1 a

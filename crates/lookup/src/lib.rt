@@ -1,5 +1,7 @@
 // The first rule of a book that matches, found by its net (document 02, Change 8): down the branches that the term's symbols agree with, back to those
 // that were passed, and at the end of a path its rules are matched.
+#![tactic(auto)]
+
 ghost use Rattle.std.specs.Prelude.{◌≡◌, suc, ◌+◌, ◌^◌, ◌≤◌, ◌<◌, length, get_or};
 ghost use Rattle.term.specs.Present.{length_in, operators_in};
 ghost use Rattle.rule.specs.Packed.{binding};
@@ -13,7 +15,7 @@ use rule::{Found, Hit, Match};
 use side::Standing;
 
 // A node of the net, and the term's offset there: so many symbols of a rule's path, in so many bits.
-#[derive(Drop)]
+#[derive(Clone, Copy)]
 struct Spot {
     rule: usize,
     depth: usize,

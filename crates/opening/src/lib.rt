@@ -1,4 +1,6 @@
 // What stands behind a point's name, opened (document 02, Change 11): its book is read on its day, its run loaded into arrays, and tried by the rules.
+#![tactic(auto)]
+
 ghost use Rattle.std.specs.Prelude.{◌≡◌, ◌^◌, ◌≤◌, length};
 ghost use Rattle.units.specs.Stacks.{store};
 ghost use Rattle.point.specs.Saved.{arrays};

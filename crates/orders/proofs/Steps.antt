@@ -2,18 +2,14 @@
 use mathlib.Core.Path.{◌≡◌, refl, sym, ap, ◌∙◌}
 use mathlib.Core.Bool.{true, false}
 use mathlib.Core.List.{List, [], ◌∷◌}
-use mathlib.Core.Logic.{inl, inr}
 use Prim.Native.Nat.{ℕ, suc, ◌+◌, ◌≤◌, ◌<◌}
 use native.Mathlib.Omega.{arith}
 use native.Mathlib.Numerals.{add-one}
 use lib.ListN.{length, drop, drop_of_length-le}
-use types.Run.{OneOf}
-use denote.Enum.Declared.{tag_of}
 use Rattle.paper.specs.Strategy.{Step}
 use Rattle.flat.specs.Machine.{Frame, next_count, proceed}
 use Rattle.tables.specs.Layout.{step, step_of, code_in, steps_in, Rowed}
 use Rattle.tables.specs.declared.Step as D
-use Rattle.tables.specs.contracts.Step.{the_type}
 use Rattle.tables.proofs.Rows.{here_is}
 use Rattle.orders.specs.Promises.{is_some, Counted}
 
@@ -34,28 +30,21 @@ module _ {operators : List ℕ} {o : ℕ} (r : Rowed operators o) (k : ℕ) (l :
 
 -- what is known where an answer is none of those that are named
 module _ {operators : List ℕ} {o : ℕ} (r : Rowed operators o) (k : ℕ) (l : k < 16) where
-  pub some_here : (z : D.Step) → step z ≡ step_of (code_in operators o k) → OneOf (1 ∷ 2 ∷ 3 ∷ 4 ∷ []) (tag_of the_type z) →
-      is_some (drop k (steps_in operators o)) ≡ true
-  some_here D.Step.None e q =
-      elim q [
-        | inl d ↦ absurd (omega arith)
-        | inr q ↦ elim q [ inl d ↦ absurd (omega arith) | inr q ↦ elim q [ inl d ↦ absurd (omega arith) | inr d ↦ absurd (omega arith) ] ]
-      ]
+  pub some_here : (z : D.Step) → step z ≡ step_of (code_in operators o k) → (z ≡ D.Step.None → ⊥) → is_some (drop k (steps_in operators o)) ≡ true
+  some_here D.Step.None e q = absurd (q refl)
   some_here D.Step.Whole e q = ap is_some (here_is r k l _ e).0
   some_here (D.Step.Visit i) e q = ap is_some (here_is r k l _ e).0
   some_here (D.Step.Fork i) e q = ap is_some (here_is r k l _ e).0
   some_here (D.Step.Join c) e q = ap is_some (here_is r k l _ e).0
 
-  pub count_past : (z : D.Step) → step z ≡ step_of (code_in operators o k) → OneOf (1 ∷ 2 ∷ 3 ∷ []) (tag_of the_type z) → (i : ℕ) → i ≡ k + 1 →
-      next_count (drop k (steps_in operators o)) ≡ next_count (drop i (steps_in operators o))
+  pub count_past : (z : D.Step) → step z ≡ step_of (code_in operators o k) → (z ≡ D.Step.None → ⊥) → ((c : ℕ) → z ≡ D.Step.Join c → ⊥) →
+      (i : ℕ) → i ≡ k + 1 → next_count (drop k (steps_in operators o)) ≡ next_count (drop i (steps_in operators o))
   unfolding next_count
-  count_past D.Step.None e q i j =
-      elim q [ inl d ↦ absurd (omega arith) | inr q ↦ elim q [ inl d ↦ absurd (omega arith) | inr d ↦ absurd (omega arith) ] ]
-  count_past D.Step.Whole e q i j = rw (j, add-one k) (ap next_count (here_is r k l _ e).0)
-  count_past (D.Step.Visit a) e q i j = rw (j, add-one k) (ap next_count (here_is r k l _ e).0)
-  count_past (D.Step.Fork a) e q i j = rw (j, add-one k) (ap next_count (here_is r k l _ e).0)
-  count_past (D.Step.Join c) e q i j =
-      elim q [ inl d ↦ absurd (omega arith) | inr q ↦ elim q [ inl d ↦ absurd (omega arith) | inr d ↦ absurd (omega arith) ] ]
+  count_past D.Step.None e q n i j = absurd (q refl)
+  count_past D.Step.Whole e q n i j = rw (j, add-one k) (ap next_count (here_is r k l _ e).0)
+  count_past (D.Step.Visit a) e q n i j = rw (j, add-one k) (ap next_count (here_is r k l _ e).0)
+  count_past (D.Step.Fork a) e q n i j = rw (j, add-one k) (ap next_count (here_is r k l _ e).0)
+  count_past (D.Step.Join c) e q n i j = absurd (n c refl)
 
 pub count_end : {operators : List ℕ} {o : ℕ} → Rowed operators o → (k : ℕ) → 16 ≤ k → next_count (drop k (steps_in operators o)) ≡ 0
 unfolding next_count

@@ -1,5 +1,7 @@
 // The orders of a unit (document 01, 'Orders of a unit'), but for WHOLE with a match, on the units as they are kept. A job is the one on top of unit
 // u's stack, and o the operator of its term: the job's next order is carried out, and it goes on with the one behind.
+#![tactic(auto)]
+
 ghost use Rattle.std.specs.Prelude.{◌≡◌, ◌+◌, ◌<◌, ◌≤◌, pred, length, drop};
 ghost use Rattle.flat.specs.Sizes.{hop};
 ghost use Rattle.symbol.specs.Record.{sizes};

@@ -1,18 +1,17 @@
 -- The left sides walked one after another: those walked before keep their cells. Assumes nothing.
 use mathlib.Core.List.{List, [], ◌∷◌}
 use mathlib.Core.Logic.{◌⊎◌, inl, inr}
-use mathlib.Core.Path.{◌≡◌, refl, sym, ap, ◌∙◌, subst}
+use mathlib.Core.Path.{◌≡◌, refl, sym, ◌∙◌}
 use Prim.Native.Nat.{ℕ, zero, suc, ◌+◌, ◌*◌, ◌<◌, ◌≤◌}
 use native.Mathlib.Nat.{eq-or-lt_of_le}
 use native.Mathlib.Omega.{arith}
-use lib.ListN.{length, get_or, take, drop, set, replicate, length-replicate, length-set, length-drop}
+use lib.ListN.{length, get_or, drop, set, replicate, length-replicate, length-set, length-drop}
 use lib.Seq.{get_or-set_same, get_or-set_other, get_or-take, get_or-drop, length-take-le, ext_get_or}
 use Rattle.paper.specs.Tree.{preorder}
 use Rattle.paper.specs.Book.{Rule}
 use Rattle.tables.specs.Layout.{arity_in, left_in}
-use Rattle.tables.specs.Tables.{rule_at, TablesOf, book_of}
+use Rattle.tables.specs.Tables.{rule_at}
 use Rattle.rule.specs.Promises.{Lefts}
-use Rattle.rule.proofs.Tables.{lefts_stand}
 use Rattle.overlap.specs.Trie.{Trie, trie, Named, Linked, Based, Grows, Walked, cells, cells_of}
 use Rattle.overlap.specs.Promises.{Walkable, SideWalked, Built}
 use Rattle.overlap.proofs.Walking.{grows_none, grows_on, linked_wide, based_wide}

@@ -1,15 +1,13 @@
 -- An operator entered at a place: its node is there, or the cell becomes one; what is named stays so. Assumes nothing.
-use mathlib.Core.Bool.{true, false}
 use mathlib.Core.List.{List}
 use mathlib.Core.Logic.{◌⊎◌, inl, inr, ◌≢◌}
-use mathlib.Core.Path.{◌≡◌, refl, sym, ap, ◌∙◌, subst}
-use Prim.Native.Nat.{ℕ, ◌+◌, ◌-◌, ◌*◌, ◌/◌, ◌%◌, ◌<◌, ◌≤◌}
+use mathlib.Core.Path.{◌≡◌, refl, sym, ◌∙◌, subst}
+use Prim.Native.Nat.{ℕ, ◌+◌, ◌-◌, ◌*◌, ◌/◌, ◌<◌, ◌≤◌}
 use native.Mathlib.Omega.{arith}
-use lib.Dec.{ltb}
-use lib.ListN.{length, get_or, set, length-set}
+use lib.ListN.{get_or, set, length-set}
 use lib.Seq.{get_or-set_same, get_or-set_other}
 use Rattle.paper.proofs.Tests.{eqb_cases, ltb_cases}
-use Rattle.overlap.specs.Trie.{Trie, trie, base_of, place_of, Named, Leads, slot_place, Link, Long, Linked, Based, Grows}
+use Rattle.overlap.specs.Trie.{Trie, trie, base_of, place_of, Named, Leads, slot_place, Link, Linked, Based}
 use Rattle.overlap.specs.Promises.{Seekable, Sought, NodeIs, NodeOf, Entered}
 use Rattle.overlap.specs.declared.Found as S
 use Rattle.overlap.proofs.Leading.{own_slot, free_slot, leads_place, free_place, free_early, leads_still, leads_now}

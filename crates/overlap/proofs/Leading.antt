@@ -1,16 +1,12 @@
 -- Where links lead: to one node or slot alone, to nodes of one place; and what stays so when a node is put where they lead to a free slot.
 -- Assumes nothing.
-use mathlib.Core.Bool.{true, false}
 use mathlib.Core.List.{List}
-use mathlib.Core.Logic.{◌⊎◌, inl, inr, ◌≢◌}
 use mathlib.Core.Path.{◌≡◌, refl, sym, ap, ◌∙◌, subst}
-use Prim.Native.Nat.{ℕ, ◌+◌, ◌-◌, ◌*◌, ◌/◌, ◌%◌, ◌<◌, ◌≤◌}
+use Prim.Native.Nat.{ℕ, ◌+◌, ◌-◌, ◌*◌, ◌/◌, ◌%◌, ◌<◌}
 use native.Mathlib.Omega.{arith}
-use lib.Dec.{ltb}
-use lib.ListN.{length, get_or, set}
-use lib.Seq.{get_or-set_same, get_or-set_other}
-use Rattle.paper.proofs.Tests.{eqb_cases, ltb_false, ltb_true}
-use Rattle.overlap.specs.Trie.{Trie, place_of, Named, Leads, slot_place, Link, Linked}
+use lib.ListN.{get_or}
+use Rattle.paper.proofs.Tests.{ltb_false, ltb_true}
+use Rattle.overlap.specs.Trie.{Trie, place_of, Leads, slot_place, Link}
 use Rattle.overlap.specs.declared.Found as S
 
 -- a node's slots lead to nodes of its place, a place's slot to its own

@@ -1,22 +1,22 @@
 -- A left side walked symbol by symbol, with the places of the terms that are due. Assumes nothing.
 use mathlib.Core.List.{List, [], ◌∷◌, ◌++◌, append-nil, append_assoc}
 use mathlib.Core.Logic.{◌⊎◌, inl, inr}
-use mathlib.Core.Path.{◌≡◌, refl, sym, ap, ap₂, ◌∙◌, subst}
+use mathlib.Core.Path.{◌≡◌, refl, sym, ap₂, ◌∙◌, subst}
 use Prim.Native.Nat.{ℕ, zero, suc, ◌+◌, ◌-◌, ◌<◌, ◌≤◌}
 use native.Mathlib.Numerals.{add-one}
 use native.Mathlib.Omega.{arith}
-use lib.ListN.{length, get_or, take, drop, set, length-set, length-drop, drop_of_length-le}
+use lib.ListN.{length, get_or, drop, set, length-set, length-drop, drop_of_length-le}
 use lib.Seq.{drop-cons, get_or-set_same, get_or-set_other, drop-set-lt, drop-set-add, take-suc-set}
 use Rattle.paper.specs.Tree.{preorder, Complete}
-use Rattle.paper.specs.Book.{Symbol, Side}
+use Rattle.paper.specs.Book.{Symbol}
 use Rattle.paper.specs.Sound.{All}
 use Rattle.paper.proofs.Lists.{all_append}
 use Rattle.side.specs.Promises.{StandingAt}
 use Rattle.side.specs.declared.Standing as Sd
 use Rattle.tables.specs.Layout.{arity_in}
-use Rattle.rule.specs.Packed.{Stands, SideAt}
+use Rattle.rule.specs.Packed.{Stands}
 use Rattle.rule.proofs.Sides.{goes_operator, goes_variable, none_left}
-use Rattle.overlap.specs.Trie.{Trie, base_of, Named, Linked, Based, Grows, upto, Walked, cells}
+use Rattle.overlap.specs.Trie.{Trie, base_of, Linked, Based, Grows, upto, Walked, cells}
 use Rattle.overlap.specs.Promises.{Entered, Walkable, SideWalked}
 
 -- PLACES THAT ARE DUE

@@ -1,5 +1,7 @@
 // Places and nodes of a book's left sides (document 02, Change 13). A place is a way down from the root, by operators and arguments; a node is an operator
 // at a place. Each operator of a left side has a cell with the number of its node.
+#![tactic(auto)]
+
 ghost use Rattle.std.specs.Prelude.{◌++◌, ◌≡◌, ◌+◌, ◌-◌, ◌*◌, ◌<◌, ◌≤◌, length, drop, set};
 ghost use Rattle.tables.specs.Layout.{arity_in};
 ghost use Rattle.tables.specs.Tables.{TablesOf, book_of};

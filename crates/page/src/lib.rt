@@ -1,4 +1,6 @@
 // The program's page for its standard input (document 01, 'The program and its page'; document 02, Changes 1, 2 and 5).
+#![tactic(auto)]
+
 ghost use Rattle.std.specs.Prelude.{◌∷◌, [], ◌≡◌, ◌+◌, ◌≤◌, ◌<◌, length, take, drop};
 ghost use Rattle.paper.specs.Page.{number, spaced, line, term_word, answer_lines, own_lengths, answer_by};
 ghost use Rattle.stream.specs.Promises.{WrittenAt};

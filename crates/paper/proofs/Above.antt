@@ -5,7 +5,7 @@ use mathlib.Core.List.{List, [], ◌∷◌, ◌++◌, map, append_assoc}
 use mathlib.Core.Logic.{◌⊎◌, inl, inr, ◌≢◌}
 use mathlib.Core.Option.{Option, none, some}
 use mathlib.Core.Path.{◌≡◌, refl, sym, ◌∙◌, ap, subst}
-use Prim.Native.Nat.{ℕ, zero, suc, ◌+◌, ◌-◌, ◌<◌, ◌≤◌, pred}
+use Prim.Native.Nat.{ℕ, zero, suc, ◌-◌, ◌<◌, ◌≤◌, pred}
 use native.Mathlib.Omega.{arith}
 use native.Mathlib.Decide.{ℕ_discrete}
 use lib.Dec.{eqb}
@@ -15,7 +15,7 @@ use lib.Seq.{get_or-set_same, get_or-set_other}
 use Rattle.paper.specs.Result.{accepted}
 use Rattle.paper.specs.Tree.{Position, subterm, Correct}
 use Rattle.paper.specs.Strategy.{Step}
-use Rattle.paper.specs.Book.{Term, Book, arity, steps}
+use Rattle.paper.specs.Book.{Term, Book, arity}
 use Rattle.paper.specs.Dated.{AnyBook, read_any, on_day}
 use Rattle.paper.specs.Line.{symbol_limit, read_line}
 use Rattle.paper.specs.Match.{rewrite_over}

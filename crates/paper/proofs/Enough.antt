@@ -17,7 +17,7 @@ use Rattle.paper.specs.Line.{read_line}
 use Rattle.paper.specs.Marks.{Marked, bare}
 use Rattle.paper.specs.Reduction.{forks, orders}
 use Rattle.paper.specs.Walk.{ReducesMarked}
-use Rattle.paper.specs.Machine.{UnitState, asleep, unit, State, Event, Ending, Outcome, going, ended, Limits, Grant, in_force, longest, turn_by, entry_by, start}
+use Rattle.paper.specs.Machine.{asleep, unit, State, Event, Ending, Outcome, going, ended, Limits, Grant, in_force, turn_by, entry_by, start}
 use Rattle.paper.specs.Run.{Answer, after, run_from_by, run_by, run, weigh}
 use Rattle.paper.specs.OneUnit.{unlimited, alone}
 use Rattle.paper.specs.Parts.{unless_ended, from_point, parked_by, parked_parts_by}
@@ -35,7 +35,7 @@ use Rattle.paper.proofs.Idle.{longest_idle}
 use Rattle.paper.proofs.Invariant.{Inv, left_by, placed_by, pending, Shows, Next, n_going, n_finished, n_spent, n_full}
 use Rattle.paper.proofs.Line.{line_correct}
 use Rattle.paper.proofs.OneUnit.{one, alone_busy, alone_none, alone_counts, start_pending, one_unit}
-use Rattle.paper.proofs.Parts.{parked_run_by, parked_append_by, parts_parked_by, parked_inv_by}
+use Rattle.paper.proofs.Parts.{parked_run_by, parts_parked_by, parked_inv_by}
 use Rattle.paper.proofs.Progress.{can_act}
 use Rattle.paper.proofs.Queue.{QueuedAfter, entry_queued, start_queued}
 use Rattle.paper.proofs.View.{Block}
@@ -317,7 +317,7 @@ module _ (B : Book) (sound : Sound B) (t : Term) (c : Correct (arity B) t) (budg
     unfolding carried
     most_over_parts parts = omega (arith, parts_carried G B L parts (start units t), most_orders (flatten parts))
 
-    -- spent is shut out: the one_unit run's rewrites are within the budget, and those of every finished run are the same
+    -- spent is shut out: the one-unit run's rewrites are within the budget, and those of every finished run are the same
     not_spent : (schedule : List ℕ) → (run_by G B L units schedule t).ending ≡ Ending.spent → ⊥
     unfolding run
     not_spent schedule e =

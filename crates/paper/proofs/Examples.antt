@@ -208,7 +208,7 @@ E items = record {
   rules = record { left = two_of (Symbol.operator 3) x x; right = one_of (Symbol.operator 1) x } ∷ [];
 }
 
--- the terms that the entries of a one_unit run leave
+-- the terms that the entries of a one-unit run leave
 unfoldable pub terms : Book → ℕ → Term → List Marked
 unfolding moments
 terms B n t = map (λ (m : Moment). m.state.term) (moments B (limits 9) 1 (replicate n 0) t)

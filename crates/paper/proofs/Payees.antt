@@ -4,7 +4,7 @@ use mathlib.Core.List.{List, [], ◌∷◌, ◌++◌, map}
 use mathlib.Core.Path.{◌≡◌, refl}
 use Prim.Native.Nat.{ℕ}
 use lib.ListN.{replicate}
-use Rattle.paper.specs.Result.{Result, refused, accepted}
+use Rattle.paper.specs.Result.{Result, refused}
 use Rattle.paper.specs.Text.{class, squeezed}
 use Rattle.paper.specs.Run.{Answer}
 use Rattle.paper.specs.Page.{answer_by, payee_of, payee_page_of}

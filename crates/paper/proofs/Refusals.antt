@@ -2,7 +2,6 @@
 -- to 9, 13 to 16, 18 and 19; by 15 only if the work area or the net's is below its published length, by 16 only if the output is under 1,024 bytes; by 6
 -- never, whatever the bytes (document 02, Change 4: "Number 6 is given no longer, and this is shown for every book"). An input is refused by 17 alone.
 -- Books are in either form (Change 5). Assumes nothing.
-use mathlib.Core.Bool.{true, false}
 use mathlib.Core.List.{List, [], ◌∷◌, ◌++◌}
 use mathlib.Core.Logic.{◌⊎◌, inl, inr, ◌≢◌}
 use mathlib.Core.Option.{Option, none, some}
@@ -11,7 +10,7 @@ use Prim.Native.Nat.{ℕ, zero, suc, ◌+◌, ◌/◌, ◌%◌, ◌≤◌, ◌<�
 use native.Mathlib.Omega.{arith}
 use lib.Dec.{eqb, ltb}
 use lib.ListN.{length, get_or, take, drop, length-append}
-use Rattle.paper.specs.Result.{Result, refused, accepted, if, then}
+use Rattle.paper.specs.Result.{Result, refused, accepted, then}
 use Rattle.paper.specs.Book.{Term, Book, arity}
 use Rattle.paper.specs.Dated.{is_dated, read_any, on_day}
 use Rattle.paper.specs.Line.{symbol_limit, line_fault, unless_fault, read_line}

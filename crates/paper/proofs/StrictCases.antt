@@ -1,9 +1,8 @@
 -- Document 02, Change 13, on books that show it, all computed, and from bytes: books that are admitted, pairs that are told with the term that both
 -- rules match, the numbers 24 and 25 and what is told before them, and a run by rearranged rules. Assumes nothing.
 use mathlib.Core.List.{List, [], ◌∷◌, ◌++◌, map}
-use mathlib.Core.Option.{none, some}
+use mathlib.Core.Option.{some}
 use mathlib.Core.Path.{◌≡◌, refl}
-use Prim.Native.Nat.{ℕ}
 use lib.ListN.{take, drop, replicate}
 use Rattle.paper.specs.Book.{Symbol, Side, Rule, Book}
 use Rattle.paper.specs.Writer.{write_book}

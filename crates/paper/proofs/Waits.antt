@@ -1,17 +1,14 @@
 -- What stands on the units' lists where the invariant holds: an idle unit waits at a JOIN or sleeps, unit 0 never sleeps, and with no order left of any part
 -- the lists have SLEEP alone, unit 0's BINGO. Assumes nothing.
-use mathlib.Core.Bool.{false}
 use mathlib.Core.List.{List, [], ◌∷◌, ◌++◌}
-use mathlib.Core.Logic.{◌⊎◌, inl, inr}
+use mathlib.Core.Logic.{inl, inr}
 use mathlib.Core.Path.{◌≡◌, refl, sym, ◌∙◌, ap, ap₂, subst}
-use Prim.Native.Nat.{ℕ, zero, suc, ◌+◌, ◌≤◌}
+use Prim.Native.Nat.{ℕ, zero, suc}
 use native.Mathlib.Omega.{arith}
-use lib.ListN.{length}
 use Rattle.paper.specs.Tree.{Position}
 use Rattle.paper.specs.Strategy.{Step}
 use Rattle.paper.specs.Book.{Book}
 use Rattle.paper.specs.Machine.{Order, orders, State, Limits, unit}
-use Rattle.paper.specs.Sound.{In}
 use Rattle.paper.specs.Idle.{IsIdle, Waits, Done}
 use Rattle.paper.proofs.Ghost.{own, lent, Ghost, rest, todo, work, Ghosts, gnil, gcons, Still}
 use Rattle.paper.proofs.Invariant.{root_label, all, Inv}

@@ -1,14 +1,14 @@
 -- The entry points (document 01, 'What is checked where' and 'The program and its page'): a request is checked in the table's order and run;
 -- the program's page for a whole standard input; the writer's result for a book's bytes. Assumes nothing.
-use Rattle.std.specs.Prelude.{Bool, true, false, List, [], ◌∷◌, ◌++◌, map, ℕ, zero, suc, ◌+◌, ◌*◌, ◌/◌, ◌%◌, ◌≤◌, eqb, ltb, leb, length, take, drop}
+use Rattle.std.specs.Prelude.{Bool, true, false, List, [], ◌∷◌, ◌++◌, ℕ, zero, suc, ◌+◌, ◌*◌, ◌/◌, ◌%◌, eqb, ltb, length, take, drop}
 use Rattle.std.proofs.Math.Option.{Option, none, some}
-use Rattle.paper.specs.Result.{Result, refused, accepted, Read, Reader, if, return, refuse, then, ◌>>=◌}
+use Rattle.paper.specs.Result.{Result, refused, accepted, Reader, if, return, refuse, then, ◌>>=◌}
 use Rattle.paper.specs.Tree.{preorder}
 use Rattle.paper.specs.Book.{Term, Book}
 use Rattle.paper.specs.Dated.{is_dated, read_any, write_any, on_day}
 use Rattle.paper.specs.Line.{symbol_limit, read_line}
 use Rattle.paper.specs.Text.{read_text}
-use Rattle.paper.specs.Machine.{Ending, Limits}
+use Rattle.paper.specs.Machine.{Ending}
 use Rattle.paper.specs.Run.{Answer, run}
 
 -- what a run is asked with: bytes, numbers, and the lengths of the three buffers that are lent to be written

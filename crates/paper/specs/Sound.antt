@@ -2,7 +2,7 @@
 -- argument once and within the arity and are empty or end in 0, sides of the right arities, right variables that stand on the left. (Refusals 3, 4, 5
 -- and 7 of document 01 and 'Strategies, settled'.) Assumes nothing.
 use Rattle.std.specs.Prelude.{Bool, true, false, List, [], ◌∷◌, ◌⊎◌, ◌≢◌, ◌≡◌, ℕ, ◌<◌, length}
-use Rattle.paper.specs.Tree.{Tree, label, preorder, Correct}
+use Rattle.paper.specs.Tree.{label, preorder, Correct}
 use Rattle.paper.specs.Strategy.{Item, Step}
 use Rattle.paper.specs.Book.{Symbol, Rule, Book, arity, symbol_arity, strategy, steps}
 use Rattle.paper.specs.Reader.{variables}

@@ -1,6 +1,8 @@
 // The second program: the page of its standard input, in which a payee's text stands where the term stood.
 use engine::Form;
-use libc::{STDIN_FILENO, STDOUT_FILENO};
+// The descriptors of standard input and output.
+const STDIN_FILENO: i32 = 0;
+const STDOUT_FILENO: i32 = 1;
 
 fn main() {
     let mut input = [0u8; page::INPUT];

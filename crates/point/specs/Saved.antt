@@ -1,6 +1,6 @@
 -- A saved run (flat/specs/Form) as arrays and numbers: the present term with its marks, the units' work area and cells, the order of placing, and the counts.
 -- Assumes nothing.
-use Rattle.std.specs.Prelude.{List, ℕ, ◌≤◌, ◌<◌, length}
+use Rattle.std.specs.Prelude.{List, ℕ, ◌≤◌, ◌<◌}
 use Rattle.paper.specs.Sound.{All}
 use Rattle.flat.specs.Machine.{FlatState}
 use Rattle.flat.specs.Form.{Saved}

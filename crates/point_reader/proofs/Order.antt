@@ -6,7 +6,7 @@ use native.Mathlib.Numerals.{add-one}
 use native.Mathlib.Omega.{arith}
 use lib.ListN.{length, get_or, drop, set, length-set}
 use lib.Seq.{get_or-drop, drop-drop, get_or-set_same, get_or-set_other}
-use Rattle.paper.specs.Result.{refused, Read, return, ◌>>=◌, repeat}
+use Rattle.paper.specs.Result.{refused, return, ◌>>=◌, repeat}
 use Rattle.paper.specs.Bits.{field}
 use Rattle.paper.proofs.Readers.{bind_return}
 use Rattle.book.proofs.Readers.{repeat_next}

@@ -1,5 +1,7 @@
 // The packed fields of a saved run (document 02, Change 11), read into the arrays of a run. What can't be a point that keeps the rules is not loaded, so that the
 // arrays stand whatever the bytes are; all other rules are tried on the arrays.
+#![tactic(auto)]
+
 ghost use Rattle.std.specs.Prelude.{◌≡◌, ◌+◌, ◌*◌, ◌^◌, ◌<◌, ◌≤◌, length};
 ghost use Rattle.tables.specs.Layout.{arity_in};
 ghost use Rattle.units.specs.Stacks.{base, store};

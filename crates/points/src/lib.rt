@@ -1,5 +1,7 @@
 // The entry point of a run with a name (document 02, Change 11), which is saved if it is cut, and what a resumption shares with it. Points are checked just before the
 // schedule; nothing lent is written before the last check has passed.
+#![tactic(auto)]
+
 ghost use Rattle.std.specs.Prelude.{◌++◌, ◌≡◌, ◌+◌, ◌≤◌, ◌<◌, ◌^◌, length, take, drop, replicate};
 ghost use Rattle.paper.specs.Line.{read_line};
 ghost use Rattle.flat.specs.Parts.{kept_count};

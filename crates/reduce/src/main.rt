@@ -1,6 +1,8 @@
 // The program: the page of its standard input. How much of it must be read is said by the type of the buffer that `page::of_buffer` takes.
 use engine::Form;
-use libc::{STDIN_FILENO, STDOUT_FILENO};
+// The descriptors of standard input and output.
+const STDIN_FILENO: i32 = 0;
+const STDOUT_FILENO: i32 = 1;
 
 fn main() {
     let mut input = [0u8; page::INPUT];

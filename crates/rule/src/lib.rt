@@ -1,5 +1,7 @@
 // A packed rule against the present term: its left side matched
 // (document 01, 'Reduction one after the other'; document 02, Change 4).
+#![tactic(auto)]
+
 ghost use Rattle.std.specs.Prelude.{◌≡◌, ◌+◌, ◌*◌, ◌<◌, ◌≤◌, ◌^◌, length, get_or, take, drop};
 ghost use Rattle.flat.specs.Symbols as flat;
 ghost use Rattle.symbol.specs.Record as S;

@@ -1,6 +1,8 @@
 // Cases from standard input, each 2 bytes book length, 2 bytes line length, 2 bytes offset (most significant byte first), the book and the line.
 // For each, a line with the first rule that matches the line's term at the offset, the offset behind that term, the filled right side's size and
 // symbols, and the new term, in hexadecimal.
+#![tactic(auto)]
+
 ghost use Rattle.std.specs.Prelude.{◌≡◌, ◌<◌, ◌≤◌, length, take};
 ghost use Rattle.tables.specs.Layout.{arity_in};
 ghost use Rattle.term.specs.Present.{operators_in, Sized};

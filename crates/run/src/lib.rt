@@ -1,4 +1,6 @@
 // The run over a schedule (document 01, 'How a run ends'), whole or in parts (document 02, Change 11).
+#![tactic(auto)]
+
 ghost use Rattle.std.specs.Prelude.{◌≡◌, ◌<◌};
 ghost use Rattle.paper.specs.Page.{ending_number};
 ghost use Rattle.flat.specs.Machine.{FlatState};
@@ -9,7 +11,7 @@ use entry::Entry;
 use whole::{Limits, Progress};
 
 // How a run ended.
-#[derive(Drop)]
+#[derive(Clone, Copy)]
 pub enum Ending {
     Finished,
     Spent,
@@ -18,7 +20,7 @@ pub enum Ending {
 }
 
 // What a run answers: its ending, rewrites made, entries used, FORKs granted and kept, and the present term's length.
-#[derive(Drop)]
+#[derive(Clone, Copy)]
 pub struct Run {
     pub ending: Ending,
     pub rewrites: u32,

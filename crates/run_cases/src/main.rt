@@ -2,6 +2,8 @@
 // length, 2 bytes line length, 1 byte units, 4 bytes budget, 2 bytes day, 2 bytes schedule length, 2 bytes each for the lengths of work area, net and
 // output (most significant byte first). For each, a line with the name, what the run answers and its term in hexadecimal, and what became of the work
 // area, of the net and of the output behind the term.
+#![tactic(auto)]
+
 ghost use Rattle.std.specs.Prelude.{◌≡◌, ◌<◌, ◌≤◌, length};
 
 use cases::{say, say_front, say_number, say_refused};

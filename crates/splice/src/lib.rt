@@ -1,4 +1,6 @@
 // A part of the present term gives way to another: what stands behind moves, and the sizes of the symbols above are put right.
+#![tactic(auto)]
+
 ghost use Rattle.std.specs.Prelude.{◌≡◌, ◌+◌, ◌≤◌, ◌<◌, length};
 ghost use Rattle.symbol.specs.Record as R;
 ghost use Rattle.splice.specs.Promises as C;

@@ -1,9 +1,9 @@
 -- Keys: sides that agree have one key, and sides of one key take as many bits; a key as it is read off a left side's bits. Assumes nothing.
-use mathlib.Core.Bool.{true, false, true≢false}
+use mathlib.Core.Bool.{false}
 use mathlib.Core.List.{List, [], ◌∷◌, ◌++◌, append_assoc}
 use mathlib.Core.Logic.{inl, inr, ◌≢◌}
 use mathlib.Core.Path.{◌≡◌, refl, sym, ap, ap₂, ◌∙◌, subst}
-use Prim.Native.Nat.{ℕ, suc, ◌+◌, ◌-◌, ◌*◌, ◌≤◌, ◌<◌}
+use Prim.Native.Nat.{ℕ, ◌+◌, ◌-◌, ◌*◌, ◌≤◌, ◌<◌}
 use native.Mathlib.Omega.{arith}
 use lib.ListN.{length, drop, length-append}
 use lib.Seq.{drop-drop, drop_at}
@@ -12,7 +12,7 @@ use Rattle.paper.specs.Bits.{to_bits, bits_of}
 use Rattle.paper.specs.Tree.{preorder}
 use Rattle.paper.specs.Book.{Symbol, Side}
 use Rattle.paper.specs.Sound.{All, IsOperator}
-use Rattle.paper.specs.Naming.{canonical, alike}
+use Rattle.paper.specs.Naming.{canonical, meeting, alike}
 use Rattle.paper.specs.Writer.{concat, write_symbol}
 use Rattle.paper.proofs.Tests.{either}
 use Rattle.paper.proofs.Naming.{alike_canonical}
@@ -54,7 +54,7 @@ size_canonical vs [] = refl
 size_canonical vs (Symbol.operator o ∷ ss) =
     size_cons (Symbol.operator o) _ ∙ ap (λ (k : ℕ). length (write_symbol (Symbol.operator o)) + k) (size_canonical vs ss) ∙ sym (size_cons (Symbol.operator o) ss)
 size_canonical vs (Symbol.variable v ∷ ss) =
-    size_cons _ _ ∙ ap₂ (λ (j k : ℕ). j + k) (variable_size _ v) (size_canonical _ ss) ∙ sym (size_cons (Symbol.variable v) ss)
+    size_cons _ _ ∙ ap₂ (λ (j k : ℕ). j + k) (variable_size _ v) (size_canonical (meeting v vs) ss) ∙ sym (size_cons (Symbol.variable v) ss)
 
 second_canonical : (vs : List ℕ) (ss : List Symbol) → second (canonical vs ss) ≡ second ss
 unfolding canonical second

@@ -4,16 +4,15 @@ use mathlib.Core.Bool.{Bool, true, false, not}
 use mathlib.Core.List.{List, [], ◌∷◌, ◌++◌, map, append_assoc, append-nil}
 use mathlib.Core.Logic.{inl, inr, ◌≢◌}
 use mathlib.Core.Path.{◌≡◌, refl, sym, ap, ◌∙◌, subst}
-use Prim.Native.Nat.{ℕ, suc, ◌+◌, ◌*◌, ◌^◌, ◌≤◌, ◌<◌}
+use Prim.Native.Nat.{ℕ, suc, ◌+◌, ◌*◌, ◌≤◌, ◌<◌}
 use native.Mathlib.Omega.{arith}
 use lib.Dec.{leb}
 use lib.ListN.{length, get_or, set, take, drop, replicate, length-map, length-set, length-append, drop_of_length-le, get_or-map}
 use lib.Seq.{take-length, length-take-le, get_or-take, get_or-set_same, get_or-set_other}
 use borrow.Author.Count.{below_more}
-use Rattle.paper.specs.Result.{if, return}
-use Rattle.paper.specs.Bits.{field}
+use Rattle.paper.specs.Result.{if}
 use Rattle.paper.specs.Tree.{node, label, preorder}
-use Rattle.paper.specs.Book.{Symbol, Side, Rule}
+use Rattle.paper.specs.Book.{Side, Rule}
 use Rattle.paper.specs.Sound.{All, IsOperator}
 use Rattle.paper.specs.Naming.{alike}
 use Rattle.paper.specs.Dated.{DatedRule, replaces, replaced, stands, standing}
@@ -29,7 +28,7 @@ use Rattle.tables.proofs.Grow.{rules_grow, sides_day}
 use Rattle.side.specs.Promises.{bits_at, NumberFits}
 use Rattle.side.proofs.There.{number_fits}
 use Rattle.standing.specs.Keys.{size, key}
-use Rattle.standing.specs.Dates.{dated_at, left_at, DatedIn, dated_book, rules_of, AllDated}
+use Rattle.standing.specs.Dates.{dated_at, left_at, dated_book, rules_of, AllDated}
 use Rattle.standing.specs.Promises.{Spans, KeyOf, DayBefore, Kept}
 use Rattle.standing.proofs.Keys.{key_size, keys_differ, span_end}
 use Rattle.standing.proofs.Walk.{Walk, walk_starts}

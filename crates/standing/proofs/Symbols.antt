@@ -1,8 +1,7 @@
 -- The symbols at two positions, by the nine bits at each. Assumes nothing.
-use mathlib.Core.Bool.{true, false}
 use mathlib.Core.List.{List, ◌++◌}
-use mathlib.Core.Logic.{◌⊎◌, inl, inr, ◌≢◌}
-use mathlib.Core.Path.{◌≡◌, refl, sym, ap, subst}
+use mathlib.Core.Logic.{inl, inr, ◌≢◌}
+use mathlib.Core.Path.{◌≡◌, refl, ap, subst}
 use Prim.Native.Nat.{ℕ, ◌+◌, ◌/◌, ◌%◌, ◌^◌, ◌≤◌, ◌<◌}
 use native.Mathlib.Omega.{arith}
 use lib.ListN.{length}
@@ -15,7 +14,7 @@ use Rattle.paper.proofs.Tests.{ltb_cases, eqb_true, eqb_false}
 use Rattle.bits.specs.Field.{Nine}
 use Rattle.side.specs.Promises.{bits_at, NumberFits}
 use Rattle.side.proofs.There.{stands_operator, stands_variable}
-use Rattle.standing.specs.Promises.{Names, SymbolsAre, NamesCompared, SymbolsCompared}
+use Rattle.standing.specs.Promises.{SymbolsAre, NamesCompared, SymbolsCompared}
 use Rattle.standing.specs.declared.Step.{Step}
 
 operator_bits : (o : ℕ) → length (write_symbol (Symbol.operator o)) ≡ 9

@@ -4,7 +4,7 @@ use Rattle.std.specs.Prelude.{List, [], ◌++◌, map, ◌≡◌, ℕ, ◌-◌, 
 use Rattle.paper.specs.Result.{return}
 use Rattle.paper.specs.Bits.{field}
 use Rattle.paper.specs.Tree.{node, nil}
-use Rattle.paper.specs.Book.{Symbol, Side, Rule}
+use Rattle.paper.specs.Book.{Symbol, Side}
 use Rattle.paper.specs.Dated.{DatedRule, DatedBook, AnyBook}
 use Rattle.paper.specs.Writer.{write_side}
 use Rattle.paper.specs.WellFormed.{GoodDated}

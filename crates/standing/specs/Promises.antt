@@ -1,5 +1,5 @@
 -- What the functions ask and ensure, by the definitions of document 02, Change 5. Promises of functions inside. Assumes nothing.
-use Rattle.std.specs.Prelude.{Bool, true, false, List, [], ◌∷◌, ◌++◌, ◌≡◌, ℕ, suc, ◌-◌, ◌*◌, ◌<◌, length, get_or}
+use Rattle.std.specs.Prelude.{true, false, List, [], ◌∷◌, ◌++◌, ◌≡◌, ℕ, suc, ◌-◌, ◌*◌, ◌<◌, length, get_or}
 use Rattle.paper.specs.Result.{if, return}
 use Rattle.paper.specs.Bits.{field}
 use Rattle.paper.specs.Tree.{preorder}

@@ -1,6 +1,8 @@
 // The rules of a dated book that stand on a day (document 02, Change 5): "Rules of later days are absent. Of rules whose left sides agree up to the
 // naming of variables, only the latest day stands, and within a day the last in the book". This is settled once, when the book is read. Left sides are
 // compared in the book's bits, symbol by symbol, with variables numbered as they are met; a key of each tells most apart before.
+#![tactic(auto)]
+
 ghost use Rattle.std.specs.Prelude.{◌≡◌, ◌+◌, ◌/◌, ◌%◌, ◌<◌, ◌≤◌, ◌^◌, length, take, drop};
 ghost use Rattle.paper.specs.Tree.{preorder};
 ghost use Rattle.paper.specs.Naming as N;

@@ -1,5 +1,7 @@
 // The order WHOLE (document 01, 'Orders of a unit'): the first rule that matches at a term's offset rewrites it, unless the budget is used up or the
 // new term would be too long.
+#![tactic(auto)]
+
 ghost use Rattle.std.specs.Prelude.{◌≡◌, ◌-◌, ◌<◌, length, get_or, drop};
 ghost use Rattle.symbol.specs.Record.{operator};
 ghost use Rattle.term.specs.Present.{length_in};
@@ -14,7 +16,7 @@ use rule::Hit;
 use units::{Frame, Job};
 
 // What a run counts: the rewrites, the FORKs granted, and those that were not. How many symbols are present is read from the term's root.
-#[derive(Drop)]
+#[derive(Clone, Copy)]
 pub struct Progress {
     pub rewrites: u32,
     pub granted: usize,
@@ -22,14 +24,14 @@ pub struct Progress {
 }
 
 // What bounds a run: its units, and the rewrites that it may make.
-#[derive(Drop)]
+#[derive(Clone, Copy)]
 pub struct Limits {
     pub units: usize,
     pub budget: u32,
 }
 
 // Where an order is carried out: by which unit, on the term at which offset, of which operator.
-#[derive(Drop)]
+#[derive(Clone, Copy)]
 pub struct Place {
     pub unit: usize,
     pub offset: usize,

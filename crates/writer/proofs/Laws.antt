@@ -14,7 +14,7 @@ use Rattle.paper.specs.Result.{Result, refused, accepted, then}
 use Rattle.paper.specs.Dated.{AnyBook, read_any, write_any, on_day}
 use Rattle.paper.specs.Book.{Operator}
 use Rattle.paper.specs.Page.{written_of}
-use Rattle.paper.proofs.Tests.{ltb_true, ltb-false}
+use Rattle.paper.proofs.Tests.{ltb_true, ltb_false}
 use Rattle.paper.proofs.Dated.{day_good, round_trip_any}
 use Rattle.paper.proofs.Lengths.{any_no_longer, any_refused_by}
 use Rattle.paper.proofs.Refusals.{read_not_six}
@@ -51,7 +51,7 @@ module _ (bytes output : List ℕ) where
         Answers bytes output output' (D.Written.Length r)
     unfolding writing then
     answers_written output' r f h g = record {
-      is = writing_of bytes output (accepted B) e ∙ rw (ltb-false (length output) (length (write_any B)) (omega arith), g, f);
+      is = writing_of bytes output (accepted B) e ∙ rw (ltb_false (length output) (length (write_any B)) (omega arith), g, f);
     }
 
 -- what stands behind a book's first 65,536 bytes is not looked at

@@ -1,7 +1,7 @@
 -- Operators: what is read is what is written, one and n of them. Assumes nothing.
 use mathlib.Core.List.{List, [], ◌∷◌, ◌++◌}
 use mathlib.Core.Path.{◌≡◌, refl, sym, ap, ap₂, ◌∙◌}
-use Prim.Native.Nat.{ℕ, zero, suc, ◌+◌}
+use Prim.Native.Nat.{ℕ, zero, suc}
 use lib.ListN.{length, take}
 use Rattle.paper.specs.Result.{refused, Read, Reader, return, ◌>>=◌, repeat}
 use Rattle.paper.specs.Bits.{to_bits, field}

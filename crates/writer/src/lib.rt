@@ -1,5 +1,7 @@
 // The book's writer (document 01, 'The program and its page'; refusals 1 to 9 but 6, and 16): operators with their settled lists, rules as they stand. The
 // form is kept, days included (document 02, Change 5).
+#![tactic(auto)]
+
 ghost use Rattle.std.specs.Prelude.{◌≡◌, ◌+◌, ◌-◌, ◌*◌, ◌%◌, ◌^◌, ◌<◌, ◌≤◌, length, take};
 ghost use Rattle.paper.specs.Bits.{to_bits};
 ghost use Rattle.paper.specs.Writer.{concat, same, numbers};

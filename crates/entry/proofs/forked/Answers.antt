@@ -1,0 +1,17 @@
+-- `entry::forked` meets its contract. Assumes nothing.
+use mathlib.Core.Path.{refl}
+use borrow.Author.Rules.{rules}
+use native.Mathlib.Numerals.{add-one}
+use Rattle.entry.proofs.forked.Goals as goal
+
+pub place-requires : goal.place-requires
+place-requires c =
+    rw c.in-Unit.is at c.requires.1.room
+
+pub returns-in-Unit : goal.returns-in-Unit
+returns-in-Unit c =
+    rw (add-one, c.in-Unit.is) (refl, record { fits = c.place.ensures.fits; is = c.place.ensures.is })
+
+pub returns-in-None : goal.returns-in-None
+returns-in-None c =
+    rw (add-one, c.in-None.is) (refl, record { fits = c.requires.1.fits; is = refl })

@@ -1,0 +1,35 @@
+-- `opening::open_run` meets its contract, by the laws of Behind. Assumes nothing.
+use Rattle.opening.proofs.Behind.{none_loaded, of_point, not_padded, not_kept, kept}
+use borrow.Author.Rules.{rules}
+use Rattle.opening.proofs.open_run.Goals as goal
+
+pub returns-then-not-padded : goal.returns-then-not-padded
+returns-then-not-padded c =
+    let b = c.requires.1 in
+    record { is = λ B o. not_padded o _ b.inside (rw c.in-Saved.is at c.load.ensures) c.padded.ensures c.if-not-padded.true }
+
+pub meets-requires : goal.meets-requires
+meets-requires c =
+    let b = c.requires.1 in
+    record { book = b.book; is = of_point b.is _ b.inside (rw c.in-Saved.is at c.load.ensures) }
+
+pub returns-in-None : goal.returns-in-None
+returns-in-None c =
+    let b = c.requires.1 in
+    record { is = λ B o. none_loaded o _ b.inside (rw c.in-None.is at c.load.ensures) }
+
+pub returns-then-meets : goal.returns-then-meets
+returns-then-meets c =
+    let b = c.requires.1 in
+    record {
+      is = λ B o.
+          kept o _ b.inside (rw c.in-Saved.is at c.load.ensures) c.padded.ensures c.meets.ensures c.if-not-padded.false c.if-meets.true;
+    }
+
+pub returns-else-meets : goal.returns-else-meets
+returns-else-meets c =
+    let b = c.requires.1 in
+    record {
+      is = λ B o.
+          not_kept o _ b.inside (rw c.in-Saved.is at c.load.ensures) c.padded.ensures c.meets.ensures c.if-not-padded.false c.if-meets.false;
+    }

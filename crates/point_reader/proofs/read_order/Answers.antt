@@ -1,0 +1,19 @@
+-- `point_reader::read_order` meets its contract, by the laws of Order. Assumes nothing.
+use native.Mathlib.Omega.{arith}
+use lib.ListN.{length-set}
+use Rattle.bits.proofs.Reading.{got, ran_out}
+use Rattle.point_reader.proofs.Order.{order_out, order_taken}
+use borrow.Author.Rules.{rules}
+use Rattle.point_reader.proofs.read_order.Goals as goal
+
+pub returns-in_default : goal.returns-in_default
+returns-in_default c =
+    order_out (ran_out c.field.ensures c.in_default.is)
+
+pub read_placed-requires : goal.read_placed-requires
+read_placed-requires c =
+    (search rules, omega (arith, (got c.field.ensures c.in-Value.is).small, c.offset.ensures.0), simp length-set c.requires.1)
+
+pub returns : goal.returns
+returns c =
+    order_taken c.args.order.now (got c.field.ensures c.in-Value.is) c.requires.1 c.offset.ensures.0 c.read_placed.ensures

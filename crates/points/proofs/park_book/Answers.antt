@@ -1,0 +1,37 @@
+-- `points::park_book` meets its contract, by the laws of Parks. Assumes nothing.
+use borrow.Author.Rules.{rules}
+use mathlib.Core.Path.{refl, sym}
+use native.Mathlib.Omega.{arith}
+use Rattle.engine.proofs.Frame.{framed}
+use Rattle.engine.proofs.Readers.{by_tables, framed_as}
+use Rattle.points.proofs.Parks.{by_book, by_line, refuses, parked_alike, as_asked}
+use Rattle.points.proofs.park_book.Goals as goal
+
+pub read_book-requires : goal.read_book-requires
+read_book-requires c = (c.requires.short, refl)
+
+pub park_term-requires : goal.park_term-requires
+park_term-requires c =
+    let is = rw c.in-Read.is at c.read_book.ensures.is in
+    let t = rw c.in-Read-read_term.is at (by_tables is.0 is.2 c.read_term.ensures) in record {
+      framed = framed_as c.index.ensures.0 c.requires;
+      loaded = record { tables = is.0; day = omega (arith, is.1, c.ranges); given = t.given };
+      budget_bound = (omega (arith, c.ranges), sym is.1);
+    }
+
+pub returns-in-Refused : goal.returns-in-Refused
+returns-in-Refused c =
+    refuses _ (by_book _ _ _ _ (framed _ c.requires.faultless) _ (rw c.in-Refused.is at c.read_book.ensures.is))
+
+pub returns-in-Refused-read_term : goal.returns-in-Refused-read_term
+returns-in-Refused-read_term c =
+    let is = rw c.in-Read.is at c.read_book.ensures.is in
+    let e = rw c.in-Refused-read_term.is at (by_tables is.0 is.2 c.read_term.ensures) in
+    as_asked refl is.1 (refuses _ (by_line _ _ _ _ (framed _ c.requires.faultless) _ is.0.read _ e))
+
+pub returns-in-Read-read_term : goal.returns-in-Read-read_term
+returns-in-Read-read_term c =
+    let is = rw c.in-Read.is at c.read_book.ensures.is in
+    let t = rw c.in-Read-read_term.is at (by_tables is.0 is.2 c.read_term.ensures) in
+    let u = c.index.ensures.0 in
+    as_asked u is.1 (parked_alike _ _ _ _ (framed_as u c.requires) is.0 t (as_asked refl (sym is.1) c.park_term.ensures))

@@ -1,0 +1,6 @@
+-- `run::ended` meets its contract. Assumes nothing.
+use borrow.Author.Rules.{rules}
+use Rattle.run.proofs.ended.Goals as goal
+
+pub returns : goal.returns
+returns c = rw c.length.ensures

@@ -1,7 +1,0 @@
--- `run::ended` meets its contract. Assumes nothing.
-use borrow.Author.Rules.{rules}
-use Rattle.run.proofs.ended.Statement.{statement}
-use Rattle.run.proofs.ended.Tie as tie
-
-pub ended-spec : {M : Type 1} → statement M
-ended-spec = tie.close (tie.spec (λ c κs. search rules) (λ c. rw c.length.ensures))
