@@ -1,6 +1,5 @@
 -- `units::frames::moved` meets its contract: a job behind the symbols that give way, a job before them, another frame. Assumes nothing.
 use native.Mathlib.Omega.{arith}
-use borrow.Author.Rules.{rules}
 use Rattle.units.proofs.Bytes.{moved_other, moved_before, moved_room, moved_behind}
 use Rattle.units.proofs.frames.moved.Goals as goal
 
