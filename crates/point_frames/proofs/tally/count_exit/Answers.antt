@@ -14,8 +14,7 @@ height-requires c =
 pub overflow_add-exits : goal.overflow_add-exits
 overflow_add-exits c =
     record {
-      fits = exit_room c.requires.0 c.index-v.ensures.0 c.offset-i.ensures.0 c.height.result c.requires.1 c.if-v-units.true
-          c.height.ensures c.if-i-height.true;
+      fits = omega (arith, exit_room c.requires.0 c.index-v.ensures.0 c.offset-i.ensures.0 c.height.result c.requires.1 c.if-v-units.true c.height.ensures c.if-i-height.true);
     }
 
 pub returns-then-i-height : goal.returns-then-i-height
