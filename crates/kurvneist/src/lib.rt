@@ -1,5 +1,7 @@
 // The library for C and Rust: a run, runs of many lines by one book, how long a schedule suffices, the book's writer, the charge of what was posted, the strict
 // profile, and the published lengths, on numbers and slices of them. A slice is passed as a pointer and a length, an array as a pointer.
+#![tactic(auto)]
+
 ghost use Rattle.std.specs.Prelude.{◌≡◌, ◌∷◌, [], length};
 ghost use Rattle.engine.specs.Spec.{published, values};
 ghost use Rattle.parking.specs.Points.{points_length};

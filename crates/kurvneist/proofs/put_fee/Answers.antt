@@ -4,12 +4,7 @@ use mathlib.Core.Path.{ap, ◌∙◌}
 use lib.IntN.{ℤ}
 use mir.Facts.{to_z-of_z}
 use Rattle.kurvneist.proofs.Laws.{whole}
-use borrow.Author.Rules.{rules}
-use Rattle.kurvneist.proofs.put_fee.Statement.{statement}
-use Rattle.kurvneist.proofs.put_fee.Tie as tie
+use Rattle.kurvneist.proofs.put_fee.Goals as goal
 
-returns : tie.Need-returns
+pub returns : goal.returns
 returns c = whole c.args.fee.now (_ ∷ []) c.requires ∙ ap (λ (z : ℤ). z ∷ []) (to_z-of_z c.ranges.f)
-
-pub put-fee-spec : {M : Type 1} → statement M
-put-fee-spec = tie.close (tie.spec (λ c. search rules) returns)
