@@ -1,5 +1,7 @@
 // Many lines by one book: the book is read and its net built once, then each line is reduced as by itself and gets its record, one after another. Nothing lent
 // is written before frame and book have been checked.
+#![tactic(auto)]
+
 ghost use Rattle.std.specs.Prelude.{◌≡◌, ◌+◌, ◌≤◌, length};
 ghost use Rattle.paper.specs.Line.{symbol_limit};
 ghost use Rattle.paper.specs.Page.{all_below};
@@ -86,9 +88,9 @@ fn answer_line(
     requires fact { C.Open book.now n operators.now net.now limits (length work.old) }
     requires arrays { C.Arrays line.old symbols.old scratch.old }
     requires named_value { (named ≡ all_below limits.units schedule.now) × (at + longest ≤ length answers.old) }
-    ensures { C.LineDone (reader form) book.now net.now limits schedule.now (length work.old)
+    ensures line_done { C.LineDone (reader form) book.now net.now limits schedule.now (length work.old)
         given.now answers.old answers.new at result }
-    ensures { C.Arrays line.new symbols.new scratch.new }
+    ensures arrays_after { C.Arrays line.new symbols.new scratch.new }
 {
     match engine::read_term(form, given, n, operators, line) {
         Text::Refused(k) => records::put_refusal(k, answers, at),

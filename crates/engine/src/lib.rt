@@ -36,7 +36,7 @@ pub enum Answer {
 }
 
 // What stands where the term stands: a term, or a payee's text.
-#[derive(Drop)]
+#[derive(Clone, Copy)]
 pub enum Form {
     Term,
     Text,

@@ -1,4 +1,6 @@
 // The record of an answer, written at a position of a buffer.
+#![tactic(auto)]
+
 ghost use Rattle.std.specs.Prelude.{◌∷◌, [], ◌+◌, ◌≤◌, ◌≡◌, length, take};
 ghost use Rattle.symbol.specs.Record as Y;
 ghost use Rattle.stream.specs.Promises.{WrittenAt};

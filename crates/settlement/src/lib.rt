@@ -1,5 +1,7 @@
 // A run, and the fee and parts of what it posts. Whether a posting can be charged is known behind the run alone, so the run is made in areas of its own, and
 // nothing lent is written before the last check has passed.
+#![tactic(auto)]
+
 ghost use Rattle.std.specs.Prelude.{◌++◌, ◌≡◌, ◌≤◌, length, drop};
 ghost use Rattle.run.specs.Promises.{ending};
 ghost use Rattle.engine.specs.Spec.{reader};

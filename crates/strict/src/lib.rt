@@ -1,5 +1,7 @@
 // The strict profile (document 02, Change 13): a book is admitted if no term is matched by two rules, so that the order of its rules is free. 24 is told
 // for what it does not decide, 25 with the first two rules that match one term, both after the book's own numbers.
+#![tactic(auto)]
+
 ghost use Rattle.std.specs.Prelude.{◌≡◌, ◌<◌, ◌≤◌, length};
 ghost use Rattle.paper.specs.Strict as P;
 ghost use Rattle.tables.specs.Tables.{TablesOf, book_of};
