@@ -1,4 +1,6 @@
 // How long a schedule suffices: S and F of a book and a line, told by a run of one unit.
+#![tactic(auto)]
+
 ghost use Rattle.std.specs.Prelude.{◌≡◌, ◌+◌, ◌≤◌};
 ghost use Rattle.paper.specs.Result.{accepted};
 ghost use Rattle.run.specs.Promises.{ending};

@@ -55,6 +55,7 @@ fn read(book: &[u8], operators: &[u8; 4352], at: usize) -> Symbol
 }
 
 // Is one of two keys the variables'?
+#[tactic(auto, unfolding(crate::specs::Promises::chosen))]
 fn chosen(own: u8, new: u8) -> bool
     ensures { result ≡ I.chosen own new }
 {

@@ -1,5 +1,7 @@
 // The second entry point of runs with a name (document 02, Change 11): a point's run goes on. A resumption takes a name, buffers and a schedule; book, day, units and
 // budget are the point's. Nothing lent is written before the last check has passed.
+#![tactic(auto)]
+
 ghost use Rattle.std.specs.Prelude.{◌≡◌, ◌≤◌, length};
 ghost use Rattle.units.specs.Stacks.{store};
 ghost use Rattle.point.specs.Saved.{arrays};

@@ -14,12 +14,12 @@ use Rattle.term.proofs.load.Given as goal
 abbrev pub Put : (ℕ → ℕ) → List ℕ → ℕ → ℕ → ℕ → Type 0
 Put ar line n j x = (operator x ≡ get_or line j 0) × (size x ≡ skip ar 1 (drop j (take n line))) × (marked x ≡ false)
 
-abbrev pub Put-from : (ℕ → ℕ) → List ℕ → ℕ → List ℕ → ℕ → Type 0
-Put-from ar line n symbols i = (j : ℕ) → i ≤ j → j < n → Put ar line n j (get_or symbols j 0)
+abbrev pub PutFrom : (ℕ → ℕ) → List ℕ → ℕ → List ℕ → ℕ → Type 0
+PutFrom ar line n symbols i = (j : ℕ) → i ≤ j → j < n → Put ar line n j (get_or symbols j 0)
 
 abbrev pub invariant-loop-i : goal.invariant-loop-i
 invariant-loop-i l =
-    (l.i ≤ l.n) × (length l.symbols ≡ 1024) × Put-from (arity_in l.operators) l.line l.n l.symbols l.i × (l.i < l.n → l.behind ≡ size (get_or l.symbols l.i 0))
+    (l.i ≤ l.n) × (length l.symbols ≡ 1024) × PutFrom (arity_in l.operators) l.line l.n l.symbols l.i × (l.i < l.n → l.behind ≡ size (get_or l.symbols l.i 0))
 
 abbrev pub decreases-loop-i : goal.decreases-loop-i
 decreases-loop-i l = l.i

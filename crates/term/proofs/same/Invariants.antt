@@ -7,11 +7,11 @@ use Rattle.symbol.specs.Record.{operators}
 use Rattle.term.proofs.same.Given as goal
 
 -- the invariant: the i symbols from offset a on, all before the one compared, are those from offset b on
-abbrev pub Equal-before : List ℕ → ℕ → ℕ → ℕ → Type 0
-Equal-before xs a b i = take i (drop a xs) ≡ take i (drop b xs)
+abbrev pub EqualBefore : List ℕ → ℕ → ℕ → ℕ → Type 0
+EqualBefore xs a b i = take i (drop a xs) ≡ take i (drop b xs)
 
 abbrev pub invariant-loop-i : goal.invariant-loop-i
-invariant-loop-i l = (l.i ≤ l.n) × Equal-before (operators (take l.len l.symbols)) l.a l.b l.i
+invariant-loop-i l = (l.i ≤ l.n) × EqualBefore (operators (take l.len l.symbols)) l.a l.b l.i
 
 abbrev pub decreases-loop-i : goal.decreases-loop-i
 decreases-loop-i l = l.n - l.i

@@ -1,0 +1,38 @@
+-- `resumption::resume_point` meets its contract, by the laws of Slot and Answers. Assumes nothing.
+use mathlib.Core.Path.{refl, ap, ◌∙◌}
+use native.Mathlib.Omega.{arith}
+use borrow.Author.Rules.{rules}
+use Rattle.engine.proofs.Frame.{frame_of}
+use Rattle.parking.specs.Form.{Point}
+use Rattle.resumption.proofs.Slot.{not_broken, loaded_run, loaded_point, point_in, can_save, asked_with}
+use Rattle.resumption.proofs.Answers.{areas_good, accepts}
+use Rattle.resumption.proofs.resume_point.Goals as goal
+
+pub load-requires : goal.load-requires
+load-requires c =
+    let p = c.requires in
+    let w = (frame_of p.asked.faultless).work_long in (
+      p.holds.inside,
+      record { book_long = refl; operators_long = refl; symbols_long = refl; order_long = refl; regions = record { bytes = omega (arith, w); eight = refl } },
+    )
+
+pub go_on-requires : goal.go_on-requires
+go_on-requires c =
+    let p = c.requires in
+    let h = p.holds in
+    let o = loaded_run c.load.ensures _ _ _ c.in-Run.is in
+    record { point_in = point_in h o; asked = (asked_with h o c.load.auto.work p.asked, can_save h o) }
+
+pub returns-in-Broken : goal.returns-in-Broken
+returns-in-Broken c = absurd (not_broken c.requires.holds c.load.ensures c.in-Broken.is)
+
+pub shape_of-work-in-Run : goal.shape_of-work-in-Run
+shape_of-work-in-Run c = c.go_on.auto.work ∙ c.load.auto.work
+
+pub returns-in-Run : goal.returns-in-Run
+returns-in-Run c =
+    let p = c.requires in
+    let h = p.holds in
+    let o = loaded_run c.load.ensures _ _ _ c.in-Run.is in
+    accepts _ _ _ _ _ _ (areas_good _ _ _ p.asked.faultless) h p.asked.named (ap (λ (P : Point). record { at = c.args.k; point = P }) (loaded_point h o)) c.load.auto.work
+    c.go_on.ensures
