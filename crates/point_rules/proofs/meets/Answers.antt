@@ -1,6 +1,5 @@
 -- `point_rules::meets` meets its contract: one test after another. Assumes nothing.
 use native.Mathlib.Omega.{arith}
-use borrow.Author.Rules.{rules}
 use Rattle.point_frames.proofs.Books.{standing_term, standing_units}
 use Rattle.point_order.proofs.Books.{standing_readable}
 use Rattle.point_rules.proofs.Rules.{over_budget, frames_break, order_breaks, queue_says}

@@ -8,7 +8,6 @@ use native.Mathlib.Nat.{eq-or-lt_of_le}
 use native.Mathlib.Omega.{arith}
 use lib.ListN.{length, get_or, take, drop, set, length-map, length-set, get_or-map}
 use lib.Seq.{length-take-le, get_or-take, get_or-set_same, get_or-set_other, ext_get_or}
-use borrow.Author.Rules.{rules}
 use Rattle.flat.specs.Symbols.{skip}
 use Rattle.flat.specs.Rules.{spells}
 use Rattle.flat.specs.Sizes as flat

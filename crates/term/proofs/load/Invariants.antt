@@ -1,25 +1,13 @@
 -- `term::load` meets its contract: the symbols from the one put last up to the n-th have their operators, no marks, and their sizes, and the size of that one is kept.
 -- Assumes nothing.
-use mathlib.Core.Bool.{true, false}
-use mathlib.Core.List.{List, map}
-use mathlib.Core.Logic.{◌⊎◌, inl, inr}
-use mathlib.Core.Path.{◌≡◌, sym, ◌∙◌}
-use Prim.Native.Nat.{ℕ, ◌+◌, ◌-◌, ◌≤◌, ◌<◌}
-use native.Mathlib.Nat.{eq-or-lt_of_le}
-use native.Mathlib.Omega.{arith}
-use lib.ListN.{length, get_or, take, drop, set, length-map, length-set, get_or-map}
-use lib.Seq.{length-take-le, get_or-take, get_or-set_same, get_or-set_other, ext_get_or}
-use borrow.Author.Rules.{rules}
+use mathlib.Core.Bool.{false}
+use mathlib.Core.List.{List}
+use mathlib.Core.Path.{◌≡◌}
+use Prim.Native.Nat.{ℕ, ◌≤◌, ◌<◌}
+use lib.ListN.{length, get_or, take, drop}
 use Rattle.flat.specs.Symbols.{skip}
-use Rattle.flat.specs.Rules.{spells}
-use Rattle.flat.specs.Sizes as flat
-use Rattle.flat.proofs.Sizes as F
-use Rattle.symbol.specs.Record.{operator, marked, size, operators, marks, sizes}
-use Rattle.symbol.proofs.Record.{size_at, front_length, operator_front, marked_front, size_front}
+use Rattle.symbol.specs.Record.{operator, marked, size}
 use Rattle.tables.specs.Layout.{arity_in}
-use Rattle.term.specs.Present.{Hops}
-use Rattle.term.specs.Promises.{Loaded}
-use Rattle.term.proofs.Hopping.{hops_arguments, hop_end_is, first_inside}
 use Rattle.term.proofs.load.Given as goal
 
 -- the invariant: from offset i on, each of the n symbols x has its operator, its size and no mark

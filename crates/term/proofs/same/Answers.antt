@@ -7,7 +7,6 @@ use native.Mathlib.Numerals.{add-one}
 use native.Mathlib.Omega.{arith}
 use lib.ListN.{length, get_or, take, drop, length-take, length-drop}
 use lib.Seq.{take-suc, get_or-take, get_or-drop}
-use borrow.Author.Rules.{rules}
 use Rattle.paper.proofs.Operators.{same_true, same_false}
 use Rattle.symbol.specs.Record.{operator, operators}
 use Rattle.symbol.proofs.Record.{front_length, operator_front}

@@ -1,7 +1,6 @@
 -- `point_frames::tally::count_exit` meets its contract: the counter of the frame that is named is one more. Assumes nothing.
 use Prim.Native.Nat.{◌<◌}
 use native.Mathlib.Omega.{arith}
-use borrow.Author.Rules.{rules}
 use Rattle.point_frames.proofs.Counts.{exit_room, exit_stored, exit_no_frame, exit_no_unit}
 use Rattle.point_frames.proofs.tally.count_exit.Goals as goal
 
