@@ -1,15 +1,14 @@
 -- A line by an open book: its answer by itself, for each way through the code, and its record. Assumes nothing.
-use mathlib.Core.Bool.{Bool, true, false}
+use mathlib.Core.Bool.{true, false}
 use mathlib.Core.List.{List, [], ◌∷◌}
-use mathlib.Core.Path.{◌≡◌, sym, ap, ap₂, ◌∙◌, subst, subst₂}
+use mathlib.Core.Path.{◌≡◌, sym, ap, ap₂, ◌∙◌, subst}
 use Prim.Native.Nat.{ℕ}
 use lib.ListN.{length, take}
-use Rattle.paper.specs.Result.{Result, refused, accepted}
+use Rattle.paper.specs.Result.{refused, accepted}
 use Rattle.paper.specs.Tree.{preorder}
-use Rattle.paper.specs.Book.{Term, Book}
+use Rattle.paper.specs.Book.{Book}
 use Rattle.paper.specs.Dated.{on_day}
 use Rattle.paper.specs.Line.{symbol_limit}
-use Rattle.paper.specs.Run.{Answer, run}
 use Rattle.paper.specs.Page.{Request, LineReader, all_below}
 use Rattle.paper.proofs.Readers.{accepted_injective, refused_accepted}
 use Rattle.tables.specs.Tables.{any_book, Operators}
@@ -19,8 +18,8 @@ use Rattle.net.specs.Layout.{day_of}
 use Rattle.net.specs.Net.{book_by}
 use Rattle.whole.specs.declared.Limits.{Limits}
 use Rattle.run.specs.declared.Run.{Run}
-use Rattle.engine.specs.Spec.{Values, values, RunHolds}
-use Rattle.engine.specs.Promises.{Given, Taken, ReadAs, TermRead, Asked, Posted, fault}
+use Rattle.engine.specs.Spec.{values, RunHolds}
+use Rattle.engine.specs.Promises.{Taken, ReadAs, TermRead, Asked, Posted}
 use Rattle.engine.specs.declared.Answer as D
 use Rattle.engine.proofs.Frame.{framed, frame_of}
 use Rattle.engine.proofs.Answers.{by_line, by_schedule, by_run}

@@ -1,10 +1,9 @@
 -- The next line at a position, or why it isn't done: by where its bytes end. Assumes nothing.
-use mathlib.Core.List.{List, [], ◌∷◌}
-use mathlib.Core.Path.{◌≡◌, sym, ap, ◌∙◌}
+use mathlib.Core.List.{List, ◌∷◌}
+use mathlib.Core.Path.{◌≡◌, ap}
 use Prim.Native.Nat.{ℕ, ◌+◌, ◌-◌, ◌≤◌, ◌<◌}
 use native.Mathlib.Omega.{arith}
 use lib.ListN.{length, take, drop, length-drop}
-use Rattle.paper.specs.Result.{refused, accepted}
 use Rattle.stream.specs.Promises.{PartEnds}
 use Rattle.stream.specs.declared.PartEnd as E
 use Rattle.records.specs.Record.{longest}

@@ -1,6 +1,6 @@
 -- What the functions behind the entry points ask of each other. Assumes nothing.
 use Rattle.std.specs.Prelude.{true, List, [], ◌∷◌, ◌++◌, ◌≡◌, ℕ, ◌+◌, ◌-◌, ◌^◌, ◌≤◌, ◌<◌, length, take, drop}
-use Rattle.paper.specs.Result.{Result, refused, accepted}
+use Rattle.paper.specs.Result.{Result, accepted}
 use Rattle.paper.specs.Book.{Term}
 use Rattle.paper.specs.Line.{symbol_limit}
 use Rattle.paper.specs.Run.{Answer}

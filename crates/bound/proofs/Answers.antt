@@ -7,7 +7,6 @@ use lib.ListN.{length, replicate}
 use Rattle.paper.specs.Result.{Result, refused, accepted, then}
 use Rattle.paper.specs.Tree.{Correct, preorder}
 use Rattle.paper.specs.Book.{Term, Book, arity}
-use Rattle.paper.specs.Dated.{on_day}
 use Rattle.paper.specs.Machine.{Ending}
 use Rattle.paper.specs.Run.{Answer}
 use Rattle.paper.specs.Page.{LineReader, ending_number, answer_by}

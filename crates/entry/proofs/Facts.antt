@@ -3,13 +3,11 @@
 use mathlib.Core.Path.{◌≡◌, refl, sym, ap, ap₂, subst, ◌∙◌}
 use mathlib.Core.Bool.{true, false}
 use mathlib.Core.List.{List, [], ◌∷◌}
-use mathlib.Core.Logic.{inl, inr}
+use mathlib.Core.Logic.{inl}
 use mathlib.Core.Option.{none, some}
 use Prim.Native.Nat.{ℕ, zero, suc, ◌-◌, ◌≤◌, ◌<◌}
 use native.Mathlib.Omega.{arith}
 use lib.ListN.{length, get_or, drop, length-drop}
-use types.Run.{OneOf}
-use denote.Enum.Declared.{tag_of}
 use Rattle.paper.specs.Strategy.{Step}
 use Rattle.paper.specs.Book.{Book, steps}
 use Rattle.paper.specs.Machine as paper
@@ -28,7 +26,6 @@ use Rattle.symbol.specs.Record.{operator}
 use Rattle.symbol.proofs.Record.{front_length, operator_front}
 use Rattle.tables.specs.Layout.{step, step_of, code_in, arity_in, steps_in, Rowed}
 use Rattle.tables.specs.declared.Step as D
-use Rattle.tables.specs.contracts.Step.{the_type}
 use Rattle.tables.proofs.Rows.{here_is}
 use Rattle.tables.proofs.Laws.{all_at, steps_at, rowed_at}
 use Rattle.term.specs.Present.{length_in, Sized}

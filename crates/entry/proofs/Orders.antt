@@ -11,7 +11,7 @@ use lib.Seq.{get_or-set_same}
 use Rattle.paper.specs.Strategy.{Step}
 use Rattle.paper.specs.Book.{arity, steps}
 use Rattle.paper.specs.Machine.{Ending}
-use Rattle.flat.specs.Machine.{Frame, FlatUnit, flat_unit, asleep, unit, FlatState, going, ended, with_unit, with_units, with_marks, with_placed, carry_out, flat_entry, mark, do_step, do_visit, visit}
+use Rattle.flat.specs.Machine.{Frame, FlatUnit, flat_unit, asleep, FlatState, going, ended, with_unit, with_units, with_marks, with_placed, carry_out, flat_entry, mark, do_step, do_visit, visit}
 use Rattle.flat.specs.Rules.{stack}
 use Rattle.flat.proofs.Inside.{visit_within, exit_unit}
 use Rattle.flat.proofs.Sizes.{arguments_inside}

@@ -1,6 +1,5 @@
 -- The nodes of a net's search: a rule that fits and is led to is led to by the branch of the term's symbol or by that of a variable; at the end of a path
 -- its rules are left. Assumes nothing.
-use mathlib.Core.Bool.{true, false}
 use mathlib.Core.List.{List, [], ◌∷◌, ◌++◌, map, append_assoc, append-nil}
 use mathlib.Core.Logic.{◌⊎◌, inl, inr}
 use mathlib.Core.Path.{◌≡◌, refl, sym, ap, ap₂, ◌∙◌, subst}
@@ -8,10 +7,9 @@ use Prim.Native.Nat.{ℕ, zero, suc, ◌+◌, ◌-◌, ◌≤◌, ◌<◌}
 use native.Mathlib.Nat.{add-zero, add_assoc}
 use native.Mathlib.Numerals.{add-one}
 use native.Mathlib.Omega.{arith}
-use lib.Dec.{ltb}
 use lib.ListN.{length, get_or, take, drop, length-append, length-map, length-take}
 use lib.Seq.{drop_at, drop-drop, take-suc, take_all, get_or-take, length-take-le}
-use borrow.Author.Tests.{eq-eqb, ne_eqb, ltb-true, ltb-false}
+use borrow.Author.Tests.{eq-eqb, ne_eqb}
 use Rattle.paper.specs.Bits.{to_bits, bits_of}
 use Rattle.paper.specs.Tree.{node, nil, cons, label, count, preorder, Complete}
 use Rattle.paper.specs.Book.{Symbol, Side, Rule, Book, arity, symbol_arity}

@@ -16,7 +16,7 @@ use Rattle.term.specs.Present.{length_in, operators_in}
 use Rattle.term.proofs.Sized.{operators_length, sized_same}
 use Rattle.term.proofs.Skipping.{known_arities}
 use Rattle.rule.specs.Packed.{arity_of_symbol}
-use Rattle.rule.specs.Promises.{found, LeftTried, NoneFound, RuleFound}
+use Rattle.rule.specs.Promises.{LeftTried, NoneFound, RuleFound}
 use Rattle.rule.specs.declared.Found as F
 use Rattle.rule.proofs.Tables.{lefts_stand}
 use Rattle.rule.proofs.Choices.{tried_differs, tried_agrees, none_found, rule_found}

@@ -10,7 +10,7 @@ use Rattle.paper.proofs.Tests.{eqb_cases}
 use Rattle.net.specs.Layout.{left_of}
 use Rattle.net.specs.Net.{part}
 use Rattle.lookup.specs.Walk.{symbol_in, size_in}
-use Rattle.lookup.specs.Promises.{rules_by, Ready, Small, KeyAt, BySymbol, ByPart, Led, Node, Fit, Descended, spot_at, Packable, Puts, Put, Pushed, weigh, load, Pending, Along, Stacked, Tells, Visited, Turned}
+use Rattle.lookup.specs.Promises.{Ready, Small, KeyAt, BySymbol, ByPart, Led, Node, Fit, Descended, spot_at, Packable, Puts, Put, Pushed, weigh, load, Pending, Along, Stacked, Tells, Visited, Turned}
 use Rattle.lookup.specs.declared.Spot.{Spot}
 use Rattle.lookup.specs.declared.Next as Ne
 use Rattle.lookup.specs.declared.Descent as De

@@ -2,13 +2,12 @@
 use mathlib.Core.Bool.{Bool, true, false, false≢true}
 use mathlib.Core.List.{List, [], ◌∷◌}
 use mathlib.Core.Logic.{inl, inr}
-use mathlib.Core.Path.{◌≡◌, refl, sym, ap, ◌∙◌, subst}
+use mathlib.Core.Path.{◌≡◌, sym, ap, ◌∙◌, subst}
 use Prim.Native.Nat.{ℕ, zero, suc, ◌+◌, ◌*◌, ◌-◌, ◌≤◌, ◌<◌}
 use native.Mathlib.Numerals.{add-one}
 use native.Mathlib.Omega.{arith}
 use lib.ListN.{length, get_or, take, drop, length-drop}
 use lib.Seq.{take-suc, take-nil, take_all, take-take, get_or-take, get_or-drop, drop-drop, length-take-le}
-use Rattle.paper.specs.Writer.{same}
 use Rattle.paper.proofs.Operators.{same_true, same_false}
 use Rattle.paper.proofs.Tests.{eqb_cases, eqb_true, eqb_false}
 use Rattle.parking.specs.Form.{slot_length}

@@ -2,7 +2,7 @@
 -- of it. The path of a rule is its left side with variables unnamed. The net keeps paths where they stand, in the book: from the root on, a rule goes along
 -- the path of an earlier one until the two part, and from there on its own. So a node is a depth of a rule's path, its branches are that path's own key
 -- and the ways by which other rules leave it there. Assumes nothing.
-use Rattle.std.specs.Prelude.{List, [], ◌∷◌, ◌++◌, map, ◌⊎◌, ◌≡◌, ℕ, suc, ◌+◌, ◌-◌, ◌≤◌, ◌<◌, length, get_or, take, drop}
+use Rattle.std.specs.Prelude.{List, ◌∷◌, ◌++◌, map, ◌⊎◌, ◌≡◌, ℕ, suc, ◌-◌, ◌≤◌, ◌<◌, length, get_or, take, drop}
 use Rattle.paper.specs.Tree.{preorder}
 use Rattle.paper.specs.Book.{Symbol, Rule, Book}
 use Rattle.paper.specs.Dated.{on_day}

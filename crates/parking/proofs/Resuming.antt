@@ -33,7 +33,7 @@ use Rattle.parking.proofs.Buffer.{zeros, length_zeros, zeros_free, put_same, eig
 use Rattle.parking.proofs.Slots.{Open, good_slots, Place, find_at, find_place, set_gone, holds_inside}
 use Rattle.parking.proofs.Form.{Held, read_held}
 use Rattle.parking.proofs.Endings.{resume_cut, parked_cut}
-use Rattle.parking.proofs.Checks.{Ready, points_ready, ready_points, only_put, slots_put, inside, reaches, unless_accepted, or_accepted}
+use Rattle.parking.proofs.Checks.{Ready, points_ready, ready_points, only_put, slots_put, reaches, unless_accepted, or_accepted}
 use Rattle.parking.proofs.Parking.{parts_one, point_only, point_found}
 
 -- "any other point that meets the rules merely runs without fault"

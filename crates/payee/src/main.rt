@@ -1,7 +1,10 @@
 // The second program: the page of its standard input, in which a payee's text stands where the term stood.
+#![tactic(auto)]
+
 use engine::Form;
 // The descriptors of standard input and output.
 const STDIN_FILENO: i32 = 0;
+
 const STDOUT_FILENO: i32 = 1;
 
 fn main() {

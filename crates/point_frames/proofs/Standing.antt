@@ -2,7 +2,7 @@
 use mathlib.Core.Bool.{Bool, true, false, not}
 use mathlib.Core.List.{List, [], ◌∷◌}
 use mathlib.Core.Path.{◌≡◌, refl, sym, ap, ap₂, ◌∙◌}
-use Prim.Native.Nat.{ℕ, zero, suc, ◌+◌, ◌-◌, ◌<◌}
+use Prim.Native.Nat.{ℕ, zero, suc, ◌+◌, ◌<◌}
 use native.Mathlib.Omega.{arith}
 use lib.Dec.{eqb, leb}
 use lib.ListN.{length}
@@ -11,7 +11,6 @@ use Rattle.paper.specs.Book.{Book}
 use Rattle.paper.proofs.Tests.{eqb_false}
 use Rattle.flat.specs.Machine.{Frame, FlatState}
 use Rattle.flat.specs.Rules.{steps_left}
-use Rattle.flat.specs.Meets.{frame}
 use Rattle.flat.specs.Tested.{and, at_join, taken, carries, holds, stack_good}
 use Rattle.units.specs.Frames.{flat}
 use Rattle.units.specs.Stacks.{base, stack_of, height_in, Store}

@@ -1,6 +1,6 @@
 -- Laws of a waiting unit: the operator of a symbol, whether its step is a JOIN, the frame on top. Assumes nothing.
 use mathlib.Core.Bool.{Bool, true, false}
-use mathlib.Core.List.{List, [], ◌∷◌}
+use mathlib.Core.List.{List, ◌∷◌}
 use mathlib.Core.Path.{◌≡◌, refl, sym, ap, ap₂, ◌∙◌}
 use Prim.Native.Nat.{ℕ, zero, suc, ◌+◌, ◌-◌, ◌*◌, ◌≤◌, ◌<◌}
 use native.Mathlib.Omega.{arith}
@@ -14,7 +14,6 @@ use Rattle.symbol.specs.Record.{operator}
 use Rattle.symbol.proofs.Record.{front_length, operator_front}
 use Rattle.tables.specs.Layout.{step, step_of, code_in, steps_in, Rowed}
 use Rattle.tables.specs.declared.Step as D
-use Rattle.tables.specs.contracts.Step as S
 use Rattle.tables.proofs.Rows.{here_is}
 use Rattle.term.specs.Present.{length_in, operators_in}
 use Rattle.units.specs.Frames.{flat, frame_at}

@@ -17,9 +17,9 @@ use Rattle.paper.proofs.BookBytes.{longest_book}
 use Rattle.paper.proofs.Prefix.{read_any_prefix}
 use Rattle.paper.proofs.Readers.{accepted_injective, refused_accepted}
 use Rattle.tables.specs.Layout.{day_in}
-use Rattle.tables.specs.Tables.{any_book, book_of, TablesOf}
+use Rattle.tables.specs.Tables.{book_of, TablesOf}
 use Rattle.entry.specs.State.{limited}
-use Rattle.engine.specs.Spec.{published, values, values_of, request, answered_by, RunBy, ReducedBy}
+use Rattle.engine.specs.Spec.{published, values_of, request, answered_by, RunBy, ReducedBy}
 use Rattle.engine.specs.Promises.{Framed, Taken}
 use Rattle.engine.specs.declared.Answer as D
 use Rattle.engine.proofs.Frame.{framed}

@@ -2,19 +2,18 @@
 -- can be saved. Assumes nothing.
 use mathlib.Core.Bool.{Bool, true, false, false≢true}
 use mathlib.Core.List.{List}
-use mathlib.Core.Option.{Option, none, some, some-ne-none}
-use mathlib.Core.Path.{◌≡◌, refl, sym, ap, ap₂, ◌∙◌, subst}
+use mathlib.Core.Option.{none, some}
+use mathlib.Core.Path.{◌≡◌, refl, sym, ap, ap₂, ◌∙◌}
 use Prim.Native.Nat.{ℕ, ◌+◌, ◌^◌, ◌≤◌, ◌<◌}
 use native.Mathlib.Omega.{arith}
 use lib.ListN.{length}
 use Rattle.paper.specs.Result.{if}
-use Rattle.paper.specs.Book.{Book, arity}
+use Rattle.paper.specs.Book.{Book}
 use Rattle.paper.specs.Machine as paper
 use Rattle.paper.specs.WellFormed.{GoodBook}
 use Rattle.flat.specs.Machine.{FlatState}
 use Rattle.flat.specs.Run.{FlatAnswer, flat_run_from}
 use Rattle.flat.specs.Meets.{PointRules}
-use Rattle.flat.specs.Form.{Saved}
 use Rattle.flat.specs.Parts.{flat_parked, kept_count, kept_state, from_zero, add_forks, add_counts, kept_answer, Parked, part, resume}
 use Rattle.flat.proofs.Form.{point_fits}
 use Rattle.flat.proofs.Counted.{resume_counted, part_counted, part_over, parked_answer}
@@ -24,15 +23,13 @@ use Rattle.net.specs.Net.{book_by}
 use Rattle.whole.specs.declared.Limits.{Limits}
 use Rattle.entry.specs.State as E
 use Rattle.entry.specs.State.{limited}
-use Rattle.run.specs.Promises.{ending, counted, left, left_by, answer, Ran}
+use Rattle.run.specs.Promises.{counted, left_by, answer, Ran}
 use Rattle.run.specs.declared.Ending.{Ending}
 use Rattle.run.specs.declared.Run.{Run}
-use Rattle.engine.specs.Spec.{Values, run_values}
 use Rattle.point.specs.declared.Numbers.{Numbers}
 use Rattle.point.specs.Saved.{Arrays, arrays, saved}
 use Rattle.point_writer.specs.Promises.{Savable}
 use Rattle.point_writer.proofs.Savable.{standing_savable}
-use Rattle.points.specs.Spec.{flat_values}
 use Rattle.parking.specs.Form.{write_point}
 use Rattle.parking.specs.Points.{put, as_point, behind}
 use Rattle.points.specs.Promises.{added, numbers, point, is_cut, behind_cut}

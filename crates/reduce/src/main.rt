@@ -1,7 +1,10 @@
 // The program: the page of its standard input. How much of it must be read is said by the type of the buffer that `page::of_buffer` takes.
+#![tactic(auto)]
+
 use engine::Form;
 // The descriptors of standard input and output.
 const STDIN_FILENO: i32 = 0;
+
 const STDOUT_FILENO: i32 = 1;
 
 fn main() {

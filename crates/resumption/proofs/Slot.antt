@@ -36,7 +36,7 @@ use Rattle.opening.specs.Promises.{Part, read_part, book_in, day_of, OpenedRun, 
 use Rattle.opening.specs.declared.Opened as O
 use Rattle.checking.specs.Promises.{Inside, Holds}
 use Rattle.points.specs.Promises.{point, CanSave}
-use Rattle.resumption.specs.Promises.{part_in, CountsUnits, Copied, LoadedRun, LoadedAs, PointIn, Asked, Ready}
+use Rattle.resumption.specs.Promises.{part_in, CountsUnits, Copied, LoadedRun, LoadedAs, PointIn, Asked}
 use Rattle.resumption.specs.declared.Loaded as D
 
 -- BYTES

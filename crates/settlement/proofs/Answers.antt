@@ -2,9 +2,9 @@
 use mathlib.Core.List.{List, [], ◌++◌}
 use mathlib.Core.Option.{Option, none, some}
 use mathlib.Core.Path.{◌≡◌, refl, sym, ap, ◌∙◌}
-use Prim.Native.Nat.{ℕ, ◌≤◌, ◌<◌}
+use Prim.Native.Nat.{ℕ, ◌≤◌}
 use native.Mathlib.Omega.{arith}
-use lib.IntN.{ℤ, pos}
+use lib.IntN.{ℤ}
 use lib.ListN.{length, take, drop}
 use lib.Seq.{take_at}
 use Rattle.paper.specs.Result.{Result, refused, accepted, then}
@@ -20,8 +20,8 @@ use Rattle.engine.specs.declared.Answer as E
 use Rattle.fees.specs.Fees.{Charge, charge}
 use Rattle.fees.specs.Spec.{ChargedAs}
 use Rattle.fees.specs.declared.Charged as F
-use Rattle.settlement.specs.Spec.{Settlement, charged, ran, settled, values, with_fee, values_of, SettledBy}
-use Rattle.settlement.specs.Promises.{RunSettled, settled_as, with_term, with_charge}
+use Rattle.settlement.specs.Spec.{charged, ran, settled, values, with_fee, values_of, SettledBy}
+use Rattle.settlement.specs.Promises.{RunSettled}
 use Rattle.settlement.specs.declared.Settled as D
 
 -- THE POSTING OF A RUN

@@ -1,10 +1,10 @@
 -- What holds of every run and its charge (document 02, Change 12): the run's own refusals come first, only a finished run is charged, 15 and 6 never come, and
 -- fee and parts of a posting add up to the amount. Assumes nothing.
-use mathlib.Core.List.{List, []}
+use mathlib.Core.List.{List}
 use mathlib.Core.Logic.{◌⊎◌, inl, inr, ◌≢◌}
 use mathlib.Core.Option.{Option, none, some}
 use mathlib.Core.Path.{◌≡◌, refl, sym, ap, ◌∙◌}
-use Prim.Native.Nat.{ℕ, ◌<◌, ◌≤◌}
+use Prim.Native.Nat.{ℕ}
 use native.Mathlib.Omega.{arith}
 use lib.IntN.{ℤ, ◌+ℤ◌}
 use Rattle.paper.specs.Result.{Result, refused, accepted, then}

@@ -4,7 +4,7 @@ use Rattle.std.proofs.Math.Option.{Option, none, some}
 use Rattle.paper.specs.Result.{Result, refused, accepted}
 use Rattle.run.specs.declared.Run.{Run}
 use Rattle.fees.specs.Fees.{Charge}
-use Rattle.settlement.specs.Spec.{fee_of, with_parts}
+use Rattle.settlement.specs.Spec.{with_parts}
 use Rattle.settlement.specs.declared.Settled as D
 
 -- the code's answer for a run whose posting is charged so

@@ -1,13 +1,13 @@
 -- What the tables of a book tell a run: arities, steps, and where sides stand, inside the book. Assumes nothing.
-use mathlib.Core.List.{List, [], ◌∷◌, ◌++◌}
-use mathlib.Core.Path.{◌≡◌, sym, ◌∙◌, ap}
+use mathlib.Core.List.{List, [], ◌∷◌}
+use mathlib.Core.Path.{◌≡◌, ap}
 use Prim.Native.Nat.{ℕ, zero, suc, ◌*◌, ◌≤◌, ◌<◌}
 use native.Mathlib.Omega.{arith}
 use lib.ListN.{length, get_or, drop, length-append}
 use Rattle.paper.specs.Bits.{to_bits}
 use Rattle.paper.specs.Tree.{node, preorder, preorders}
-use Rattle.paper.specs.Strategy.{Step, layout}
-use Rattle.paper.specs.Book.{Operator, Symbol, Side, Book, arity, operator_at, steps}
+use Rattle.paper.specs.Strategy.{Step}
+use Rattle.paper.specs.Book.{Symbol, Side, Book, arity, operator_at, steps}
 use Rattle.paper.specs.Sound.{All, Within}
 use Rattle.paper.proofs.Operators.{good_within}
 use Rattle.paper.specs.WellFormed.{GoodRule}
@@ -16,7 +16,7 @@ use Rattle.bits.proofs.Reading.{bits_left}
 use Rattle.flat.specs.Machine.{next_count}
 use Rattle.flat.proofs.Lengths.{steps_most, counts_most}
 use Rattle.tables.specs.Layout.{row, arity_in, row_in, steps_in, AllFew, Rowed, left_in, right_in}
-use Rattle.tables.specs.Tables.{Operators, Stand, rule_at, Tables}
+use Rattle.tables.specs.Tables.{Stand, rule_at, Tables}
 use Rattle.tables.proofs.Rows as rows
 
 pub all_at : {A : Type 0} (Q : A → Type 0) (d : A) (xs : List A) (i : ℕ) → All Q xs → i < length xs → Q (get_or xs i d)

@@ -1,7 +1,7 @@
 -- The layout of a book's two tables: which element says what. `operators` has 4,352 bytes: the arity of operator o at o, the codes of its steps in
 -- the 16 bytes from 256 + 16 * o on, 0 behind the last. `rules` has 512 numbers, in two columns of 256: the bit positions of each rule's left and of its
 -- right side. A book has at most 255 rules; behind the columns stand the day and how many rules there are. Assumes nothing.
-use Rattle.std.specs.Prelude.{List, [], ◌∷◌, ◌++◌, map, ◌≡◌, ℕ, ◌+◌, ◌-◌, ◌*◌, ◌%◌, ◌≤◌, ◌<◌, eqb, ltb, length, get_or, take, drop, replicate, set}
+use Rattle.std.specs.Prelude.{List, [], ◌∷◌, ◌++◌, map, ◌≡◌, ℕ, ◌+◌, ◌-◌, ◌*◌, ◌≤◌, ◌<◌, eqb, ltb, length, get_or, take, drop, replicate, set}
 use Rattle.std.proofs.Math.Option.{Option, none, some}
 use Rattle.paper.specs.Result.{if}
 use Rattle.paper.specs.Strategy.{Step}

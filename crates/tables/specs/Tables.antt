@@ -1,5 +1,5 @@
 -- What the tables say of a book: its arities, its steps, how many rules it has, and where their sides stand in its bits. Assumes nothing.
-use Rattle.std.specs.Prelude.{List, [], ◌++◌, ◌≡◌, ℕ, zero, suc, ◌+◌, ◌≤◌, ◌<◌, length, get_or, drop}
+use Rattle.std.specs.Prelude.{List, [], ◌++◌, ◌≡◌, ℕ, ◌<◌, length, get_or, drop}
 use Rattle.paper.specs.Result.{Result, refused, accepted}
 use Rattle.paper.specs.Bits.{bits_of}
 use Rattle.paper.specs.Tree.{node, nil, label, preorder}

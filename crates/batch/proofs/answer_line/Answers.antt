@@ -1,5 +1,4 @@
 -- `batch::answer_line` meets its contract, by the laws of Answers. Assumes nothing.
-use borrow.Author.Rules.{rules}
 use mathlib.Core.Path.{sym, ◌∙◌}
 use Rattle.batch.proofs.Answers.{asks, read_by, not_read, not_named, posted}
 use Rattle.batch.proofs.answer_line.Goals as goal

@@ -1,12 +1,8 @@
 -- Answers of `answer_lines`. Assumes nothing.
-use mathlib.Core.Path.{◌≡◌, refl, sym, ap, ◌∙◌}
-use Prim.Native.Nat.{ℕ, ◌+◌, ◌*◌, ◌-◌, ◌≤◌, ◌<◌}
+use mathlib.Core.Path.{refl}
 use native.Mathlib.Omega.{arith}
-use lib.ListN.{length}
 use borrow.Author.Rules.{rules}
-use Rattle.engine.specs.Spec.{reader}
 use Rattle.engine.proofs.Frame.{frame_of}
-use Rattle.batch.specs.Promises.{Arrays, Upto}
 use Rattle.batch.proofs.Loop.{open_as, none_yet, few, one_more, stopped}
 use Rattle.batch.proofs.answer_lines.Goals as goal
 

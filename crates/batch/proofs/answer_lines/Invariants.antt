@@ -1,13 +1,9 @@
 -- `batch::answer_lines` meets its contract, by the laws of Loop: the lines up to a position are done. The measure is how many bytes are left. Assumes nothing.
-use mathlib.Core.Path.{◌≡◌, refl, sym, ap, ◌∙◌}
-use Prim.Native.Nat.{ℕ, ◌+◌, ◌*◌, ◌-◌, ◌≤◌, ◌<◌}
-use native.Mathlib.Omega.{arith}
+use mathlib.Core.Path.{◌≡◌}
+use Prim.Native.Nat.{◌-◌}
 use lib.ListN.{length}
-use borrow.Author.Rules.{rules}
 use Rattle.engine.specs.Spec.{reader}
-use Rattle.engine.proofs.Frame.{frame_of}
 use Rattle.batch.specs.Promises.{Arrays, Upto}
-use Rattle.batch.proofs.Loop.{open_as, none_yet, few, one_more, stopped}
 use Rattle.batch.proofs.answer_lines.Given as goal
 
 abbrev pub invariant-loop-stop : goal.invariant-loop-stop

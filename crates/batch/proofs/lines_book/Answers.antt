@@ -1,5 +1,4 @@
 -- `batch::lines_book` meets its contract, by the laws of Books. Assumes nothing.
-use borrow.Author.Rules.{rules}
 use mathlib.Core.Path.{ap, ◌∙◌}
 use Prim.Native.Nat.{ℕ}
 use native.Mathlib.Omega.{arith}

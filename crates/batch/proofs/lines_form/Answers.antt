@@ -1,5 +1,4 @@
 -- `batch::lines_form` meets its contract, by the laws of Books. Assumes nothing.
-use borrow.Author.Rules.{rules}
 use mathlib.Core.Path.{sym, ◌∙◌}
 use native.Mathlib.Omega.{arith}
 use Rattle.batch.proofs.Books.{by_frame, prefix_short, lines_prefix}

@@ -1,5 +1,4 @@
 -- `batch::next_line` meets its contract, by the laws of NextLine. Assumes nothing.
-use borrow.Author.Rules.{rules}
 use native.Mathlib.Omega.{arith}
 use Rattle.batch.proofs.NextLine.{cut_short, no_room, next_done}
 use Rattle.batch.proofs.next_line.Goals as goal

@@ -1,7 +1,6 @@
 -- `bits::field` meets its contract, by the laws of Reading. Assumes nothing.
 use native.Mathlib.Omega.{arith}
 use Rattle.bits.proofs.Reading.{answers_value, answers_out}
-use borrow.Author.Rules.{rules}
 use Rattle.bits.proofs.field.Goals as goal
 
 pub returns-then-left-n : goal.returns-then-left-n

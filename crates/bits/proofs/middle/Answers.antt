@@ -3,7 +3,6 @@ use Prim.Native.Nat.{◌/◌, ◌^◌, ◌≤◌}
 use native.Mathlib.Nat.{mod-lt}
 use native.Mathlib.Omega.{arith}
 use lib.Pow.{pow_mono}
-use borrow.Author.Rules.{rules}
 use Rattle.bits.proofs.middle.Goals as goal
 
 pub overflow_cast-result : goal.overflow_cast-result

@@ -1,6 +1,5 @@
 -- `bits::nine` meets its contract, by the laws of Ahead. Assumes nothing.
 use mathlib.Core.Path.{refl}
-use borrow.Author.Rules.{rules}
 use Rattle.bits.proofs.Ahead.{nine_read}
 use Rattle.bits.proofs.nine.Goals as goal
 

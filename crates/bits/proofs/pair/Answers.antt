@@ -1,5 +1,4 @@
 -- `bits::pair` meets its contract. Assumes nothing.
-use borrow.Author.Rules.{rules}
 use Rattle.bits.proofs.Ahead.{pair_end}
 use Rattle.bits.proofs.pair.Goals as goal
 

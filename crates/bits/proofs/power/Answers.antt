@@ -3,7 +3,6 @@ use mathlib.Core.Path.{◌∙◌}
 use native.Mathlib.Nat.{one-mul}
 use native.Mathlib.Omega.{arith}
 use lib.Pow.{shl_exact, pow_pos}
-use borrow.Author.Rules.{rules}
 use Rattle.bits.proofs.power.Goals as goal
 
 pub returns : goal.returns

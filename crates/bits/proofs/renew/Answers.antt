@@ -4,7 +4,6 @@ use Prim.Native.Nat.{ℕ, ◌+◌, ◌-◌, ◌*◌, ◌/◌, ◌%◌, ◌^◌, 
 use native.Mathlib.Nat.{mod-lt, lt_of_lt_of_le}
 use native.Mathlib.Omega.{arith}
 use lib.Pow.{pow_pos, pow_mono, shr_lt}
-use borrow.Author.Rules.{rules}
 use Rattle.bits.proofs.Bytes.{three_lt}
 use Rattle.bits.proofs.renew.Goals as goal
 

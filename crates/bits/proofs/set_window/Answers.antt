@@ -1,5 +1,4 @@
 -- `bits::set_window` meets its contract: three stores, one after another. Assumes nothing.
-use borrow.Author.Rules.{rules}
 use Rattle.bits.proofs.set_window.Goals as goal
 
 pub returns : goal.returns

@@ -1,7 +1,6 @@
 -- `bound::bound_form` meets its contract: the run of one unit over zeros, then what it tells. Assumes nothing.
 use Prim.Native.Nat.{ℕ}
 use lib.ListN.{length-replicate}
-use borrow.Author.Rules.{rules}
 use Rattle.bound.proofs.Answers.{forks_few, of_refused, of_ran}
 use Rattle.bound.proofs.bound_form.Goals as goal
 

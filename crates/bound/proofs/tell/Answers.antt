@@ -1,7 +1,6 @@
 -- `bound::tell` meets its contract, by the number of the ending. Assumes nothing.
-use mathlib.Core.Path.{◌≡◌, sym, ap, ◌∙◌}
+use mathlib.Core.Path.{sym, ap, ◌∙◌}
 use Rattle.paper.specs.Result.{accepted}
-use borrow.Author.Rules.{rules}
 use Rattle.bound.proofs.Answers.{other, finished}
 use Rattle.bound.proofs.tell.Goals as goal
 

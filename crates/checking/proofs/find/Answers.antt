@@ -1,6 +1,5 @@
 -- `checking::find` meets its contract. Assumes nothing.
 use native.Mathlib.Omega.{arith}
-use borrow.Author.Rules.{rules}
 use Rattle.checking.proofs.Answers.{ready, find_refused, has_slots, find_known, find_unknown}
 use Rattle.checking.proofs.find.Goals as goal
 

@@ -1,11 +1,9 @@
 -- Answers of `name_kept`. Assumes nothing.
-use mathlib.Core.Path.{◌≡◌, sym, ap, ◌∙◌}
-use Prim.Native.Nat.{ℕ, ◌-◌, ◌≤◌}
+use mathlib.Core.Path.{sym, ap, ◌∙◌}
+use Prim.Native.Nat.{ℕ}
 use native.Mathlib.Omega.{arith}
 use lib.ListN.{take, drop}
-use borrow.Author.Rules.{rules}
 use Rattle.paper.specs.Reader.{all_zero}
-use Rattle.checking.specs.Promises.{name_kept}
 use Rattle.checking.proofs.Kept.{padded_next, padded_not, padded_end, kept_short, kept_long}
 use Rattle.checking.proofs.name_kept.Goals as goal
 

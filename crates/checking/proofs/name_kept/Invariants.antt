@@ -1,12 +1,9 @@
 -- `checking::name_kept` meets its contract: all bytes before the one looked at are 0. Assumes nothing.
-use mathlib.Core.Path.{◌≡◌, sym, ap, ◌∙◌}
-use Prim.Native.Nat.{ℕ, ◌-◌, ◌≤◌}
-use native.Mathlib.Omega.{arith}
+use mathlib.Core.Path.{◌≡◌}
+use Prim.Native.Nat.{◌-◌, ◌≤◌}
 use lib.ListN.{take, drop}
-use borrow.Author.Rules.{rules}
 use Rattle.paper.specs.Reader.{all_zero}
 use Rattle.checking.specs.Promises.{name_kept}
-use Rattle.checking.proofs.Kept.{padded_next, padded_not, padded_end, kept_short, kept_long}
 use Rattle.checking.proofs.name_kept.Given as goal
 
 abbrev pub invariant-loop-i : goal.invariant-loop-i

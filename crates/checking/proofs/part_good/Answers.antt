@@ -1,5 +1,4 @@
 -- `checking::part_good` meets its contract: by what the part is opened as. Assumes nothing.
-use borrow.Author.Rules.{rules}
 use Rattle.checking.proofs.Kept.{part_run, part_broken}
 use Rattle.checking.proofs.part_good.Goals as goal
 

@@ -1,6 +1,5 @@
 -- `checking::place` meets its contract. Assumes nothing.
 use native.Mathlib.Omega.{arith}
-use borrow.Author.Rules.{rules}
 use Rattle.checking.proofs.Answers.{ready, place_refused, has_slots, place_known, place_new, place_full}
 use Rattle.checking.proofs.place.Goals as goal
 

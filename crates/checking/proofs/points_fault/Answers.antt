@@ -1,6 +1,5 @@
 -- `checking::points_fault` meets its contract: the faults in their order. Assumes nothing.
 use mathlib.Core.Path.{subst}
-use borrow.Author.Rules.{rules}
 use Rattle.names.specs.Promises.{NamesDiffer}
 use Rattle.checking.specs.Promises.{SlotsJudged}
 use Rattle.checking.proofs.Answers.{short, broken, twice, nameless, long_name, faultless}

@@ -1,7 +1,6 @@
 -- `checking::slot_good` meets its contract: free, or its name and its part are good. Assumes nothing.
 use mathlib.Core.Path.{sym, ◌∙◌}
 use native.Mathlib.Omega.{arith}
-use borrow.Author.Rules.{rules}
 use Rattle.checking.proofs.Kept.{whole_free, broken_name, whole_part}
 use Rattle.checking.proofs.slot_good.Goals as goal
 

@@ -1,13 +1,12 @@
 -- Answers of `slots_good`. Assumes nothing.
 use mathlib.Core.List.{List}
 use mathlib.Core.Path.{sym, ap, ◌∙◌}
-use Prim.Native.Nat.{ℕ, ◌-◌, ◌≤◌}
+use Prim.Native.Nat.{ℕ}
 use native.Mathlib.Omega.{arith}
-use borrow.Author.Rules.{rules}
 use Rattle.parking.specs.Form.{read_slot}
 use Rattle.names.proofs.Told.{lent_slot, lent_bytes}
 use Rattle.checking.specs.Promises.{whole}
-use Rattle.checking.proofs.Kept.{WholeBelow, whole_none, whole_next}
+use Rattle.checking.proofs.Kept.{whole_none, whole_next}
 use Rattle.checking.proofs.slots_good.Goals as goal
 
 pub loop-k-init : goal.loop-k-init

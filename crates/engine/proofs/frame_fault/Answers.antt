@@ -14,17 +14,17 @@ pub returns-then-work-lt-WORK : goal.returns-then-work-lt-WORK
 returns-then-work-lt-WORK c =
     let some_units = positive _ c.if-units-eq0.false in
     elim c.then-work-lt-WORK.branch [
-        then-work-lt-WORK-via-then-work-lt-WORK w ↦ fault_work _ _ _ _ some_units (omega arith) w.if-work-lt-WORK.true
+      | then-work-lt-WORK-via-then-work-lt-WORK w ↦ fault_work _ _ _ _ some_units (omega arith) w.if-work-lt-WORK.true
       | then-work-lt-WORK-via-else-work-lt-WORK+then-net-lt-NET w ↦
           fault_net _ _ _ _ some_units (omega arith) w.if-work-lt-WORK.false w.if-net-lt-NET.true
-      ]
+    ]
 
 pub returns-then-output-lt-OUTPUT : goal.returns-then-output-lt-OUTPUT
 returns-then-output-lt-OUTPUT c =
     let some_units = positive _ c.if-units-eq0.false in
-    fault_output _ _ _ _ some_units (omega arith) (omega arith) c.if-net-lt-NET.false (omega arith)
+    fault_output _ _ _ _ some_units (omega arith) (omega arith) (omega arith) (omega arith)
 
 pub returns : goal.returns
 returns c =
     let some_units = positive _ c.if-units-eq0.false in
-    faultless _ _ _ _ some_units (omega arith) (omega arith) c.if-net-lt-NET.false (omega arith)
+    faultless _ _ _ _ some_units (omega arith) (omega arith) (omega arith) (omega arith)

@@ -1,10 +1,9 @@
 -- Answers of `hand_out`. Assumes nothing.
 use mathlib.Core.List.{List, ◌++◌}
 use mathlib.Core.Path.{◌≡◌, refl, sym, ap, ap₂, ◌∙◌}
-use Prim.Native.Nat.{ℕ, ◌-◌, ◌≤◌}
+use Prim.Native.Nat.{ℕ}
 use native.Mathlib.Omega.{arith}
 use lib.ListN.{length, take, drop, set, length-map, length-set}
-use borrow.Author.Rules.{rules}
 use Rattle.symbol.specs.Record.{operator, operators}
 use Rattle.symbol.proofs.Record.{operator_at, map_take}
 use Rattle.engine.proofs.Copying.{copy_more}

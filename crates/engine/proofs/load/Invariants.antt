@@ -1,12 +1,8 @@
 -- `engine::load` meets its contract: so far the first i are copied. Assumes nothing.
-use mathlib.Core.List.{List, ◌++◌}
-use mathlib.Core.Path.{◌≡◌, refl, ap, ◌∙◌}
-use Prim.Native.Nat.{ℕ, ◌-◌, ◌≤◌}
-use native.Mathlib.Omega.{arith}
-use lib.ListN.{length, get_or, take, drop, set, length-set}
-use lib.Seq.{take-length}
-use borrow.Author.Rules.{rules}
-use Rattle.engine.proofs.Copying.{copy_more}
+use mathlib.Core.List.{◌++◌}
+use mathlib.Core.Path.{◌≡◌}
+use Prim.Native.Nat.{◌-◌, ◌≤◌}
+use lib.ListN.{length, take, drop}
 use Rattle.engine.proofs.load.Given as goal
 
 abbrev pub invariant-loop-i : goal.invariant-loop-i

@@ -1,11 +1,6 @@
 -- Answers of `names_units`. Assumes nothing.
-use mathlib.Core.List.{◌∷◌}
-use mathlib.Core.Path.{◌≡◌, sym, ◌∙◌}
-use Prim.Native.Nat.{◌-◌, ◌≤◌}
+use mathlib.Core.Path.{sym, ◌∙◌}
 use native.Mathlib.Omega.{arith}
-use lib.ListN.{length, drop}
-use borrow.Author.Rules.{rules}
-use Rattle.paper.specs.Page.{all_below}
 use Rattle.engine.proofs.Schedule.{names_none, names_more, names_all}
 use Rattle.engine.proofs.names_units.Goals as goal
 

@@ -1,12 +1,9 @@
 -- `engine::names_units` meets its contract: the largest so far stands for the entries before. Assumes nothing.
 use mathlib.Core.List.{◌∷◌}
-use mathlib.Core.Path.{◌≡◌, sym, ◌∙◌}
+use mathlib.Core.Path.{◌≡◌}
 use Prim.Native.Nat.{◌-◌, ◌≤◌}
-use native.Mathlib.Omega.{arith}
 use lib.ListN.{length, drop}
-use borrow.Author.Rules.{rules}
 use Rattle.paper.specs.Page.{all_below}
-use Rattle.engine.proofs.Schedule.{names_none, names_more, names_all}
 use Rattle.engine.proofs.names_units.Given as goal
 
 abbrev pub invariant-loop-i : goal.invariant-loop-i

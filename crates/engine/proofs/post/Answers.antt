@@ -1,5 +1,4 @@
 -- `engine::post` meets its contract. Assumes nothing.
-use borrow.Author.Rules.{rules}
 use mathlib.Core.Path.{refl}
 use Rattle.engine.proofs.post.Goals as goal
 

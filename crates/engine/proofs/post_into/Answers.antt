@@ -1,5 +1,4 @@
 -- `engine::post_into` meets its contract, by the laws of Runs. Assumes nothing.
-use borrow.Author.Rules.{rules}
 use Rattle.engine.proofs.Runs.{emptied, one_term, ready, ran_first, posted}
 use Rattle.engine.proofs.post_into.Goals as goal
 

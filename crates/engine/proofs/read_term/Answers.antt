@@ -1,5 +1,4 @@
 -- `engine::read_term` meets its contract, by the laws of Readers. Assumes nothing.
-use borrow.Author.Rules.{rules}
 use mathlib.Core.Path.{sym, ◌∙◌}
 use Rattle.line.proofs.Checking.{sound_known}
 use Rattle.engine.proofs.Readers.{loaded_long, line_refused, line_taken, text_read}

@@ -1,5 +1,4 @@
 -- `engine::reduce_book` meets its contract, by the laws of Answers and Readers. Assumes nothing.
-use borrow.Author.Rules.{rules}
 use mathlib.Core.Path.{refl}
 use native.Mathlib.Omega.{arith}
 use Rattle.engine.proofs.Frame.{framed}

@@ -1,5 +1,4 @@
 -- `engine::reduce_form` meets its contract, by the laws of Frame and Answers. Assumes nothing.
-use borrow.Author.Rules.{rules}
 use mathlib.Core.Path.{sym, ◌∙◌}
 use native.Mathlib.Omega.{arith}
 use Rattle.engine.proofs.Frame.{faulty}

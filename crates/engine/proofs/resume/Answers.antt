@@ -1,5 +1,4 @@
 -- `engine::resume` meets its contract, by the laws of Runs. Assumes nothing.
-use borrow.Author.Rules.{rules}
 use Rattle.engine.proofs.Runs.{resumable}
 use Rattle.engine.proofs.resume.Goals as goal
 

@@ -1,5 +1,4 @@
 -- `engine::run_checked` meets its contract, by the laws of Answers and Runs. Assumes nothing.
-use borrow.Author.Rules.{rules}
 use mathlib.Core.Path.{refl, sym, ap, ◌∙◌, subst}
 use Prim.Native.Nat.{ℕ}
 use lib.ListN.{take, replicate}

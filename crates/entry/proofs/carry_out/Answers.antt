@@ -1,5 +1,4 @@
 -- `entry::carry_out` meets its contract: order 0 of a job is its VISIT, any other a step. Assumes nothing.
-use borrow.Author.Rules.{rules}
 use native.Mathlib.Omega.{arith}
 use Rattle.entry.proofs.Orders.{visit_asks, visited}
 use Rattle.entry.proofs.carry_out.Goals as goal

@@ -1,5 +1,4 @@
 -- `entry::enter` meets its contract: the top frame of a busy unit is looked at. Assumes nothing.
-use borrow.Author.Rules.{rules}
 use native.Mathlib.Omega.{arith}
 use mathlib.Core.Path.{sym, ◌∙◌}
 use Rattle.entry.proofs.Facts.{has_frame}
@@ -28,10 +27,10 @@ carry_out-requires c =
     record {
       arrays = q.arrays;
       running = (
-          q.running.0,
-          q.running.1,
-          record { busy = sym c.is_busy.ensures ∙ c.if-not-is_busy.false; top = rw c.in-Job.is at c.top.ensures },
-          rw c.offset.ensures.0 at c.operator_at-operator.ensures,
+        q.running.0,
+        q.running.1,
+        record { busy = sym c.is_busy.ensures ∙ c.if-not-is_busy.false; top = rw c.in-Job.is at c.top.ensures },
+        rw c.offset.ensures.0 at c.operator_at-operator.ensures,
       );
     }
 

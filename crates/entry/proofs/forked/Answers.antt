@@ -1,6 +1,5 @@
 -- `entry::forked` meets its contract. Assumes nothing.
 use mathlib.Core.Path.{refl}
-use borrow.Author.Rules.{rules}
 use native.Mathlib.Numerals.{add-one}
 use Rattle.entry.proofs.forked.Goals as goal
 

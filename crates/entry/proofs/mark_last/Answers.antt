@@ -2,7 +2,6 @@
 use mathlib.Core.Path.{◌∙◌}
 use native.Mathlib.Omega.{arith}
 use lib.ListN.{drop}
-use borrow.Author.Rules.{rules}
 use Rattle.tables.specs.Layout.{steps_in}
 use Rattle.entry.proofs.Marks.{left_some, left_none}
 use Rattle.entry.proofs.mark_last.Goals as goal

@@ -1,5 +1,4 @@
 -- `entry::rewrite` meets its contract, by the laws of Rewriting. Assumes nothing.
-use borrow.Author.Rules.{rules}
 use mathlib.Core.Path.{refl}
 use native.Mathlib.Omega.{arith}
 use Rattle.entry.proofs.Rewriting.{whole_present, whole_operator, units_due, proceed_asks, mark_asks, rewrites_left, whole_rewrote, whole_spent, whole_full, whole_missed}

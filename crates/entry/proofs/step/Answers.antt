@@ -56,8 +56,8 @@ rewrite-requires c =
       arrays = q.arrays;
       running = t;
       next = record {
-          one = q.le_next;
-          is = whole_there q.arrays t.0 t.1 t.2 q.le_next c.step_at.result e c.in_default.not-Visit c.in_default.not-Fork c.in_default.not-Join;
+        one = q.le_next;
+        is = whole_there q.arrays t.0 t.1 t.2 q.le_next c.step_at.result e c.in_default.not-Visit c.in_default.not-Fork c.in_default.not-Join;
       };
     }
 

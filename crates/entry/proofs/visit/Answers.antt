@@ -1,7 +1,6 @@
 -- `entry::visit` meets its contract: the frame goes if the term is marked. Assumes nothing.
 use mathlib.Core.Path.{sym, ◌∙◌}
 use native.Mathlib.Omega.{arith}
-use borrow.Author.Rules.{rules}
 use Rattle.entry.proofs.Marks.{visit_dropped, visit_entered}
 use Rattle.entry.proofs.visit.Goals as goal
 

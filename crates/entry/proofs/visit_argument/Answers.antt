@@ -1,7 +1,6 @@
 -- `entry::visit_argument` meets its contract: the argument is found by the sizes, and its mark and its operator are read. Assumes nothing.
 use mathlib.Core.Path.{sym, ◌∙◌}
 use native.Mathlib.Omega.{arith}
-use borrow.Author.Rules.{rules}
 use Rattle.orders.proofs.Changes.{argument_asks, argument_row}
 use Rattle.entry.proofs.Marks.{argument_there, argument_dropped, can_visit, argument_entered}
 use Rattle.entry.proofs.visit_argument.Goals as goal

@@ -42,7 +42,7 @@ pub returns-then-next-eq0 : goal.returns-then-next-eq0
 returns-then-next-eq0 c =
     let p = c.requires in
     let left = c.left_side-left.ensures.0 in
-    let own-left = c.left_side.ensures.0 in
+    let own_left = c.left_side.ensures.0 in
     off_is p.1 c.loop-due.invariant c.loop-due-test.true _ _ c.read-own.ensures (omega arith) c.read-new.ensures (omega arith) _
     (sym c.follow-next.ensures.0 ∙ c.if-next-eq0.true) c.chosen.ensures
 
@@ -69,7 +69,7 @@ pub loop-due-smaller : goal.loop-due-smaller
 loop-due-smaller c =
     let p = c.requires in
     let left = c.left_side-left.ensures.0 in
-    let own-left = c.left_side.ensures.0 in
+    let own_left = c.left_side.ensures.0 in
     let d = not_deep p.1 c.loop-due.invariant c.loop-due-test.true _ _ c.read-own.ensures (omega arith) c.read-new.ensures (omega arith) in
     omega arith
 
@@ -77,7 +77,7 @@ pub loop-due-preserved : goal.loop-due-preserved
 loop-due-preserved c =
     let p = c.requires in
     let left = c.left_side-left.ensures.0 in
-    let own-left = c.left_side.ensures.0 in
+    let own_left = c.left_side.ensures.0 in
     let f = c.follow-next.ensures.0 in
     reached_on p.1 c.loop-due.invariant c.loop-due-test.true _ _ c.read-own.ensures (omega arith) c.read-new.ensures
     (omega arith) _ _ _ _ (sym f ∙ omega arith) refl refl refl

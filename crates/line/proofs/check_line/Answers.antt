@@ -1,12 +1,8 @@
 -- Answers of `check_line`. Assumes nothing.
-use mathlib.Core.Path.{◌≡◌, sym, ap, ◌∙◌}
-use Prim.Native.Nat.{◌+◌, ◌*◌, ◌-◌, ◌≤◌}
+use mathlib.Core.Path.{sym, ap, ◌∙◌}
 use native.Mathlib.Omega.{arith}
-use lib.ListN.{length, drop}
 use borrow.Author.Tests.{lt-ltb, le-ltb}
-use borrow.Author.Rules.{rules}
-use Rattle.tables.specs.Layout.{arity_in}
-use Rattle.line.specs.Line.{fault, by_fault, judgement}
+use Rattle.line.specs.Line.{by_fault, judgement}
 use Rattle.line.proofs.Checking.{fault_whole, fault_short, fault_over, fault_unknown, fault_known}
 use Rattle.line.proofs.check_line.Goals as goal
 

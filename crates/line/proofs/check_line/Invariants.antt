@@ -1,13 +1,9 @@
 -- `line::check_line` meets its contract: the whole line's fault is that of the bytes to come, with the terms that are due. Assumes nothing.
-use mathlib.Core.Path.{◌≡◌, sym, ap, ◌∙◌}
+use mathlib.Core.Path.{◌≡◌}
 use Prim.Native.Nat.{◌+◌, ◌*◌, ◌-◌, ◌≤◌}
-use native.Mathlib.Omega.{arith}
 use lib.ListN.{length, drop}
-use borrow.Author.Tests.{lt-ltb, le-ltb}
-use borrow.Author.Rules.{rules}
 use Rattle.tables.specs.Layout.{arity_in}
 use Rattle.line.specs.Line.{fault, by_fault, judgement}
-use Rattle.line.proofs.Checking.{fault_whole, fault_short, fault_over, fault_unknown, fault_known}
 use Rattle.line.proofs.check_line.Given as goal
 
 abbrev pub invariant-loop-i : goal.invariant-loop-i

@@ -2,7 +2,6 @@
 use mathlib.Core.Path.{refl}
 use native.Mathlib.Numerals.{add-one}
 use native.Mathlib.Omega.{arith}
-use borrow.Author.Rules.{rules}
 use Rattle.rule.specs.declared.Hit as H
 use Rattle.lookup.proofs.Searching.{attempt_none, attempt_tells, attempted, first_below}
 use Rattle.lookup.proofs.attempt.Goals as goal

@@ -1,6 +1,5 @@
 -- `lookup::by_symbol` meets its contract. Assumes nothing.
 use mathlib.Core.Path.{refl}
-use borrow.Author.Rules.{rules}
 use Rattle.lookup.proofs.Nodes.{branch_none, branch_some}
 use Rattle.lookup.proofs.by_symbol.Goals as goal
 

@@ -1,9 +1,7 @@
 -- Answers of `descend`. Assumes nothing.
 use mathlib.Core.Logic.{inl, inr}
-use Prim.Native.Nat.{◌-◌}
 use native.Mathlib.Omega.{arith}
-use borrow.Author.Rules.{rules}
-use Rattle.lookup.proofs.Nodes.{Down, down_start, down_late, before_end, behind_end, size_requires, end_fits, rule_fits, small, part_inside, down_choice, down_lost, down_on, down_leaf}
+use Rattle.lookup.proofs.Nodes.{down_start, down_late, before_end, behind_end, size_requires, end_fits, rule_fits, small, part_inside, down_choice, down_lost, down_on, down_leaf}
 use Rattle.lookup.proofs.descend.Goals as goal
 
 pub size_at-requires : goal.size_at-requires

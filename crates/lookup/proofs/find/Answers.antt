@@ -3,9 +3,8 @@ use mathlib.Core.Logic.{inl, inr}
 use mathlib.Core.Path.{refl}
 use native.Mathlib.Omega.{arith}
 use borrow.Author.Tests.{not-true, not-false}
-use Rattle.rule.specs.Packed.{binding}
 use Rattle.lookup.proofs.Rules.{ready}
-use Rattle.lookup.proofs.Searching.{Search, ahead, first_known, one_path, start_packable, search_start, turn_tells, turned, best_most, found_none, found_some, found_rule}
+use Rattle.lookup.proofs.Searching.{first_known, one_path, start_packable, search_start, turn_tells, turned, best_most, found_none, found_some, found_rule}
 use Rattle.lookup.proofs.find.Goals as goal
 use Rattle.lookup.proofs.find.Goals.{then-height-gt0, else-height-gt0+then-not-best}
 

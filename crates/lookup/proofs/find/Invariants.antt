@@ -1,11 +1,6 @@
 -- `lookup::find` meets its contract: every rule is beaten by the best, or still to be found. Assumes nothing.
-use mathlib.Core.Logic.{inl, inr}
-use mathlib.Core.Path.{refl}
-use native.Mathlib.Omega.{arith}
-use borrow.Author.Tests.{not-true, not-false}
 use Rattle.rule.specs.Packed.{binding}
-use Rattle.lookup.proofs.Rules.{ready}
-use Rattle.lookup.proofs.Searching.{Search, ahead, first_known, one_path, start_packable, search_start, turn_tells, turned, best_most, found_none, found_some, found_rule}
+use Rattle.lookup.proofs.Searching.{Search, ahead}
 use Rattle.lookup.proofs.find.Given as goal
 
 abbrev pub invariant-loop-height : goal.invariant-loop-height

@@ -1,6 +1,5 @@
 -- `lookup::go_on` meets its contract. Assumes nothing.
 use mathlib.Core.Logic.{inl, inr}
-use borrow.Author.Rules.{rules}
 use Rattle.lookup.proofs.go_on.Goals as goal
 
 pub returns-then-own-eq-PART : goal.returns-then-own-eq-PART

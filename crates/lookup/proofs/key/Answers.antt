@@ -1,5 +1,4 @@
 -- `lookup::key` meets its contract. Assumes nothing.
-use borrow.Author.Rules.{rules}
 use Rattle.lookup.proofs.Nodes.{key_operator, key_variable}
 use Rattle.lookup.proofs.key.Goals as goal
 

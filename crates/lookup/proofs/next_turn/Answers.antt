@@ -1,5 +1,4 @@
 -- `lookup::next_turn` meets its contract. Assumes nothing.
-use borrow.Author.Rules.{rules}
 use Rattle.lookup.proofs.Stacks.{turn_empty, turn_stacked, turn_visit}
 use Rattle.lookup.proofs.next_turn.Goals as goal
 

@@ -1,5 +1,4 @@
 -- `lookup::popped` meets its contract. Assumes nothing.
-use borrow.Author.Rules.{rules}
 use Rattle.lookup.proofs.popped.Goals as goal
 
 pub returns : goal.returns

@@ -1,7 +1,6 @@
 -- `lookup::push` meets its contract. Assumes nothing.
 use mathlib.Core.Path.{refl}
 use native.Mathlib.Omega.{arith}
-use borrow.Author.Rules.{rules}
 use Rattle.lookup.proofs.push.Goals as goal
 
 pub put-requires : goal.put-requires

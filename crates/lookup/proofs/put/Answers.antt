@@ -1,5 +1,4 @@
 -- `lookup::put` meets its contract. Assumes nothing.
-use borrow.Author.Rules.{rules}
 use Rattle.lookup.proofs.Stacks.{put}
 use Rattle.lookup.proofs.put.Goals as goal
 

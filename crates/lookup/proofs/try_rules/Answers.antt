@@ -2,8 +2,7 @@
 use mathlib.Core.Logic.{inl, inr}
 use mathlib.Core.Path.{refl}
 use native.Mathlib.Omega.{arith}
-use borrow.Author.Rules.{rules}
-use Rattle.lookup.proofs.Rules.{ready, few, ahead, Reached, reached_first, reached_below, reached_found, reached_next, reached_end}
+use Rattle.lookup.proofs.Rules.{ready, few, reached_first, reached_below, reached_found, reached_next, reached_end}
 use Rattle.lookup.proofs.try_rules.Goals as goal
 
 pub overflow_add-c : goal.overflow_add-c

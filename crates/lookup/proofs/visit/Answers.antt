@@ -1,6 +1,5 @@
 -- `lookup::visit` meets its contract. Assumes nothing.
 use native.Mathlib.Omega.{arith}
-use borrow.Author.Rules.{rules}
 use Rattle.lookup.proofs.Stacks.{top_below, top_node, visit_lost, visit_leaf, choice_small, choice_part, choice_puts, choice_puts_again, visit_choice}
 use Rattle.lookup.proofs.visit.Goals as goal
 

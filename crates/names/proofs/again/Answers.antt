@@ -3,7 +3,6 @@ use mathlib.Core.Path.{◌≡◌}
 use Prim.Native.Nat.{ℕ, ◌*◌}
 use native.Mathlib.Numerals.{add-one}
 use lib.ListN.{get_or}
-use borrow.Author.Rules.{rules}
 use Rattle.names.proofs.Told.{told_lent}
 use Rattle.names.proofs.again.Goals as goal
 

@@ -1,9 +1,7 @@
 -- Answers of `bears`. Assumes nothing.
 use mathlib.Core.Path.{◌≡◌, refl}
-use Prim.Native.Nat.{◌-◌, ◌≤◌}
 use native.Mathlib.Omega.{arith}
-use lib.ListN.{length, get_or, take, drop}
-use borrow.Author.Rules.{rules}
+use lib.ListN.{length}
 use Rattle.names.proofs.Told.{told_another, told_next, told_same, told_differs}
 use Rattle.names.proofs.bears.Goals as goal
 

@@ -1,10 +1,7 @@
 -- `names::bears` meets its contract: all bytes before the one compared are equal. Assumes nothing.
-use mathlib.Core.Path.{◌≡◌, refl}
+use mathlib.Core.Path.{◌≡◌}
 use Prim.Native.Nat.{◌-◌, ◌≤◌}
-use native.Mathlib.Omega.{arith}
 use lib.ListN.{length, get_or, take, drop}
-use borrow.Author.Rules.{rules}
-use Rattle.names.proofs.Told.{told_another, told_next, told_same, told_differs}
 use Rattle.names.proofs.bears.Given as goal
 
 abbrev pub invariant-loop-i : goal.invariant-loop-i

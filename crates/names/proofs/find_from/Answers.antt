@@ -1,11 +1,8 @@
 -- Answers of `find_from`. Assumes nothing.
 use mathlib.Core.Path.{sym, ap, ◌∙◌}
-use Prim.Native.Nat.{◌-◌, ◌≤◌}
 use native.Mathlib.Omega.{arith}
-use borrow.Author.Rules.{rules}
-use Rattle.parking.specs.Points.{slot}
 use Rattle.names.specs.Promises.{bears}
-use Rattle.names.proofs.Told.{lent_slot, lent_bytes, Passed, passed_none, passed_next, first_here, first_none}
+use Rattle.names.proofs.Told.{lent_slot, lent_bytes, passed_none, passed_next, first_here, first_none}
 use Rattle.names.proofs.find_from.Goals as goal
 
 pub loop-k-init : goal.loop-k-init

@@ -1,11 +1,7 @@
 -- `names::find_from` meets its contract: no slot before the one looked at bears the name. Assumes nothing.
-use mathlib.Core.Path.{sym, ap, ◌∙◌}
 use Prim.Native.Nat.{◌-◌, ◌≤◌}
-use native.Mathlib.Omega.{arith}
-use borrow.Author.Rules.{rules}
-use Rattle.parking.specs.Points.{slot}
 use Rattle.names.specs.Promises.{bears}
-use Rattle.names.proofs.Told.{lent_slot, lent_bytes, Passed, passed_none, passed_next, first_here, first_none}
+use Rattle.names.proofs.Told.{Passed}
 use Rattle.names.proofs.find_from.Given as goal
 
 abbrev pub invariant-loop-k : goal.invariant-loop-k

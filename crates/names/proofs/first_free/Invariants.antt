@@ -1,10 +1,7 @@
 -- `names::first_free` meets its contract: no slot before the one looked at is free. Assumes nothing.
 use Prim.Native.Nat.{◌-◌, ◌≤◌}
-use native.Mathlib.Omega.{arith}
-use borrow.Author.Rules.{rules}
-use Rattle.parking.specs.Points.{slot}
 use Rattle.names.specs.Promises.{free_slot}
-use Rattle.names.proofs.Told.{is_free, not_free, Passed, passed_none, passed_next, first_here, first_none}
+use Rattle.names.proofs.Told.{Passed}
 use Rattle.names.proofs.first_free.Given as goal
 
 abbrev pub invariant-loop-k : goal.invariant-loop-k

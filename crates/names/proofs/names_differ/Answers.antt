@@ -1,10 +1,8 @@
 -- Answers of `names_differ`. Assumes nothing.
 use mathlib.Core.List.{List}
-use mathlib.Core.Logic.{⊎_elim}
-use Prim.Native.Nat.{ℕ, ◌-◌, ◌≤◌, ◌<◌}
+use Prim.Native.Nat.{ℕ, ◌<◌}
 use native.Mathlib.Omega.{arith}
-use borrow.Author.Rules.{rules}
-use Rattle.names.proofs.Told.{not_free, Alone, alone_none, alone_next, differ_behind, differ_free}
+use Rattle.names.proofs.Told.{not_free, alone_none, alone_next, differ_behind, differ_free}
 use Rattle.names.proofs.names_differ.Goals as goal
 use Rattle.names.proofs.names_differ.Goals.{then-points-k-ne0+else-again-lt8, else-points-k-ne0}
 
@@ -26,8 +24,8 @@ loop-k-preserved c =
       omega arith,
       alone_next p k c.loop-k.invariant.1
           (elim c.if-points-k-ne0.branch [
-            then-points-k-ne0+else-again-lt8 w ↦ differ_behind p k w.again.result w.again.ensures w.if-again-lt8.false
-          | else-points-k-ne0 w ↦ differ_free p k w.if-points-k-ne0.false
+            | then-points-k-ne0+else-again-lt8 w ↦ differ_behind p k w.again.result w.again.ensures w.if-again-lt8.false
+            | else-points-k-ne0 w ↦ differ_free p k w.if-points-k-ne0.false
           ]),
     )
 

@@ -1,10 +1,6 @@
 -- `names::names_differ` meets its contract: no slot behind bears the name of one that was looked at. Assumes nothing.
-use mathlib.Core.List.{List}
-use mathlib.Core.Logic.{⊎_elim}
-use Prim.Native.Nat.{ℕ, ◌-◌, ◌≤◌, ◌<◌}
-use native.Mathlib.Omega.{arith}
-use borrow.Author.Rules.{rules}
-use Rattle.names.proofs.Told.{not_free, Alone, alone_none, alone_next, differ_behind, differ_free}
+use Prim.Native.Nat.{◌-◌, ◌≤◌}
+use Rattle.names.proofs.Told.{Alone}
 use Rattle.names.proofs.names_differ.Given as goal
 
 abbrev pub invariant-loop-k : goal.invariant-loop-k

@@ -1,5 +1,4 @@
 -- `net::leaves` meets its contract: host, depth and key are compared in turn. Assumes nothing.
-use borrow.Author.Rules.{rules}
 use Rattle.net.proofs.Ways.{other_host, other_depth, by_key}
 use Rattle.net.proofs.leaves.Goals as goal
 

@@ -1,6 +1,5 @@
 -- `net::link` meets its contract: five cells are put. Assumes nothing.
 use mathlib.Core.Path.{refl, ◌∙◌}
-use borrow.Author.Rules.{rules}
 use Rattle.net.proofs.Cells.{placed}
 use Rattle.net.proofs.Puts.{linked}
 use Rattle.net.proofs.link.Goals as goal

@@ -1,5 +1,4 @@
 -- `net::put` meets its contract. Assumes nothing.
-use borrow.Author.Rules.{rules}
 use Rattle.net.proofs.Cells.{cell_put}
 use Rattle.net.proofs.put.Goals as goal
 

@@ -1,6 +1,5 @@
 -- `net::put_position` meets its contract. Assumes nothing.
 use mathlib.Core.Path.{refl}
-use borrow.Author.Rules.{rules}
 use Rattle.net.proofs.Cells.{placed, position_put}
 use Rattle.net.proofs.put_position.Goals as goal
 

@@ -1,5 +1,4 @@
 -- `net::put_root` meets its contract. Assumes nothing.
-use borrow.Author.Rules.{rules}
 use Rattle.net.proofs.Cells.{placed}
 use Rattle.net.proofs.put_root.Goals as goal
 

@@ -1,5 +1,4 @@
 -- `net::put_sides` meets its contract. Assumes nothing.
-use borrow.Author.Rules.{rules}
 use Rattle.net.proofs.Puts.{sides_put}
 use Rattle.net.proofs.put_sides.Goals as goal
 

@@ -1,5 +1,4 @@
 -- `net::put_way` meets its contract: a link, and the depths of the rule that is left. Assumes nothing.
-use borrow.Author.Rules.{rules}
 use Rattle.net.proofs.Puts.{way_put, way_choice}
 use Rattle.net.proofs.put_way.Goals as goal
 

@@ -1,7 +1,6 @@
 -- `net::raise` meets its contract. Assumes nothing.
 use mathlib.Core.Path.{refl, sym, ◌∙◌}
 use native.Mathlib.Omega.{arith}
-use borrow.Author.Rules.{rules}
 use Rattle.net.specs.Layout.{cell}
 use Rattle.net.proofs.Cells.{placed, cell_kept, larger_first, larger_second}
 use Rattle.net.proofs.raise.Goals as goal

@@ -1,5 +1,4 @@
 -- `net::root` meets its contract. Assumes nothing.
-use borrow.Author.Rules.{rules}
 use Rattle.net.proofs.root.Goals as goal
 
 pub returns : goal.returns

@@ -1,10 +1,7 @@
 -- `net::start` meets its contract: what is below i is cleared. Assumes nothing.
-use mathlib.Core.Path.{◌≡◌, refl, ◌∙◌}
+use mathlib.Core.Path.{◌≡◌}
 use Prim.Native.Nat.{ℕ, ◌-◌, ◌≤◌, ◌<◌}
-use native.Mathlib.Omega.{arith}
-use lib.ListN.{length, get_or, length-set}
-use borrow.Author.Rules.{rules}
-use Rattle.net.proofs.Cells.{clear_more, emptied}
+use lib.ListN.{length, get_or}
 use Rattle.net.proofs.start.Given as goal
 
 abbrev pub invariant-loop-i : goal.invariant-loop-i

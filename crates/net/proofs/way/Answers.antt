@@ -1,9 +1,8 @@
 -- Answers of `way`. Assumes nothing.
 use mathlib.Core.Path.{◌≡◌, refl, sym, ap, ◌∙◌}
-use Prim.Native.Nat.{ℕ, ◌-◌, ◌≤◌, ◌<◌}
+use Prim.Native.Nat.{ℕ, ◌-◌, ◌≤◌}
 use native.Mathlib.Omega.{arith}
-use borrow.Author.Rules.{rules}
-use Rattle.net.specs.Layout.{cell, seek, way_in}
+use Rattle.net.specs.Layout.{cell, seek}
 use Rattle.net.proofs.Ways.{from_head, seek_none, found, further}
 use Rattle.net.proofs.way.Goals as goal
 

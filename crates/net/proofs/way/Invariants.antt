@@ -1,10 +1,7 @@
 -- `net::way` meets its contract: what is sought is sought from the number at hand on. Assumes nothing.
-use mathlib.Core.Path.{◌≡◌, refl, sym, ap, ◌∙◌}
-use Prim.Native.Nat.{ℕ, ◌-◌, ◌≤◌, ◌<◌}
-use native.Mathlib.Omega.{arith}
-use borrow.Author.Rules.{rules}
-use Rattle.net.specs.Layout.{cell, seek, way_in}
-use Rattle.net.proofs.Ways.{from_head, seek_none, found, further}
+use mathlib.Core.Path.{◌≡◌}
+use Prim.Native.Nat.{◌<◌}
+use Rattle.net.specs.Layout.{seek, way_in}
 use Rattle.net.proofs.way.Given as goal
 
 abbrev pub invariant-loop-c : goal.invariant-loop-c

@@ -1,6 +1,5 @@
 -- `opening::open_run` meets its contract, by the laws of Behind. Assumes nothing.
 use Rattle.opening.proofs.Behind.{none_loaded, of_point, not_padded, not_kept, kept}
-use borrow.Author.Rules.{rules}
 use Rattle.opening.proofs.open_run.Goals as goal
 
 pub returns-then-not-padded : goal.returns-then-not-padded

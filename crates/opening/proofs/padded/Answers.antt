@@ -2,7 +2,6 @@
 use mathlib.Core.Path.{refl}
 use Rattle.bits.proofs.Reading.{got, ran_out}
 use Rattle.opening.proofs.Padding.{whole_byte, padding_is, padding_none}
-use borrow.Author.Rules.{rules}
 use Rattle.opening.proofs.padded.Goals as goal
 
 pub returns-then-n-eq0 : goal.returns-then-n-eq0

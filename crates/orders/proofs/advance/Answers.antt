@@ -1,5 +1,4 @@
 -- `orders::advance` meets its contract: the job stays on top, with the next order's number. Assumes nothing.
-use borrow.Author.Rules.{rules}
 use Rattle.orders.proofs.Changes.{advanced}
 use Rattle.orders.proofs.advance.Goals as goal
 

@@ -1,7 +1,6 @@
 -- `orders::argument` meets its contract: it is `term::argument` but for the widths of numbers. Assumes nothing.
 use mathlib.Core.Path.{◌∙◌}
 use native.Mathlib.Omega.{arith}
-use borrow.Author.Rules.{rules}
 use Rattle.orders.proofs.argument.Goals as goal
 
 pub argument-requires : goal.argument-requires

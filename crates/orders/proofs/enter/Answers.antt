@@ -1,7 +1,6 @@
 -- `orders::enter` meets its contract: a job with step 0 and the count of the first JOIN, if there is a step. Assumes nothing.
 use mathlib.Core.Path.{◌∙◌}
 use native.Mathlib.Omega.{arith}
-use borrow.Author.Rules.{rules}
 use Rattle.orders.proofs.Changes.{enter_room, enters_some, enters_none}
 use Rattle.orders.proofs.enter.Goals as goal
 

@@ -1,5 +1,4 @@
 -- `orders::exit` meets its contract: the top frame is dropped, and the EXIT arrives. Assumes nothing.
-use borrow.Author.Rules.{rules}
 use Rattle.orders.proofs.Changes.{exit_join, exited}
 use Rattle.orders.proofs.exit.Goals as goal
 

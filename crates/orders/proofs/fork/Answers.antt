@@ -1,6 +1,5 @@
 -- `orders::fork` meets its contract: an idle unit gets the argument, or it is kept. Assumes nothing.
 use native.Mathlib.Omega.{arith}
-use borrow.Author.Rules.{rules}
 use Rattle.orders.proofs.Forks.{fork_grants, fork_keeps}
 use Rattle.orders.proofs.fork.Goals as goal
 

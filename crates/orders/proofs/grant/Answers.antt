@@ -1,6 +1,5 @@
 -- `orders::grant` meets its contract: the job goes on, and unit v gets the argument. Assumes nothing.
 use native.Mathlib.Omega.{arith}
-use borrow.Author.Rules.{rules}
 use Rattle.orders.proofs.Forks.{grant_room, granted}
 use Rattle.orders.proofs.grant.Goals as goal
 

@@ -1,5 +1,4 @@
 -- `orders::has_step` meets its contract: by what the table answers. Assumes nothing.
-use borrow.Author.Rules.{rules}
 use Rattle.orders.proofs.Steps.{none_here, some_here}
 use Rattle.orders.proofs.has_step.Goals as goal
 

@@ -1,6 +1,5 @@
 -- `orders::join` meets its contract: at count 0 the job goes on, otherwise the unit is idle. Assumes nothing.
 use native.Mathlib.Omega.{arith}
-use borrow.Author.Rules.{rules}
 use Rattle.orders.proofs.Changes.{join_passes, join_waits}
 use Rattle.orders.proofs.join.Goals as goal
 

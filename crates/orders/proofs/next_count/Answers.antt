@@ -1,11 +1,6 @@
 -- Answers of `next_count`. Assumes nothing.
-use mathlib.Core.Path.{◌≡◌, refl, sym, ◌∙◌}
-use Prim.Native.Nat.{◌-◌, ◌≤◌}
+use mathlib.Core.Path.{refl, sym, ◌∙◌}
 use native.Mathlib.Omega.{arith}
-use lib.ListN.{drop}
-use borrow.Author.Rules.{rules}
-use Rattle.flat.specs.Machine.{next_count}
-use Rattle.tables.specs.Layout.{steps_in}
 use Rattle.orders.proofs.Steps.{count_none, count_here, count_past, count_end}
 use Rattle.orders.proofs.next_count.Goals as goal
 

@@ -1,12 +1,9 @@
 -- `orders::next_count` meets its contract: the count from step k on is the count from step i on. Assumes nothing.
-use mathlib.Core.Path.{◌≡◌, refl, sym, ◌∙◌}
+use mathlib.Core.Path.{◌≡◌}
 use Prim.Native.Nat.{◌-◌, ◌≤◌}
-use native.Mathlib.Omega.{arith}
 use lib.ListN.{drop}
-use borrow.Author.Rules.{rules}
 use Rattle.flat.specs.Machine.{next_count}
 use Rattle.tables.specs.Layout.{steps_in}
-use Rattle.orders.proofs.Steps.{count_none, count_here, count_past, count_end}
 use Rattle.orders.proofs.next_count.Given as goal
 
 abbrev pub invariant-loop-i : goal.invariant-loop-i

@@ -1,6 +1,5 @@
 -- `orders::proceed` meets its contract: the job stays on top if it has the step, or it is dropped. Assumes nothing.
 use mathlib.Core.Path.{◌∙◌}
-use borrow.Author.Rules.{rules}
 use Rattle.orders.proofs.Changes.{proceeds_some, proceeds_none}
 use Rattle.orders.proofs.proceed.Goals as goal
 

@@ -1,6 +1,5 @@
 -- `orders::visit` meets its contract: the job goes on with its first step, with the count of the first JOIN. Assumes nothing.
 use native.Mathlib.Omega.{arith}
-use borrow.Author.Rules.{rules}
 use Rattle.orders.proofs.Changes.{visited}
 use Rattle.orders.proofs.visit.Goals as goal
 

@@ -1,5 +1,4 @@
 -- `orders::visit_argument` meets its contract: the job goes on, and the orders of the argument are put. Assumes nothing.
-use borrow.Author.Rules.{rules}
 use Rattle.orders.proofs.Changes.{can_enter, argument_visited}
 use Rattle.orders.proofs.visit_argument.Goals as goal
 

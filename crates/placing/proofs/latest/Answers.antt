@@ -1,11 +1,8 @@
 -- Answers of `latest`. Assumes nothing.
-use Rattle.placing.specs.Order.{pending_in}
-use Rattle.placing.proofs.Order.{NoneLater, latest_is, later_more}
+use Rattle.placing.proofs.Order.{latest_is, later_more}
 use mathlib.Core.Logic.{inl, inr}
 use mathlib.Core.Path.{refl, sym, ◌∙◌}
-use Prim.Native.Nat.{◌≤◌}
 use native.Mathlib.Omega.{arith}
-use borrow.Author.Rules.{rules}
 use Rattle.placing.proofs.latest.Goals as goal
 
 pub loop-i-init : goal.loop-i-init

@@ -1,11 +1,7 @@
 -- `placing::latest` meets its contract: the loop's invariant: no part behind part i is of the unit. Assumes nothing.
 use Rattle.placing.specs.Order.{pending_in}
-use Rattle.placing.proofs.Order.{NoneLater, latest_is, later_more}
-use mathlib.Core.Logic.{inl, inr}
-use mathlib.Core.Path.{refl, sym, ◌∙◌}
+use Rattle.placing.proofs.Order.{NoneLater}
 use Prim.Native.Nat.{◌≤◌}
-use native.Mathlib.Omega.{arith}
-use borrow.Author.Rules.{rules}
 use Rattle.placing.proofs.latest.Given as goal
 
 abbrev pub invariant-loop-i : goal.invariant-loop-i

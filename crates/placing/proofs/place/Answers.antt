@@ -1,6 +1,5 @@
 -- `placing::place` meets its contract. Assumes nothing.
 use native.Mathlib.Omega.{arith}
-use borrow.Author.Rules.{rules}
 use Rattle.placing.proofs.Order.{placed}
 use Rattle.placing.proofs.place.Goals as goal
 

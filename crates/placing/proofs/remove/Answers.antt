@@ -1,10 +1,8 @@
 -- Answers of `remove`. Assumes nothing.
-use Rattle.placing.proofs.Order.{Moved, moved_start, moved_more, removed}
-use mathlib.Core.Path.{◌≡◌, refl}
-use Prim.Native.Nat.{◌-◌, ◌≤◌}
+use Rattle.placing.proofs.Order.{moved_start, moved_more, removed}
+use mathlib.Core.Path.{refl}
 use native.Mathlib.Omega.{arith}
-use lib.ListN.{length, length-set}
-use borrow.Author.Rules.{rules}
+use lib.ListN.{length-set}
 use Rattle.placing.proofs.remove.Goals as goal
 
 pub loop-k-init : goal.loop-k-init

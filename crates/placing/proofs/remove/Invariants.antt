@@ -1,10 +1,8 @@
 -- `placing::remove` meets its contract: the loop's invariant: of the parts behind part i those up to part k have moved down. Assumes nothing.
-use Rattle.placing.proofs.Order.{Moved, moved_start, moved_more, removed}
-use mathlib.Core.Path.{◌≡◌, refl}
+use Rattle.placing.proofs.Order.{Moved}
+use mathlib.Core.Path.{◌≡◌}
 use Prim.Native.Nat.{◌-◌, ◌≤◌}
-use native.Mathlib.Omega.{arith}
-use lib.ListN.{length, length-set}
-use borrow.Author.Rules.{rules}
+use lib.ListN.{length}
 use Rattle.placing.proofs.remove.Given as goal
 
 abbrev pub invariant-loop-k : goal.invariant-loop-k

@@ -1,5 +1,4 @@
 -- `placing::take_out` meets its contract: the latest part of the unit, if it has one, is removed. Assumes nothing.
-use borrow.Author.Rules.{rules}
 use Rattle.placing.proofs.Order.{taken_out, none_taken_out}
 use Rattle.placing.proofs.take_out.Goals as goal
 

@@ -1,12 +1,7 @@
 -- Answers of `all_inside`. Assumes nothing.
-use mathlib.Core.Path.{◌≡◌, refl, ◌∙◌}
-use Prim.Native.Nat.{◌-◌, ◌≤◌}
+use mathlib.Core.Path.{refl, ◌∙◌}
+use Prim.Native.Nat.{◌-◌}
 use native.Mathlib.Omega.{arith}
-use borrow.Author.Rules.{rules}
-use Rattle.flat.specs.Tested.{each_below, each_frame}
-use Rattle.units.specs.Stacks.{store}
-use Rattle.point_frames.specs.Counting.{stack_in}
-use Rattle.point_frames.specs.Test as T
 use Rattle.point_frames.proofs.Stacks.{below_none, below_pass, below_fail}
 use Rattle.point_frames.proofs.all_inside.Goals as goal
 

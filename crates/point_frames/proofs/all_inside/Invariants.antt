@@ -1,14 +1,10 @@
 -- `point_frames::all_inside` meets its contract: the loop's invariant: all jobs are inside exactly if those of the units below v are. Assumes nothing.
-use mathlib.Core.Path.{◌≡◌, refl, ◌∙◌}
-use Prim.Native.Nat.{◌-◌, ◌≤◌}
-use native.Mathlib.Omega.{arith}
-use borrow.Author.Rules.{rules}
-use borrow.Author.Tests.{not-true, not-false}
+use mathlib.Core.Path.{◌≡◌}
+use Prim.Native.Nat.{◌≤◌}
 use Rattle.flat.specs.Tested.{each_below, each_frame}
 use Rattle.units.specs.Stacks.{store}
 use Rattle.point_frames.specs.Counting.{stack_in}
 use Rattle.point_frames.specs.Test as T
-use Rattle.point_frames.proofs.Stacks.{below_none, below_pass, below_fail}
 use Rattle.point_frames.proofs.all_inside.Given as goal
 
 abbrev pub invariant-loop-v : goal.invariant-loop-v

@@ -1,6 +1,5 @@
 -- `point_frames::carries` meets its contract: by the frame below. Assumes nothing.
 use mathlib.Core.Path.{subst}
-use borrow.Author.Rules.{rules}
 use Rattle.term.specs.Present.{length_in}
 use Rattle.units.specs.Frames.{flat}
 use Rattle.units.specs.Stacks.{Below}

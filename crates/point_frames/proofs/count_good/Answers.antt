@@ -1,5 +1,4 @@
 -- `point_frames::count_good` meets its contract: the count of a JOIN before any WHOLE is tested. Assumes nothing.
-use borrow.Author.Rules.{rules}
 use borrow.Author.Tests.{not-true, not-false}
 use Rattle.point_frames.proofs.Tests.{count_free, count_group}
 use Rattle.point_frames.proofs.count_good.Goals as goal

@@ -1,15 +1,10 @@
 -- Answers of `each_frame_good`. Assumes nothing.
-use mathlib.Core.Path.{◌≡◌, ap, ◌∙◌}
-use Prim.Native.Nat.{◌-◌, ◌≤◌, ◌<◌}
+use mathlib.Core.Path.{ap, ◌∙◌}
+use Prim.Native.Nat.{◌-◌, ◌<◌}
 use native.Mathlib.Omega.{arith}
-use borrow.Author.Rules.{rules}
-use Rattle.paper.specs.Book.{Book}
-use Rattle.flat.specs.Machine.{FlatState}
 use Rattle.flat.specs.Tested.{each_frame}
 use Rattle.flat.specs.Tested as T
-use Rattle.units.specs.Stacks.{base, stack_of, height_in, store}
-use Rattle.point_frames.specs.Counting.{stack_in}
-use Rattle.point_frames.specs.Promises.{Point}
+use Rattle.units.specs.Stacks.{store}
 use Rattle.point_frames.proofs.Stacks.{heights, stack_some, frames_none, frames_pass, frames_fail}
 use Rattle.point_frames.proofs.each_frame_good.Goals as goal
 

@@ -1,9 +1,6 @@
 -- `point_frames::each_frame_good` meets its contract: the loop's invariant: all frames are good exactly if the lowest h are. Assumes nothing.
-use mathlib.Core.Path.{◌≡◌, ap, ◌∙◌}
-use Prim.Native.Nat.{◌-◌, ◌≤◌, ◌<◌}
-use native.Mathlib.Omega.{arith}
-use borrow.Author.Rules.{rules}
-use borrow.Author.Tests.{not-true, not-false}
+use mathlib.Core.Path.{◌≡◌}
+use Prim.Native.Nat.{◌≤◌}
 use Rattle.paper.specs.Book.{Book}
 use Rattle.flat.specs.Machine.{FlatState}
 use Rattle.flat.specs.Tested.{each_frame}
@@ -11,7 +8,6 @@ use Rattle.flat.specs.Tested as T
 use Rattle.units.specs.Stacks.{base, stack_of, height_in, store}
 use Rattle.point_frames.specs.Counting.{stack_in}
 use Rattle.point_frames.specs.Promises.{Point}
-use Rattle.point_frames.proofs.Stacks.{heights, stack_some, frames_none, frames_pass, frames_fail}
 use Rattle.point_frames.proofs.each_frame_good.Given as goal
 
 abbrev pub invariant-loop-h : goal.invariant-loop-h

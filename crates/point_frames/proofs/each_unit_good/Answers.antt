@@ -1,13 +1,7 @@
 -- Answers of `each_unit_good`. Assumes nothing.
-use mathlib.Core.Path.{◌≡◌, refl, ◌∙◌}
-use Prim.Native.Nat.{◌-◌, ◌≤◌}
+use mathlib.Core.Path.{refl, ◌∙◌}
+use Prim.Native.Nat.{◌-◌}
 use native.Mathlib.Omega.{arith}
-use borrow.Author.Rules.{rules}
-use Rattle.paper.specs.Book.{Book}
-use Rattle.flat.specs.Machine.{FlatState}
-use Rattle.flat.specs.Tested.{each_below}
-use Rattle.units.specs.Stacks.{store}
-use Rattle.point_frames.specs.Promises.{Point}
 use Rattle.point_frames.specs.Test.{stack_tested}
 use Rattle.point_frames.proofs.Stacks.{below_none, below_pass, below_fail}
 use Rattle.point_frames.proofs.Whole.{unit_no_stack, unit_frames}

@@ -1,17 +1,12 @@
 -- `point_frames::each_unit_good` meets its contract: the loop's invariant: all units are good exactly if those below v are. Assumes nothing.
-use mathlib.Core.Path.{◌≡◌, refl, ◌∙◌}
-use Prim.Native.Nat.{◌-◌, ◌≤◌}
-use native.Mathlib.Omega.{arith}
-use borrow.Author.Rules.{rules}
-use borrow.Author.Tests.{not-true, not-false}
+use mathlib.Core.Path.{◌≡◌}
+use Prim.Native.Nat.{◌≤◌}
 use Rattle.paper.specs.Book.{Book}
 use Rattle.flat.specs.Machine.{FlatState}
 use Rattle.flat.specs.Tested.{each_below}
 use Rattle.units.specs.Stacks.{store}
 use Rattle.point_frames.specs.Promises.{Point}
 use Rattle.point_frames.specs.Test.{stack_tested}
-use Rattle.point_frames.proofs.Stacks.{below_none, below_pass, below_fail}
-use Rattle.point_frames.proofs.Whole.{unit_no_stack, unit_frames}
 use Rattle.point_frames.proofs.each_unit_good.Given as goal
 
 abbrev pub invariant-loop-v : goal.invariant-loop-v

@@ -1,6 +1,5 @@
 -- `point_frames::exit_good` meets its contract: another unit's frame in a group. Assumes nothing.
 use mathlib.Core.Path.{subst}
-use borrow.Author.Rules.{rules}
 use Rattle.units.specs.Frames.{flat}
 use Rattle.units.specs.Stacks.{Below}
 use Rattle.term.specs.Present.{length_in}

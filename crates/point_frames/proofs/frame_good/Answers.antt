@@ -1,6 +1,5 @@
 -- `point_frames::frame_good` meets its contract: by the frame. Assumes nothing.
 use mathlib.Core.Path.{subst, ap, ◌∙◌}
-use borrow.Author.Rules.{rules}
 use Rattle.flat.specs.Tested as T
 use Rattle.term.specs.Present.{length_in}
 use Rattle.units.specs.Frames.{flat}

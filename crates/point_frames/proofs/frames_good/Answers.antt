@@ -1,7 +1,6 @@
 -- `point_frames::frames_good` meets its contract: offsets, then counts, then each unit. Assumes nothing.
 use mathlib.Core.Path.{refl, ◌∙◌}
 use native.Mathlib.Omega.{arith}
-use borrow.Author.Rules.{rules}
 use Rattle.units.specs.Stacks.{store}
 use Rattle.point_frames.proofs.Whole.{all_inside, job_outside, job_twice, jobs_once}
 use Rattle.point_frames.proofs.frames_good.Goals as goal

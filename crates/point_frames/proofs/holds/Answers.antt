@@ -1,5 +1,4 @@
 -- `point_frames::holds` meets its contract: by the frame below. Assumes nothing.
-use borrow.Author.Rules.{rules}
 use borrow.Author.Tests.{not-true, not-false}
 use Rattle.point_frames.proofs.Standing.{holds_not, holds_join, holds_sleep, holds_other}
 use Rattle.point_frames.proofs.holds.Goals as goal

@@ -2,7 +2,6 @@
 use mathlib.Core.Path.{sym, ap}
 use Prim.Native.Nat.{ℕ}
 use lib.Dec.{ltb}
-use borrow.Author.Rules.{rules}
 use Rattle.units.specs.Frames.{flat}
 use Rattle.point_frames.proofs.Tests.{not_job, inside_other}
 use Rattle.point_frames.proofs.inside.Goals as goal

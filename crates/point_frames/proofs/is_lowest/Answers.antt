@@ -1,5 +1,4 @@
 -- `point_frames::is_lowest` meets its contract: by the frame. Assumes nothing.
-use borrow.Author.Rules.{rules}
 use Rattle.point_frames.proofs.Standing.{last_sleep, last_bingo, last_other}
 use Rattle.point_frames.proofs.is_lowest.Goals as goal
 

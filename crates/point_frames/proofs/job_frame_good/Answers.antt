@@ -1,9 +1,6 @@
 -- `point_frames::job_frame_good` meets its contract: the tests of a job one after another. Assumes nothing.
-use mathlib.Core.Path.{◌≡◌, ◌∙◌}
+use mathlib.Core.Path.{◌∙◌}
 use native.Mathlib.Omega.{arith}
-use borrow.Author.Rules.{rules}
-use Rattle.units.specs.Stacks.{store}
-use Rattle.point_frames.specs.Counting.{all_exits}
 use Rattle.point_frames.proofs.Tests.{frame_no_job, frame_no_count, frame_room}
 use Rattle.point_frames.proofs.job_frame_good.Goals as goal
 

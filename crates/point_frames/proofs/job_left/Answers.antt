@@ -4,7 +4,6 @@ use mathlib.Core.Path.{◌≡◌, refl, ap, ◌∙◌}
 use Prim.Native.Nat.{ℕ}
 use native.Mathlib.Omega.{arith}
 use lib.ListN.{get_or}
-use borrow.Author.Rules.{rules}
 use Rattle.symbol.specs.Record.{operator}
 use Rattle.point_frames.proofs.Books.{rowed_here}
 use Rattle.point_frames.proofs.Tests.{left_visit, left_steps}

@@ -1,16 +1,15 @@
 -- Answers of `job_takes`. Assumes nothing.
-use mathlib.Core.Bool.{Bool, false}
+use mathlib.Core.Bool.{Bool}
 use mathlib.Core.List.{List}
 use mathlib.Core.Path.{◌≡◌, refl, sym, ap, ◌∙◌}
-use Prim.Native.Nat.{ℕ, ◌-◌, ◌≤◌, ◌<◌}
+use Prim.Native.Nat.{ℕ, ◌-◌}
 use native.Mathlib.Omega.{arith}
 use lib.Dec.{eqb}
 use lib.ListN.{drop}
-use borrow.Author.Rules.{rules}
 use Rattle.flat.specs.Symbols.{argument}
 use Rattle.flat.specs.Tested.{and, some_below, unnamed}
 use Rattle.tables.specs.Layout.{arity_in, steps_in}
-use Rattle.term.specs.Present.{length_in, operators_in}
+use Rattle.term.specs.Present.{operators_in}
 use Rattle.point_frames.proofs.Books.{rowed_here}
 use Rattle.point_frames.proofs.Arguments.{some_none, some_past, some_here, free, argument_first, argument_in, argument_ends, argument_next, taken_some, taken_visit}
 use Rattle.point_frames.proofs.job_takes.Goals as goal

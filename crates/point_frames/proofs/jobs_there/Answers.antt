@@ -2,7 +2,6 @@
 use mathlib.Core.List.{[], ◌∷◌}
 use mathlib.Core.Path.{sym, ap, ◌∙◌}
 use native.Mathlib.Omega.{arith}
-use borrow.Author.Rules.{rules}
 use Rattle.flat.specs.Machine.{Frame}
 use Rattle.flat.specs.Rules.{jobs}
 use Rattle.units.specs.Frames.{flat}

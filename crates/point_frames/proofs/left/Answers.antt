@@ -1,5 +1,4 @@
 -- `point_frames::left` meets its contract: those of a job, none of any other frame. Assumes nothing.
-use borrow.Author.Rules.{rules}
 use Rattle.units.specs.Frames.{flat}
 use Rattle.point_frames.proofs.Tests.{not_job, left_other}
 use Rattle.point_frames.proofs.left.Goals as goal

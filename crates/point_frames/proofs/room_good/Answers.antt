@@ -3,7 +3,6 @@ use mathlib.Core.Path.{ap, ◌∙◌}
 use Prim.Native.Nat.{ℕ}
 use native.Mathlib.Omega.{arith}
 use lib.ListN.{get_or}
-use borrow.Author.Rules.{rules}
 use Rattle.symbol.specs.Record.{operator}
 use Rattle.point_frames.proofs.Tests.{room_visit, room_steps}
 use Rattle.point_frames.proofs.room_good.Goals as goal

@@ -4,15 +4,11 @@ use mathlib.Core.Logic.{◌≢◌}
 use mathlib.Core.Path.{◌≡◌, refl, sym, subst, ap, ◌∙◌}
 use Prim.Native.Nat.{◌+◌, ◌-◌, ◌<◌}
 use native.Mathlib.Omega.{arith}
-use borrow.Author.Rules.{rules}
-use Rattle.paper.specs.Book.{Book}
-use Rattle.flat.specs.Machine.{Frame, FlatState}
+use Rattle.flat.specs.Machine.{Frame}
 use Rattle.flat.specs.Tested as T
 use Rattle.term.specs.Present.{length_in}
 use Rattle.units.specs.Frames.{flat}
 use Rattle.units.specs.Stacks.{base, stack_of, height_in, store, Below}
-use Rattle.point_frames.specs.Counting.{stack_in}
-use Rattle.point_frames.specs.Promises.{Point}
 use Rattle.point_frames.proofs.Stacks.{heights, stack_some, stack_none, lowest}
 use Rattle.point_frames.proofs.Standing.{stack_fail, stack_pass, stack_empty, stack_last}
 use Rattle.point_frames.proofs.stack_good.Goals as goal

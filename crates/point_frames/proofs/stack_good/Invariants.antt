@@ -1,21 +1,14 @@
 -- `point_frames::stack_good` meets its contract: the loop's invariant: f is the frame at index h, and the stack is good exactly if it is from there down. Assumes nothing.
 use mathlib.Core.List.{◌∷◌}
-use mathlib.Core.Logic.{◌≢◌}
-use mathlib.Core.Path.{◌≡◌, refl, sym, subst, ap, ◌∙◌}
-use Prim.Native.Nat.{◌+◌, ◌-◌, ◌<◌}
-use native.Mathlib.Omega.{arith}
-use borrow.Author.Rules.{rules}
-use borrow.Author.Tests.{not-true, not-false}
+use mathlib.Core.Path.{◌≡◌}
+use Prim.Native.Nat.{◌<◌}
 use Rattle.paper.specs.Book.{Book}
-use Rattle.flat.specs.Machine.{Frame, FlatState}
+use Rattle.flat.specs.Machine.{FlatState}
 use Rattle.flat.specs.Tested as T
-use Rattle.term.specs.Present.{length_in}
 use Rattle.units.specs.Frames.{flat}
-use Rattle.units.specs.Stacks.{base, stack_of, height_in, store, Below}
+use Rattle.units.specs.Stacks.{base, stack_of, height_in, store}
 use Rattle.point_frames.specs.Counting.{stack_in}
 use Rattle.point_frames.specs.Promises.{Point}
-use Rattle.point_frames.proofs.Stacks.{heights, stack_some, stack_none, lowest}
-use Rattle.point_frames.proofs.Standing.{stack_fail, stack_pass, stack_empty, stack_last}
 use Rattle.point_frames.proofs.stack_good.Given as goal
 
 abbrev pub invariant-loop-h : goal.invariant-loop-h

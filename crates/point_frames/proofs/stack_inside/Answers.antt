@@ -1,11 +1,9 @@
 -- Answers of `stack_inside`. Assumes nothing.
-use mathlib.Core.Path.{◌≡◌, ap, ◌∙◌}
-use Prim.Native.Nat.{◌-◌, ◌≤◌, ◌<◌}
+use mathlib.Core.Path.{ap, ◌∙◌}
+use Prim.Native.Nat.{◌-◌, ◌<◌}
 use native.Mathlib.Omega.{arith}
-use borrow.Author.Rules.{rules}
 use Rattle.flat.specs.Tested.{each_frame}
-use Rattle.units.specs.Stacks.{base, stack_of, height_in, store}
-use Rattle.point_frames.specs.Counting.{stack_in}
+use Rattle.units.specs.Stacks.{store}
 use Rattle.point_frames.specs.Test as T
 use Rattle.point_frames.proofs.Stacks.{heights, stack_some, frames_none, frames_pass, frames_fail}
 use Rattle.point_frames.proofs.stack_inside.Goals as goal

@@ -1,14 +1,10 @@
 -- `point_frames::stack_inside` meets its contract: the loop's invariant: all jobs are inside exactly if those of the lowest h frames are. Assumes nothing.
-use mathlib.Core.Path.{◌≡◌, ap, ◌∙◌}
-use Prim.Native.Nat.{◌-◌, ◌≤◌, ◌<◌}
-use native.Mathlib.Omega.{arith}
-use borrow.Author.Rules.{rules}
-use borrow.Author.Tests.{not-true, not-false}
+use mathlib.Core.Path.{◌≡◌}
+use Prim.Native.Nat.{◌≤◌}
 use Rattle.flat.specs.Tested.{each_frame}
 use Rattle.units.specs.Stacks.{base, stack_of, height_in, store}
 use Rattle.point_frames.specs.Counting.{stack_in}
 use Rattle.point_frames.specs.Test as T
-use Rattle.point_frames.proofs.Stacks.{heights, stack_some, frames_none, frames_pass, frames_fail}
 use Rattle.point_frames.proofs.stack_inside.Given as goal
 
 abbrev pub invariant-loop-h : goal.invariant-loop-h

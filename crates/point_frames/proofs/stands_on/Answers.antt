@@ -1,5 +1,4 @@
 -- `point_frames::stands_on` meets its contract: by the frame. Assumes nothing.
-use borrow.Author.Rules.{rules}
 use Rattle.units.specs.Frames.{flat}
 use Rattle.point_frames.proofs.Standing.{stands_job, stands_exit, stands_other}
 use Rattle.point_frames.proofs.stands_on.Goals as goal

@@ -1,5 +1,4 @@
 -- `point_frames::takes` meets its contract: by the frame. Assumes nothing.
-use borrow.Author.Rules.{rules}
 use Rattle.units.specs.Frames.{flat}
 use Rattle.point_frames.proofs.Tests.{not_job}
 use Rattle.point_frames.proofs.Arguments.{taken_other}

@@ -1,13 +1,6 @@
 -- Answers of `each_once`. Assumes nothing.
-use mathlib.Core.List.{List}
-use mathlib.Core.Path.{◌≡◌, refl, sym, ◌∙◌}
-use Prim.Native.Nat.{ℕ, suc}
+use mathlib.Core.Path.{refl, sym, ◌∙◌}
 use native.Mathlib.Omega.{arith}
-use lib.Dec.{eqb}
-use borrow.Author.Rules.{rules}
-use Rattle.flat.specs.Rules.{of_rank}
-use Rattle.flat.specs.Tested.{each_below}
-use Rattle.units.specs.Stacks.{units_of}
 use Rattle.point_order.proofs.Ranks.{once_next, once_stop, once_end}
 use Rattle.point_order.proofs.each_once.Goals as goal
 

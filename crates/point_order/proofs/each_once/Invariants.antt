@@ -1,14 +1,11 @@
 -- `point_order::each_once` meets its contract: the ranks above r are each that of one unit. Assumes nothing.
 use mathlib.Core.List.{List}
-use mathlib.Core.Path.{◌≡◌, refl, sym, ◌∙◌}
+use mathlib.Core.Path.{◌≡◌}
 use Prim.Native.Nat.{ℕ, suc}
-use native.Mathlib.Omega.{arith}
 use lib.Dec.{eqb}
-use borrow.Author.Rules.{rules}
 use Rattle.flat.specs.Rules.{of_rank}
 use Rattle.flat.specs.Tested.{each_below}
 use Rattle.units.specs.Stacks.{units_of}
-use Rattle.point_order.proofs.Ranks.{once_next, once_stop, once_end}
 use Rattle.point_order.proofs.each_once.Given as goal
 
 abbrev pub invariant-loop-r : goal.invariant-loop-r

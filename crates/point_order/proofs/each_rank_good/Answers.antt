@@ -1,13 +1,7 @@
 -- Answers of `each_rank_good`. Assumes nothing.
-use mathlib.Core.Path.{◌≡◌, refl, sym, ◌∙◌}
-use Prim.Native.Nat.{◌≤◌}
+use mathlib.Core.Path.{refl, sym, ◌∙◌}
 use native.Mathlib.Omega.{arith}
-use borrow.Author.Rules.{rules}
-use Rattle.paper.specs.Book.{Book}
-use Rattle.flat.specs.Machine.{FlatState}
-use Rattle.flat.specs.Tested.{each_below, rank_good}
-use Rattle.units.specs.Stacks.{store}
-use Rattle.point_order.specs.Promises.{Kept}
+use Rattle.flat.specs.Tested.{rank_good}
 use Rattle.point_order.proofs.Tests.{below_next, below_stop, below_end}
 use Rattle.point_order.proofs.each_rank_good.Goals as goal
 

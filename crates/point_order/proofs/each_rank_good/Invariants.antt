@@ -1,15 +1,11 @@
 -- `point_order::each_rank_good` meets its contract: the ranks of the units from v up are good. Assumes nothing.
-use mathlib.Core.Path.{◌≡◌, refl, sym, ◌∙◌}
+use mathlib.Core.Path.{◌≡◌}
 use Prim.Native.Nat.{◌≤◌}
-use native.Mathlib.Omega.{arith}
-use borrow.Author.Rules.{rules}
-use borrow.Author.Tests.{not-true, not-false}
 use Rattle.paper.specs.Book.{Book}
 use Rattle.flat.specs.Machine.{FlatState}
 use Rattle.flat.specs.Tested.{each_below, rank_good}
 use Rattle.units.specs.Stacks.{store}
 use Rattle.point_order.specs.Promises.{Kept}
-use Rattle.point_order.proofs.Tests.{below_next, below_stop, below_end}
 use Rattle.point_order.proofs.each_rank_good.Given as goal
 
 abbrev pub invariant-loop-v : goal.invariant-loop-v

@@ -1,8 +1,6 @@
 -- Answers of `heights`. Assumes nothing.
-use Prim.Native.Nat.{◌-◌, ◌≤◌}
 use native.Mathlib.Omega.{arith}
-use borrow.Author.Rules.{rules}
-use Rattle.point_order.proofs.Loops.{HeightsBelow, heights_more}
+use Rattle.point_order.proofs.Loops.{heights_more}
 use Rattle.point_order.proofs.heights.Goals as goal
 
 pub loop-u-init : goal.loop-u-init

@@ -1,8 +1,6 @@
 -- `point_order::heights` meets its contract: the heights of the units below u stand. Assumes nothing.
 use Prim.Native.Nat.{◌-◌, ◌≤◌}
-use native.Mathlib.Omega.{arith}
-use borrow.Author.Rules.{rules}
-use Rattle.point_order.proofs.Loops.{HeightsBelow, heights_more}
+use Rattle.point_order.proofs.Loops.{HeightsBelow}
 use Rattle.point_order.proofs.heights.Given as goal
 
 abbrev pub invariant-loop-u : goal.invariant-loop-u

@@ -1,10 +1,6 @@
 -- Answers of `highest_exit`. Assumes nothing.
-use mathlib.Core.Path.{◌≡◌, refl, sym, ◌∙◌}
-use Prim.Native.Nat.{◌≤◌}
+use mathlib.Core.Path.{refl, sym, ◌∙◌}
 use native.Mathlib.Omega.{arith}
-use borrow.Author.Rules.{rules}
-use Rattle.units.specs.Stacks.{stack_of}
-use Rattle.point_order.specs.Passing.{highest_exit}
 use Rattle.point_order.proofs.Loops.{highest_here, highest_past, highest_end, exit_unit}
 use Rattle.point_order.proofs.highest_exit.Goals as goal
 

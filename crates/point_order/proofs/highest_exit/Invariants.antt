@@ -1,11 +1,8 @@
 -- `point_order::highest_exit` meets its contract: the highest EXIT of the h frames is that of the lowest k. Assumes nothing.
-use mathlib.Core.Path.{◌≡◌, refl, sym, ◌∙◌}
+use mathlib.Core.Path.{◌≡◌}
 use Prim.Native.Nat.{◌≤◌}
-use native.Mathlib.Omega.{arith}
-use borrow.Author.Rules.{rules}
 use Rattle.units.specs.Stacks.{stack_of}
 use Rattle.point_order.specs.Passing.{highest_exit}
-use Rattle.point_order.proofs.Loops.{highest_here, highest_past, highest_end, exit_unit}
 use Rattle.point_order.proofs.highest_exit.Given as goal
 
 abbrev pub invariant-loop-k : goal.invariant-loop-k

@@ -1,5 +1,4 @@
 -- `point_order::is_join` meets its contract: by what the table answers. Assumes nothing.
-use borrow.Author.Rules.{rules}
 use Rattle.point_order.proofs.Waiting.{join_end, join_here, join_other}
 use Rattle.point_order.proofs.is_join.Goals as goal
 

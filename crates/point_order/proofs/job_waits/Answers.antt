@@ -1,5 +1,4 @@
 -- `point_order::job_waits` meets its contract. Assumes nothing.
-use borrow.Author.Rules.{rules}
 use Rattle.point_order.proofs.Waiting.{job_new, job_free, job_joins}
 use Rattle.point_order.proofs.job_waits.Goals as goal
 

@@ -1,9 +1,7 @@
 -- Answers of `none_left`. Assumes nothing.
-use mathlib.Core.Path.{◌≡◌, refl, sym, ap, ◌∙◌}
-use Prim.Native.Nat.{◌≤◌, ◌-◌}
+use mathlib.Core.Path.{refl, sym, ap, ◌∙◌}
+use Prim.Native.Nat.{◌-◌}
 use native.Mathlib.Omega.{arith}
-use borrow.Author.Rules.{rules}
-use Rattle.flat.specs.Tested.{each_below}
 use Rattle.point_order.specs.Passing.{part_of, is_none}
 use Rattle.point_order.proofs.Tests.{below_next, below_stop, below_end}
 use Rattle.point_order.proofs.Loops.{part_is}

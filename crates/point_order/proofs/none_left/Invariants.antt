@@ -1,12 +1,8 @@
 -- `point_order::none_left` meets its contract: the units from v up have no EXIT left. Assumes nothing.
-use mathlib.Core.Path.{◌≡◌, refl, sym, ap, ◌∙◌}
-use Prim.Native.Nat.{◌≤◌, ◌-◌}
-use native.Mathlib.Omega.{arith}
-use borrow.Author.Rules.{rules}
+use mathlib.Core.Path.{◌≡◌}
+use Prim.Native.Nat.{◌≤◌}
 use Rattle.flat.specs.Tested.{each_below}
 use Rattle.point_order.specs.Passing.{part_of, is_none}
-use Rattle.point_order.proofs.Tests.{below_next, below_stop, below_end}
-use Rattle.point_order.proofs.Loops.{part_is}
 use Rattle.point_order.proofs.none_left.Given as goal
 
 abbrev pub invariant-loop-v : goal.invariant-loop-v

@@ -1,11 +1,8 @@
 -- Answers of `of_rank`. Assumes nothing.
-use mathlib.Core.List.{List}
-use mathlib.Core.Path.{◌≡◌, sym, ap, ◌∙◌}
-use Prim.Native.Nat.{ℕ, ◌+◌, ◌-◌, ◌≤◌}
+use mathlib.Core.Path.{sym, ap, ◌∙◌}
+use Prim.Native.Nat.{ℕ, ◌+◌}
 use native.Mathlib.Omega.{arith}
-use borrow.Author.Rules.{rules}
 use Rattle.flat.specs.Rules.{of_rank}
-use Rattle.units.specs.Stacks.{units_from}
 use Rattle.units.proofs.Loops.{units_all}
 use Rattle.point_order.proofs.Ranks.{rank_none, rank_here, rank_past}
 use Rattle.point_order.proofs.of_rank.Goals as goal

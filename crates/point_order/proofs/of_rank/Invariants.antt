@@ -1,13 +1,9 @@
 -- `point_order::of_rank` meets its contract: so many of the units from v up have the rank. Assumes nothing.
 use mathlib.Core.List.{List}
-use mathlib.Core.Path.{◌≡◌, sym, ap, ◌∙◌}
+use mathlib.Core.Path.{◌≡◌}
 use Prim.Native.Nat.{ℕ, ◌+◌, ◌-◌, ◌≤◌}
-use native.Mathlib.Omega.{arith}
-use borrow.Author.Rules.{rules}
 use Rattle.flat.specs.Rules.{of_rank}
 use Rattle.units.specs.Stacks.{units_from}
-use Rattle.units.proofs.Loops.{units_all}
-use Rattle.point_order.proofs.Ranks.{rank_none, rank_here, rank_past}
 use Rattle.point_order.proofs.of_rank.Given as goal
 
 abbrev pub invariant-loop-v : goal.invariant-loop-v

@@ -1,6 +1,5 @@
 -- `point_order::operator_of` meets its contract. Assumes nothing.
 use native.Mathlib.Omega.{arith}
-use borrow.Author.Rules.{rules}
 use Rattle.point_order.proofs.Waiting.{operator_in, operator_behind}
 use Rattle.point_order.proofs.operator_of.Goals as goal
 

@@ -1,12 +1,10 @@
 -- Answers of `order_good`. Assumes nothing.
-use mathlib.Core.Path.{◌≡◌, refl, sym, ap, ◌∙◌}
-use Prim.Native.Nat.{ℕ, ◌<◌}
+use mathlib.Core.Path.{refl, sym, ap, ◌∙◌}
+use Prim.Native.Nat.{ℕ}
 use native.Mathlib.Omega.{arith}
-use borrow.Author.Rules.{rules}
 use Rattle.units.specs.Stacks.{store}
-use Rattle.placing.specs.Order.{latest_first, placed_in}
+use Rattle.placing.specs.Order.{latest_first}
 use Rattle.point_order.specs.Passing.{passes}
-use Rattle.point_order.specs.Promises.{TopsFit, HeightsOf}
 use Rattle.point_order.proofs.Order.{order_decided}
 use Rattle.point_order.proofs.Loops.{tops_fit, passes_stop, passes_next, passes_end}
 use Rattle.point_order.proofs.order_good.Goals as goal

@@ -1,15 +1,10 @@
 -- `point_order::order_good` meets its contract: what all parts come to is what the first k come to, the later ones being taken off. Assumes nothing.
-use mathlib.Core.Path.{◌≡◌, refl, sym, ap, ◌∙◌}
-use Prim.Native.Nat.{ℕ, ◌<◌}
-use native.Mathlib.Omega.{arith}
-use borrow.Author.Rules.{rules}
-use borrow.Author.Tests.{not-true, not-false}
+use mathlib.Core.Path.{◌≡◌}
+use Prim.Native.Nat.{◌<◌}
 use Rattle.units.specs.Stacks.{store}
 use Rattle.placing.specs.Order.{latest_first, placed_in}
 use Rattle.point_order.specs.Passing.{passes}
 use Rattle.point_order.specs.Promises.{TopsFit, HeightsOf}
-use Rattle.point_order.proofs.Order.{order_decided}
-use Rattle.point_order.proofs.Loops.{tops_fit, passes_stop, passes_next, passes_end}
 use Rattle.point_order.proofs.order_good.Given as goal
 
 abbrev pub invariant-loop-k : goal.invariant-loop-k

@@ -1,7 +1,6 @@
 -- `point_order::rank_good` meets its contract. Assumes nothing.
 use mathlib.Core.Path.{sym, ◌∙◌}
 use native.Mathlib.Omega.{arith}
-use borrow.Author.Rules.{rules}
 use Rattle.point_order.proofs.Ranks.{rank_busy, rank_high, rank_idle}
 use Rattle.point_order.proofs.rank_good.Goals as goal
 

@@ -1,6 +1,5 @@
 -- `point_order::ranks_good` meets its contract. Assumes nothing.
 use mathlib.Core.Path.{refl}
-use borrow.Author.Rules.{rules}
 use Rattle.point_order.proofs.Ranks.{idle_are, ranks_stop, ranks_rest}
 use Rattle.point_order.proofs.ranks_good.Goals as goal
 

@@ -1,5 +1,4 @@
 -- `point_order::stands` meets its contract. Assumes nothing.
-use borrow.Author.Rules.{rules}
 use Rattle.point_order.proofs.Loops.{stands_below, stands_whole}
 use Rattle.point_order.proofs.stands.Goals as goal
 

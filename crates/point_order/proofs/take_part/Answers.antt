@@ -1,6 +1,5 @@
 -- `point_order::take_part` meets its contract. Assumes nothing.
 use native.Mathlib.Omega.{arith}
-use borrow.Author.Rules.{rules}
 use Rattle.point_order.proofs.Loops.{found_below, part_is, part_foreign, part_missing, part_found}
 use Rattle.point_order.proofs.take_part.Goals as goal
 

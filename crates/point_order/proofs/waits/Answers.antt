@@ -1,6 +1,5 @@
 -- `point_order::waits` meets its contract: by the frame on top. Assumes nothing.
 use native.Mathlib.Omega.{arith}
-use borrow.Author.Rules.{rules}
 use Rattle.point_order.proofs.Waiting.{unit_empty, unit_job, unit_sleep, unit_other}
 use Rattle.point_order.proofs.waits.Goals as goal
 

@@ -1,5 +1,5 @@
 -- `point_rules::meets` meets its contract: one test after another. Assumes nothing.
-use borrow.Author.Rules.{rules}
+use native.Mathlib.Omega.{arith}
 use Rattle.point_frames.proofs.Books.{standing_term, standing_units}
 use Rattle.point_order.proofs.Books.{standing_readable}
 use Rattle.point_rules.proofs.Rules.{over_budget, frames_break, order_breaks, queue_says}
@@ -23,7 +23,7 @@ returns-then-not-order_good c =
 pub ranks_good-requires : goal.ranks_good-requires
 ranks_good-requires c =
     let p = c.requires.is in
-    (standing_readable p.tables p.standing, p.standing.fit, p.standing.few_units)
+    (standing_readable p.tables p.standing, p.standing.fit, omega (arith, p.standing.few_units))
 
 pub returns : goal.returns
 returns c =

@@ -1,6 +1,5 @@
 -- `point_writer::emit` meets its contract. Assumes nothing.
 use native.Mathlib.Omega.{arith}
-use borrow.Author.Rules.{rules}
 use Rattle.point_writer.proofs.Puts.{put_field}
 use Rattle.point_writer.proofs.emit.Goals as goal
 

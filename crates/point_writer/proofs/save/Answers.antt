@@ -2,7 +2,6 @@
 use Rattle.point.specs.Saved.{arrays}
 use Rattle.point_writer.proofs.Puts.{put_as, put_both}
 use Rattle.point_writer.proofs.Fields.{saved_bits}
-use borrow.Author.Rules.{rules}
 use Rattle.point_writer.proofs.save.Goals as goal
 
 pub returns : goal.returns

@@ -2,7 +2,6 @@
 use native.Mathlib.Omega.{arith}
 use mathlib.Core.Path.{refl}
 use Rattle.point_writer.proofs.Puts.{put_as, put_both, in_two}
-use borrow.Author.Rules.{rules}
 use Rattle.point_writer.proofs.write_count.Goals as goal
 
 pub returns : goal.returns

@@ -2,7 +2,6 @@
 use native.Mathlib.Omega.{arith}
 use Rattle.point_writer.proofs.Puts.{put_as, put_both}
 use Rattle.point_writer.proofs.Fields.{job_bits}
-use borrow.Author.Rules.{rules}
 use Rattle.point_writer.proofs.write_job.Goals as goal
 
 pub returns : goal.returns

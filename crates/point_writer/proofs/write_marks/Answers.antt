@@ -1,16 +1,10 @@
 -- Answers of `write_marks`. Assumes nothing.
-use mathlib.Core.List.{List}
-use mathlib.Core.Path.{◌≡◌, refl, ap, ◌∙◌}
-use Prim.Native.Nat.{ℕ, ◌+◌, ◌-◌, ◌≤◌}
+use mathlib.Core.Path.{refl, ap, ◌∙◌}
 use native.Mathlib.Omega.{arith}
-use lib.ListN.{length, take, drop}
-use Rattle.paper.specs.Writer.{concat}
 use Rattle.flat.specs.Form.{write_mark}
-use Rattle.symbol.specs.Record.{marked, marks}
-use Rattle.point_writer.specs.Promises.{Put}
+use Rattle.symbol.specs.Record.{marked}
 use Rattle.point_writer.proofs.Puts.{put_none, put_as, put_both}
 use Rattle.point_writer.proofs.Fields.{symbols_end, symbols_more}
-use borrow.Author.Rules.{rules}
 use Rattle.point_writer.proofs.write_marks.Goals as goal
 
 pub loop-i-init : goal.loop-i-init

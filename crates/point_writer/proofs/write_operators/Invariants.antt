@@ -1,17 +1,13 @@
 -- `point_writer::write_operators` meets its contract. The loop's invariant: what puts the operators that are left puts them all. The measure is how many are left.
 -- Assumes nothing.
 use mathlib.Core.List.{List}
-use mathlib.Core.Path.{◌≡◌, refl, ap, ◌∙◌}
+use mathlib.Core.Path.{◌≡◌}
 use Prim.Native.Nat.{ℕ, ◌+◌, ◌*◌, ◌-◌, ◌≤◌}
-use native.Mathlib.Omega.{arith}
 use lib.ListN.{length, take, drop}
 use Rattle.paper.specs.Bits.{to_bits}
 use Rattle.paper.specs.Writer.{concat}
-use Rattle.symbol.specs.Record.{operator, operators}
+use Rattle.symbol.specs.Record.{operators}
 use Rattle.point_writer.specs.Promises.{Put}
-use Rattle.point_writer.proofs.Puts.{put_none, put_as, put_both}
-use Rattle.point_writer.proofs.Fields.{symbols_end, symbols_more}
-use borrow.Author.Rules.{rules}
 use Rattle.point_writer.proofs.write_operators.Given as goal
 
 abbrev pub invariant-loop-i : goal.invariant-loop-i

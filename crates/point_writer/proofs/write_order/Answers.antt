@@ -1,17 +1,9 @@
 -- Answers of `write_order`. Assumes nothing.
-use mathlib.Core.List.{List}
-use mathlib.Core.Path.{◌≡◌, refl, ◌∙◌}
-use Prim.Native.Nat.{ℕ, ◌+◌, ◌*◌, ◌-◌, ◌≤◌, ◌<◌}
+use mathlib.Core.Path.{refl, ◌∙◌}
+use Prim.Native.Nat.{◌-◌}
 use native.Mathlib.Omega.{arith}
-use lib.ListN.{length}
-use Rattle.paper.specs.Bits.{to_bits}
-use Rattle.paper.specs.Sound.{All}
-use Rattle.paper.specs.Writer.{concat}
-use Rattle.placing.specs.Order.{latest_first}
-use Rattle.point_writer.specs.Promises.{Put}
 use Rattle.point_writer.proofs.Puts.{put_none, put_as, put_both}
 use Rattle.point_writer.proofs.Fields.{order_end, order_fits, order_more, order_bits}
-use borrow.Author.Rules.{rules}
 use Rattle.point_writer.proofs.write_order.Goals as goal
 
 pub loop-k-init : goal.loop-k-init

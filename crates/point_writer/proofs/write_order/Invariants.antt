@@ -1,17 +1,13 @@
 -- `point_writer::write_order` meets its contract. The loop's invariant: what puts the units of the k earliest parts puts them all. The measure is k. Assumes nothing.
 use mathlib.Core.List.{List}
-use mathlib.Core.Path.{◌≡◌, refl, ◌∙◌}
-use Prim.Native.Nat.{ℕ, ◌+◌, ◌*◌, ◌-◌, ◌≤◌, ◌<◌}
-use native.Mathlib.Omega.{arith}
+use mathlib.Core.Path.{◌≡◌}
+use Prim.Native.Nat.{ℕ, ◌+◌, ◌*◌, ◌≤◌, ◌<◌}
 use lib.ListN.{length}
 use Rattle.paper.specs.Bits.{to_bits}
 use Rattle.paper.specs.Sound.{All}
 use Rattle.paper.specs.Writer.{concat}
 use Rattle.placing.specs.Order.{latest_first}
 use Rattle.point_writer.specs.Promises.{Put}
-use Rattle.point_writer.proofs.Puts.{put_none, put_as, put_both}
-use Rattle.point_writer.proofs.Fields.{order_end, order_fits, order_more, order_bits}
-use borrow.Author.Rules.{rules}
 use Rattle.point_writer.proofs.write_order.Given as goal
 
 abbrev pub invariant-loop-k : goal.invariant-loop-k

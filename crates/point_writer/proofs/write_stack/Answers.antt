@@ -1,14 +1,8 @@
 -- Answers of `write_stack`. Assumes nothing.
-use mathlib.Core.List.{List}
-use mathlib.Core.Path.{◌≡◌, refl, sym, ◌∙◌, subst}
-use Prim.Native.Nat.{ℕ, ◌+◌, ◌*◌, ◌-◌, ◌≤◌}
+use mathlib.Core.Path.{refl, sym, ◌∙◌, subst}
+use Prim.Native.Nat.{◌-◌}
 use native.Mathlib.Omega.{arith}
-use lib.ListN.{length}
-use Rattle.paper.specs.Sound.{All}
-use Rattle.paper.specs.Writer.{concat}
-use Rattle.flat.specs.Form.{write_frame}
-use Rattle.units.specs.Stacks.{stack_of}
-use Rattle.point_writer.specs.Promises.{Put, FrameFitsFields}
+use Rattle.point_writer.specs.Promises.{FrameFitsFields}
 use Rattle.point_writer.proofs.Puts.{put_none, put_as, put_both}
 use Rattle.point_writer.proofs.Fields.{stack_end, stack_fits, stack_more}
 use borrow.Author.Rules.{rules}

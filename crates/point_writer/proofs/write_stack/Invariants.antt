@@ -1,18 +1,14 @@
 -- `point_writer::write_stack` meets its contract. The loop's invariant: what puts the frames that are left, the k lowest, puts them all. The measure is how many are
 -- left. Assumes nothing.
 use mathlib.Core.List.{List}
-use mathlib.Core.Path.{◌≡◌, refl, sym, ◌∙◌, subst}
-use Prim.Native.Nat.{ℕ, ◌+◌, ◌*◌, ◌-◌, ◌≤◌}
-use native.Mathlib.Omega.{arith}
+use mathlib.Core.Path.{◌≡◌}
+use Prim.Native.Nat.{ℕ, ◌+◌, ◌*◌, ◌≤◌}
 use lib.ListN.{length}
 use Rattle.paper.specs.Sound.{All}
 use Rattle.paper.specs.Writer.{concat}
 use Rattle.flat.specs.Form.{write_frame}
 use Rattle.units.specs.Stacks.{stack_of}
 use Rattle.point_writer.specs.Promises.{Put, FrameFitsFields}
-use Rattle.point_writer.proofs.Puts.{put_none, put_as, put_both}
-use Rattle.point_writer.proofs.Fields.{stack_end, stack_fits, stack_more}
-use borrow.Author.Rules.{rules}
 use Rattle.point_writer.proofs.write_stack.Given as goal
 
 abbrev pub invariant-loop-k : goal.invariant-loop-k

@@ -4,7 +4,6 @@ use native.Mathlib.Omega.{arith}
 use Rattle.units.proofs.Loops.{frames_of}
 use Rattle.point_writer.proofs.Puts.{put_as, put_both}
 use Rattle.point_writer.proofs.Fields.{unit_bits}
-use borrow.Author.Rules.{rules}
 use Rattle.point_writer.proofs.write_unit.Goals as goal
 
 pub overflow_sub-h : goal.overflow_sub-h

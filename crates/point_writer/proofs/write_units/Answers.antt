@@ -1,15 +1,8 @@
 -- Answers of `write_units`. Assumes nothing.
-use mathlib.Core.List.{List}
-use mathlib.Core.Path.{◌≡◌, refl, ◌∙◌}
-use Prim.Native.Nat.{ℕ, ◌+◌, ◌*◌, ◌-◌, ◌≤◌}
+use mathlib.Core.Path.{refl, ◌∙◌}
+use Prim.Native.Nat.{◌+◌, ◌-◌}
 use native.Mathlib.Numerals.{unary_clauses}
 use native.Mathlib.Omega.{arith}
-use lib.ListN.{length}
-use Rattle.paper.specs.Sound.{All}
-use Rattle.paper.specs.Writer.{concat}
-use Rattle.flat.specs.Form.{write_unit}
-use Rattle.units.specs.Stacks.{units_from, units_of}
-use Rattle.point_writer.specs.Promises.{Put, UnitFitsFields}
 use Rattle.point_writer.proofs.Puts.{put_none, put_as, put_both}
 use Rattle.point_writer.proofs.Fields.{units_end, units_fit, units_more}
 use borrow.Author.Rules.{rules}

@@ -1,19 +1,14 @@
 -- `point_writer::write_units` meets its contract. The loop's invariant: what puts the units that are left puts them all. The measure is how many are left.
 -- Assumes nothing.
 use mathlib.Core.List.{List}
-use mathlib.Core.Path.{◌≡◌, refl, ◌∙◌}
+use mathlib.Core.Path.{◌≡◌}
 use Prim.Native.Nat.{ℕ, ◌+◌, ◌*◌, ◌-◌, ◌≤◌}
-use native.Mathlib.Numerals.{unary_clauses}
-use native.Mathlib.Omega.{arith}
 use lib.ListN.{length}
 use Rattle.paper.specs.Sound.{All}
 use Rattle.paper.specs.Writer.{concat}
 use Rattle.flat.specs.Form.{write_unit}
 use Rattle.units.specs.Stacks.{units_from, units_of}
 use Rattle.point_writer.specs.Promises.{Put, UnitFitsFields}
-use Rattle.point_writer.proofs.Puts.{put_none, put_as, put_both}
-use Rattle.point_writer.proofs.Fields.{units_end, units_fit, units_more}
-use borrow.Author.Rules.{rules}
 use Rattle.point_writer.proofs.write_units.Given as goal
 
 abbrev pub invariant-loop-u : goal.invariant-loop-u

@@ -1,6 +1,5 @@
 -- `point_writer::write_word` meets its contract. Assumes nothing.
 use native.Mathlib.Omega.{arith}
-use borrow.Author.Rules.{rules}
 use Rattle.point_writer.proofs.Puts.{put_as, put_both, in_two}
 use Rattle.point_writer.proofs.write_word.Goals as goal
 

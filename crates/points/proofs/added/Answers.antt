@@ -1,7 +1,6 @@
 -- `points::added` meets its contract. Assumes nothing.
 use mathlib.Core.Path.{ap, ap₂, ◌∙◌}
 use Prim.Native.Nat.{ℕ}
-use borrow.Author.Rules.{rules}
 use Rattle.run.specs.declared.Run.{Run}
 use Rattle.points.proofs.added.Goals as goal
 

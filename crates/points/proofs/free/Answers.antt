@@ -2,7 +2,6 @@
 use mathlib.Core.Path.{refl, ap, ◌∙◌}
 use Prim.Native.Nat.{ℕ}
 use lib.ListN.{replicate}
-use borrow.Author.Rules.{rules}
 use Rattle.points.proofs.Slots.{slot_long, slot_put}
 use Rattle.points.proofs.free.Goals as goal
 

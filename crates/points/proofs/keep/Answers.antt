@@ -1,6 +1,5 @@
 -- `points::keep` meets its contract. Assumes nothing.
 use mathlib.Core.Path.{refl, sym, ap, ◌∙◌, subst}
-use borrow.Author.Rules.{rules}
 use Rattle.point.specs.declared.Numbers.{Numbers}
 use Rattle.point.specs.Saved.{arrays, saved}
 use Rattle.point_writer.specs.Promises.{Savable}

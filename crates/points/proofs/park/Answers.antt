@@ -1,5 +1,4 @@
 -- `points::park` meets its contract, by the laws of Parks. Assumes nothing.
-use borrow.Author.Rules.{rules}
 use mathlib.Core.Path.{sym, ◌∙◌}
 use native.Mathlib.Omega.{arith}
 use Rattle.engine.proofs.Frame.{faulty}

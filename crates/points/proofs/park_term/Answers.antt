@@ -1,5 +1,4 @@
 -- `points::park_term` meets its contract, by the laws of Named. Assumes nothing.
-use borrow.Author.Rules.{rules}
 use Rattle.points.proofs.Named.{unplaced}
 use Rattle.points.proofs.park_term.Goals as goal
 

@@ -2,7 +2,6 @@
 use mathlib.Core.Path.{refl, ap, ◌∙◌}
 use Prim.Native.Nat.{ℕ}
 use native.Mathlib.Omega.{arith}
-use borrow.Author.Rules.{rules}
 use Rattle.slots.specs.Slot.{slot_bytes}
 use Rattle.point.specs.Saved.{arrays, saved}
 use Rattle.points.proofs.Slots.{slot_long, slot_is, slot_put}

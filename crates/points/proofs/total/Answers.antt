@@ -1,7 +1,6 @@
 -- `points::total` meets its contract. Assumes nothing.
 use native.Mathlib.Omega.{arith}
 use mathlib.Core.Path.{sym}
-use borrow.Author.Rules.{rules}
 use Rattle.flat.proofs.Parts.{kept_low, kept_high}
 use Rattle.points.proofs.total.Goals as goal
 

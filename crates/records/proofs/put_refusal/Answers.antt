@@ -1,6 +1,5 @@
 -- `records::put_refusal` meets its contract. Assumes nothing.
 use native.Mathlib.Omega.{arith}
-use borrow.Author.Rules.{rules}
 use Rattle.records.proofs.Writing.{put_one}
 use Rattle.records.proofs.put_refusal.Goals as goal
 

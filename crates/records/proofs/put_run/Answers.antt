@@ -3,7 +3,6 @@ use mathlib.Core.List.{[], ◌∷◌}
 use mathlib.Core.Path.{ap, ◌∙◌}
 use Prim.Native.Nat.{ℕ}
 use native.Mathlib.Omega.{arith}
-use borrow.Author.Rules.{rules}
 use Rattle.stream.specs.Promises.{bytes}
 use Rattle.stream.proofs.Puts.{put_as, put_both}
 use Rattle.records.specs.Record.{value_bytes}

@@ -1,11 +1,10 @@
 -- Answers of `copy`. Assumes nothing.
 use mathlib.Core.List.{List, ◌++◌}
 use mathlib.Core.Path.{◌≡◌, refl, ap, ◌∙◌}
-use Prim.Native.Nat.{ℕ, ◌-◌, ◌≤◌}
+use Prim.Native.Nat.{ℕ}
 use native.Mathlib.Omega.{arith}
 use lib.ListN.{length, get_or, take, drop, set, length-set}
 use lib.Seq.{take_at, take-length}
-use borrow.Author.Rules.{rules}
 use Rattle.engine.proofs.Copying.{copy_more}
 use Rattle.resumption.proofs.copy.Goals as goal
 

@@ -1,7 +1,6 @@
 -- `resumption::go_on` meets its contract, by the laws of Going. Assumes nothing.
 use mathlib.Core.Path.{refl, ◌∙◌}
 use native.Mathlib.Omega.{arith}
-use borrow.Author.Rules.{rules}
 use Rattle.engine.proofs.Frame.{frame_of}
 use Rattle.resumption.proofs.Going.{short, going, savable, present, gone_on}
 use Rattle.resumption.proofs.go_on.Goals as goal

@@ -1,5 +1,4 @@
 -- `resumption::load` meets its contract. Assumes nothing.
-use borrow.Author.Rules.{rules}
 use Rattle.resumption.proofs.Slot.{of_slot}
 use Rattle.resumption.proofs.load.Goals as goal
 

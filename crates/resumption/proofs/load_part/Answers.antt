@@ -1,7 +1,6 @@
 -- `resumption::load_part` meets its contract, by what the part is opened as. Assumes nothing.
 use mathlib.Core.Path.{◌∙◌}
 use native.Mathlib.Omega.{arith}
-use borrow.Author.Rules.{rules}
 use Rattle.resumption.proofs.Slot.{short_book, loaded, loaded_none}
 use Rattle.resumption.proofs.load_part.Goals as goal
 

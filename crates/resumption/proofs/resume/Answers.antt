@@ -2,7 +2,6 @@
 use mathlib.Core.Path.{sym, ap, ◌∙◌}
 use Prim.Native.Nat.{ℕ}
 use native.Mathlib.Omega.{arith}
-use borrow.Author.Rules.{rules}
 use Rattle.paper.specs.Page.{all_below}
 use Rattle.resumption.proofs.Slot.{units_are}
 use Rattle.resumption.proofs.Answers.{areas_good, areas_bad, by_areas, by_points, by_schedule, found_at, not_found}

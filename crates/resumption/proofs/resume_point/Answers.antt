@@ -1,7 +1,6 @@
 -- `resumption::resume_point` meets its contract, by the laws of Slot and Answers. Assumes nothing.
 use mathlib.Core.Path.{refl, ap, ◌∙◌}
 use native.Mathlib.Omega.{arith}
-use borrow.Author.Rules.{rules}
 use Rattle.engine.proofs.Frame.{frame_of}
 use Rattle.parking.specs.Form.{Point}
 use Rattle.resumption.proofs.Slot.{not_broken, loaded_run, loaded_point, point_in, can_save, asked_with}

@@ -1,5 +1,4 @@
 -- `resumption::unit_count` meets its contract, by what the part is opened as. Assumes nothing.
-use borrow.Author.Rules.{rules}
 use Rattle.resumption.proofs.Slot.{lent_is, counts_run, counts_none}
 use Rattle.resumption.proofs.unit_count.Goals as goal
 

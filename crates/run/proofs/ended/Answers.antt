@@ -1,5 +1,4 @@
 -- `run::ended` meets its contract. Assumes nothing.
-use borrow.Author.Rules.{rules}
 use Rattle.run.proofs.ended.Goals as goal
 
 pub returns : goal.returns

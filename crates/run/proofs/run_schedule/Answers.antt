@@ -1,13 +1,9 @@
 -- Answers of `run_schedule`. Assumes nothing.
-use mathlib.Core.Path.{◌≡◌, refl}
-use Prim.Native.Nat.{◌+◌, ◌-◌, ◌^◌, ◌<◌}
+use mathlib.Core.Path.{refl}
 use native.Mathlib.Omega.{arith}
-use lib.ListN as L
 use borrow.Author.Rules.{rules}
-use Rattle.entry.specs.State.{state}
-use Rattle.run.specs.Promises.{begun}
 use Rattle.run.specs.declared.Ending.{Ending}
-use Rattle.run.proofs.Entries.{Along, along_start, along_turn, along_goes, along_ends, along_cut}
+use Rattle.run.proofs.Entries.{along_start, along_turn, along_goes, along_ends, along_cut}
 use Rattle.run.proofs.run_schedule.Goals as goal
 
 pub loop-i-init : goal.loop-i-init

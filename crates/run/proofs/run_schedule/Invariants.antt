@@ -1,14 +1,11 @@
 -- `run::run_schedule` meets its contract. The loop's invariant: after i entries the answer, and what is parked, are those of the run over the rest of the schedule from
 -- the state that is now kept. The measure is how many entries are left. Assumes nothing.
-use mathlib.Core.Path.{◌≡◌, refl}
-use Prim.Native.Nat.{◌+◌, ◌-◌, ◌^◌, ◌<◌}
-use native.Mathlib.Omega.{arith}
+use mathlib.Core.Path.{◌≡◌}
+use Prim.Native.Nat.{◌-◌}
 use lib.ListN as L
-use borrow.Author.Rules.{rules}
 use Rattle.entry.specs.State.{state}
 use Rattle.run.specs.Promises.{begun}
-use Rattle.run.specs.declared.Ending.{Ending}
-use Rattle.run.proofs.Entries.{Along, along_start, along_turn, along_goes, along_ends, along_cut}
+use Rattle.run.proofs.Entries.{Along}
 use Rattle.run.proofs.run_schedule.Given as goal
 
 abbrev pub invariant-loop-i : goal.invariant-loop-i

@@ -11,21 +11,21 @@ use Rattle.engine.specs.Spec as R
 use Rattle.engine.specs.declared.Answer as D
 use Rattle.run_cases.proofs.try_run.Goals as goal
 
-abbrev length-of : Result R.Values → ℕ
-length-of (refused k) = 0
-length-of (accepted v) = v.length
+abbrev length_of : Result R.Values → ℕ
+length_of (refused k) = 0
+length_of (accepted v) = v.length
 
 module _ (book line : List ℕ) (units budget day : ℕ) (schedule work net output work' net' output' : List ℕ) (r : D.Answer) where
-  within-known : R.Reduced book line units budget day schedule work net output work' net' output' r → (a : Result Answer) →
-      R.answered book line units budget day schedule work net output ≡ a → length-of (R.values r) ≤ length output'
-  within-known d (refused k) e = omega (arith, ap length-of (d.answer ∙ ap R.values_of e))
-  within-known d (accepted A) e =
+  within_known : R.Reduced book line units budget day schedule work net output work' net' output' r → (a : Result Answer) →
+      R.answered book line units budget day schedule work net output ≡ a → length_of (R.values r) ≤ length output'
+  within_known d (refused k) e = omega (arith, ap length_of (d.answer ∙ ap R.values_of e))
+  within_known d (accepted A) e =
       let term = preorder A.term in
       let w : length output' ≡ length term + length (drop (length term) output) = ap length (d.written A e) ∙ length-append term _ in
-      omega (arith, ap length-of (d.answer ∙ ap R.values_of e))
+      omega (arith, ap length_of (d.answer ∙ ap R.values_of e))
 
-  within : R.Reduced book line units budget day schedule work net output work' net' output' r → length-of (R.values r) ≤ length output'
-  within d = within-known d _ refl
+  within : R.Reduced book line units budget day schedule work net output work' net' output' r → length_of (R.values r) ≤ length output'
+  within d = within_known d _ refl
 
 pub say_run-requires : goal.say_run-requires
 say_run-requires c =

@@ -1,11 +1,10 @@
 -- Answers of `hand_out`. Assumes nothing.
 use mathlib.Core.List.{List, ◌++◌}
 use mathlib.Core.Path.{◌≡◌, refl, ap, ◌∙◌}
-use Prim.Native.Nat.{ℕ, ◌-◌, ◌≤◌}
+use Prim.Native.Nat.{ℕ}
 use native.Mathlib.Omega.{arith}
 use lib.ListN.{length, get_or, take, drop, set, length-set}
 use lib.Seq.{take-length}
-use borrow.Author.Rules.{rules}
 use Rattle.engine.proofs.Copying.{copy_more}
 use Rattle.settlement.proofs.hand_out.Goals as goal
 

@@ -1,11 +1,10 @@
 -- `settlement::settle` meets its contract: the frame, then the run in areas of its own, then its posting. Assumes nothing.
-use mathlib.Core.Path.{◌≡◌, refl, sym, ap, ◌∙◌}
-use Prim.Native.Nat.{ℕ, ◌≤◌}
+use mathlib.Core.Path.{sym, ◌∙◌}
+use Prim.Native.Nat.{ℕ}
 use native.Mathlib.Omega.{arith}
-use lib.ListN.{length, take, length-replicate, length-take}
+use lib.ListN.{length-replicate, length-take}
 use lib.Seq.{length-take-le}
 use mir.Facts.{to_z-of_z}
-use borrow.Author.Rules.{rules}
 use Rattle.engine.proofs.Frame.{faulty, frame_of}
 use Rattle.engine.proofs.Answers.{by_frame}
 use Rattle.settlement.proofs.Answers.{run_refused, run_fits, of_refused, of_ran}

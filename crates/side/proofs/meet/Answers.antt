@@ -1,5 +1,5 @@
 -- `side::meet` meets its contract, by the laws of Symbols. Assumes nothing.
-use Rattle.std.proofs.Common.{sym, ◌∙◌, rules}
+use Rattle.std.proofs.Common.{sym, ◌∙◌}
 use Rattle.side.proofs.Mask.{bit_clear}
 use Rattle.side.proofs.Symbols.{met_known, met_new, met_unknown}
 use Rattle.side.proofs.meet.Goals as goal

@@ -1,5 +1,4 @@
 -- `side::read_left` meets its contract, by the laws of Sides. Assumes nothing.
-use Rattle.std.proofs.Common.{rules}
 use Rattle.side.proofs.Sides.{left_refused, left_variable, left_rest}
 use Rattle.side.proofs.read_left.Goals as goal
 

@@ -1,8 +1,6 @@
 -- Answers of `read_rest`. Assumes nothing.
-use Rattle.side.specs.Promises.{RestAt}
-use Rattle.side.specs.declared.Side as Si
 use Rattle.side.proofs.Sides.{rest_done, rest_full, rest_refused, rest_took}
-use Rattle.std.proofs.Common.{◌+◌, ◌-◌, ◌*◌, ◌≤◌, refl, arith, rules}
+use Rattle.std.proofs.Common.{refl, arith}
 use Rattle.side.proofs.read_rest.Goals as goal
 
 pub loop-free-init : goal.loop-free-init

@@ -2,8 +2,7 @@
 -- The measure is the symbols that may follow. Assumes nothing.
 use Rattle.side.specs.Promises.{RestAt}
 use Rattle.side.specs.declared.Side as Si
-use Rattle.side.proofs.Sides.{rest_done, rest_full, rest_refused, rest_took}
-use Rattle.std.proofs.Common.{◌+◌, ◌-◌, ◌*◌, ◌≤◌, refl, arith, rules}
+use Rattle.std.proofs.Common.{◌+◌, ◌*◌, ◌≤◌}
 use Rattle.side.proofs.read_rest.Given as goal
 
 abbrev pub invariant-loop-free : goal.invariant-loop-free

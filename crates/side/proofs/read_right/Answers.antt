@@ -1,6 +1,5 @@
 -- `side::read_right` meets its contract, by the laws of Sides. Assumes nothing.
 use Rattle.side.proofs.Sides.{right_is}
-use Rattle.std.proofs.Common.{rules}
 use Rattle.side.proofs.read_right.Goals as goal
 
 pub returns : goal.returns

@@ -1,5 +1,4 @@
 -- `side::read_rule` meets its contract, by the laws of Sides. Assumes nothing.
-use Rattle.std.proofs.Common.{rules}
 use Rattle.side.proofs.Sides.{rule_left_refused, rule_right_refused, rule_read}
 use Rattle.side.proofs.read_rule.Goals as goal
 

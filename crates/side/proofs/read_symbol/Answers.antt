@@ -1,5 +1,5 @@
 -- `side::read_symbol` meets its contract, by the laws of Symbols. Assumes nothing.
-use Rattle.std.proofs.Common.{refl, arith, rules}
+use Rattle.std.proofs.Common.{refl, arith}
 use Rattle.side.proofs.Symbols.{operator_short, operator_unknown, operator_known, variable_short, variable_known}
 use Rattle.side.proofs.read_symbol.Goals as goal
 

@@ -1,5 +1,5 @@
 -- `side::symbol_at` meets its contract, by the laws of There. Assumes nothing.
-use Rattle.std.proofs.Common.{arith, rules}
+use Rattle.std.proofs.Common.{arith}
 use Rattle.side.proofs.There.{stands_operator, stands_variable}
 use Rattle.side.proofs.symbol_at.Goals as goal
 

@@ -1,6 +1,5 @@
 -- `side::take` meets its contract, by the laws of Symbols. Assumes nothing.
 use Rattle.side.proofs.Symbols.{step_refused, step_operator, step_variable}
-use Rattle.std.proofs.Common.{rules}
 use Rattle.side.proofs.take.Goals as goal
 
 pub meet-requires : goal.meet-requires

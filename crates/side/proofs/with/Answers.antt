@@ -1,5 +1,5 @@
 -- `side::with` meets its contract: a bit that is not there fits. Assumes nothing.
-use Rattle.std.proofs.Common.{◌∙◌, one-mul, arith, shl_exact, rules}
+use Rattle.std.proofs.Common.{◌∙◌, one-mul, arith, shl_exact}
 use Rattle.side.proofs.Mask.{with_fits}
 use Rattle.side.proofs.with.Goals as goal
 

@@ -1,13 +1,12 @@
 -- Answers of `put_bytes`. Assumes nothing.
 use mathlib.Core.List.{List}
 use mathlib.Core.Path.{◌≡◌, refl, sym, ap, ◌∙◌}
-use Prim.Native.Nat.{ℕ, ◌+◌, ◌-◌, ◌≤◌}
+use Prim.Native.Nat.{ℕ, ◌+◌}
 use native.Mathlib.Numerals.{add-one}
 use native.Mathlib.Omega.{arith}
 use lib.ListN.{length, get_or, set, length-set}
 use lib.Seq.{paste, paste-zero, paste-suc}
 use Rattle.stream.proofs.Puts.{put_all}
-use borrow.Author.Rules.{rules}
 use Rattle.slots.proofs.put_bytes.Goals as goal
 
 pub loop-i-init : goal.loop-i-init

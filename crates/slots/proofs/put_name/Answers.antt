@@ -4,7 +4,6 @@ use lib.ListN.{length}
 use Rattle.stream.proofs.Numbers.{length_bytes}
 use Rattle.stream.proofs.Puts.{put_both}
 use Rattle.slots.proofs.Slots.{name_put}
-use borrow.Author.Rules.{rules}
 use Rattle.slots.proofs.put_name.Goals as goal
 
 pub put_bytes-b-requires : goal.put_bytes-b-requires

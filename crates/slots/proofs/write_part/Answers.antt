@@ -6,7 +6,6 @@ use Rattle.stream.proofs.Numbers.{length_bytes}
 use Rattle.stream.proofs.Puts.{put_both}
 use Rattle.point.specs.Saved.{arrays, saved}
 use Rattle.slots.proofs.Slots.{point_put}
-use borrow.Author.Rules.{rules}
 use Rattle.slots.proofs.write_part.Goals as goal
 
 pub put_number-b-requires : goal.put_number-b-requires

@@ -3,7 +3,6 @@ use native.Mathlib.Omega.{arith}
 use Rattle.point.specs.Saved.{arrays, saved}
 use Rattle.slots.specs.Slot.{point_bytes, slot_bytes}
 use Rattle.slots.proofs.Slots.{slot_put}
-use borrow.Author.Rules.{rules}
 use Rattle.slots.proofs.write_slot.Goals as goal
 
 pub returns : goal.returns

@@ -1,12 +1,11 @@
 -- Answers of `grow`. Assumes nothing.
 use mathlib.Core.List.{List}
 use mathlib.Core.Path.{◌≡◌, refl, ◌∙◌}
-use Prim.Native.Nat.{ℕ, ◌+◌, ◌-◌, ◌≤◌, ◌<◌}
+use Prim.Native.Nat.{ℕ, ◌+◌, ◌-◌, ◌<◌}
 use native.Mathlib.Decide.{ℕ_discrete}
 use native.Mathlib.Omega.{arith}
 use lib.ListN.{length, get_or, set, length-set}
 use lib.Seq.{get_or-set_same, get_or-set_other}
-use borrow.Author.Rules.{rules}
 use Rattle.splice.specs.Promises.{Regrown, GrownBefore}
 use Rattle.splice.proofs.grow.Invariants.{Passed}
 use Rattle.splice.proofs.grow.Goals as goal
@@ -28,8 +27,8 @@ passed_next {a} {e} {n = n} {i = i} {x} {xs} {ys} h p f g r =
     go j k (yes z) = rw (z, get_or-set_same ys i x 0 (let l = p.long in omega arith), ← p.behind i (omega arith)) (rw (f, g) at r)
     go j k (no z) = rw (get_or-set_other ys i j x 0 z) (p.before j (omega arith))
 
-all-passed : {a e n i : ℕ} {xs ys : List ℕ} → i ≡ a → Passed a e n i xs ys → GrownBefore a e n xs ys
-all-passed z p = record { before = λ j l. p.before j (omega arith); behind = λ j l. p.behind j (omega arith); long = p.long }
+all_passed : {a e n i : ℕ} {xs ys : List ℕ} → i ≡ a → Passed a e n i xs ys → GrownBefore a e n xs ys
+all_passed z p = record { before = λ j l. p.before j (omega arith); behind = λ j l. p.behind j (omega arith); long = p.long }
 
 pub loop-i-init : goal.loop-i-init
 loop-i-init c = (omega arith, refl, none_passed refl)
@@ -51,4 +50,4 @@ loop-i-preserved c =
     (omega arith, omega arith, passed_next (omega arith) l.invariant.2 l.invariant.1 (omega arith) c.regrown.ensures)
 
 pub returns : goal.returns
-returns c = all-passed (omega arith) c.loop-i.invariant.2
+returns c = all_passed (omega arith) c.loop-i.invariant.2

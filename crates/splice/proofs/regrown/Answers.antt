@@ -1,6 +1,5 @@
 -- `splice::regrown` meets its contract: the record takes the difference or stays. Assumes nothing.
 use native.Mathlib.Omega.{arith}
-use borrow.Author.Rules.{rules}
 use Rattle.splice.proofs.Growing.{takes, stays}
 use Rattle.splice.proofs.regrown.Goals as goal
 

@@ -1,6 +1,4 @@
 -- `splice::replace` meets its contract: in either case what stands behind is at its place, and the new part comes in front of it. Assumes nothing.
-use native.Mathlib.Omega.{arith}
-use borrow.Author.Rules.{rules}
 use Rattle.splice.proofs.Replacing.{Opened, opened, open_already, replaced}
 use Rattle.splice.proofs.replace.Goals as goal
 use Rattle.splice.proofs.replace.Goals.{then-a-n, else-a-n}
@@ -10,10 +8,10 @@ meet : (c : goal.After-copy-2) →
     Opened c.args.symbols.now c.args.part.now c.args.len c.args.a c.args.e c.args.n c.if-a-n.symbols c.if-a-n.part
 meet c =
     elim c.if-a-n.branch [
-        then-a-n w ↦
+      | then-a-n w ↦
           rw (w.symbols-is, w.part-is) (opened c.requires.0 c.requires.1 w.grow.ensures w.copy.ensures w.copy-then-a-n.ensures)
       | else-a-n w ↦ rw (w.symbols-is, w.part-is) (open_already c.requires.0 c.requires.1 w.if-a-n.false)
-      ]
+    ]
 
 pub returns : goal.returns
 returns c = replaced c.requires.0 c.requires.1 (meet c) c.copy-2.ensures

@@ -1,10 +1,7 @@
 -- Answers of `clear`. Assumes nothing.
-use mathlib.Core.Path.{◌≡◌, refl, sym, ◌∙◌}
-use Prim.Native.Nat.{◌+◌, ◌-◌, ◌≤◌}
+use mathlib.Core.Path.{refl, sym, ◌∙◌}
+use Prim.Native.Nat.{◌+◌, ◌-◌}
 use native.Mathlib.Omega.{arith}
-use lib.ListN.{replicate}
-use lib.Seq.{sets}
-use borrow.Author.Rules.{rules}
 use Rattle.strategy.proofs.Codes.{clear_more, clear_end}
 use Rattle.strategy.proofs.clear.Goals as goal
 

@@ -1,11 +1,8 @@
 -- `strategy::clear` meets its contract. The invariant: what is to be stored from the start on is what is left from i on. Assumes nothing.
-use mathlib.Core.Path.{◌≡◌, refl, sym, ◌∙◌}
-use Prim.Native.Nat.{◌+◌, ◌-◌, ◌≤◌}
-use native.Mathlib.Omega.{arith}
+use mathlib.Core.Path.{◌≡◌}
+use Prim.Native.Nat.{◌-◌, ◌≤◌}
 use lib.ListN.{replicate}
 use lib.Seq.{sets}
-use borrow.Author.Rules.{rules}
-use Rattle.strategy.proofs.Codes.{clear_more, clear_end}
 use Rattle.strategy.proofs.clear.Given as goal
 
 abbrev pub invariant-loop-i : goal.invariant-loop-i

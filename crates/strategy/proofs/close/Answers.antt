@@ -3,7 +3,6 @@ use mathlib.Core.Path.{refl}
 use Prim.Native.Nat.{◌+◌}
 use native.Mathlib.Omega.{arith}
 use lib.Seq.{drop-set-lt}
-use borrow.Author.Rules.{rules}
 use Rattle.strategy.proofs.Front.{close_none, close_one, close_more}
 use Rattle.strategy.proofs.close.Goals as goal
 

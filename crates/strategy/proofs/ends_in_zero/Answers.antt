@@ -1,5 +1,4 @@
 -- `strategy::ends_in_zero` meets its contract. Assumes nothing.
-use borrow.Author.Rules.{rules}
 use Rattle.strategy.proofs.Front.{ends_none, ends_last}
 use Rattle.strategy.proofs.ends_in_zero.Goals as goal
 

@@ -1,10 +1,6 @@
 -- Answers of `found`. Assumes nothing.
-use mathlib.Core.Path.{◌≡◌, refl, sym, ◌∙◌}
-use Prim.Native.Nat.{◌-◌, ◌≤◌}
+use mathlib.Core.Path.{refl, sym, ◌∙◌}
 use native.Mathlib.Omega.{arith}
-use lib.ListN.{take, drop}
-use Rattle.paper.specs.Strategy.{has}
-use borrow.Author.Rules.{rules}
 use Rattle.strategy.proofs.Front.{found_yes, found_more, found_end}
 use Rattle.strategy.proofs.found.Goals as goal
 

@@ -3,7 +3,6 @@ use mathlib.Core.Bool.{true, false}
 use mathlib.Core.Path.{refl, sym, ◌∙◌}
 use native.Mathlib.Omega.{arith}
 use lib.ListN.{get_or}
-use borrow.Author.Rules.{rules}
 use Rattle.strategy.proofs.Front.{keeping_zero, keeping_argument, keeping_open, keeping_close, kept_as, kept_same}
 use Rattle.strategy.proofs.keep.Goals as goal
 

@@ -1,6 +1,5 @@
 -- `strategy::lay_out` meets its contract, by the laws of Rows. Assumes nothing.
 use native.Mathlib.Omega.{arith}
-use borrow.Author.Rules.{rules}
 use Rattle.strategy.proofs.Rows.{short_codes, laid_out}
 use Rattle.strategy.proofs.lay_out.Goals as goal
 

@@ -1,7 +1,5 @@
 -- `strategy::place` meets its contract: an answer for each way through the match. Assumes nothing.
-use mathlib.Core.Logic.{⊎_elim}
 use native.Mathlib.Omega.{arith}
-use borrow.Author.Rules.{rules}
 use borrow.Author.Tests.{ne_eqb, lt-ltb, le-ltb}
 use Rattle.strategy.specs.Codes.{placing}
 use Rattle.strategy.proofs.place.Goals as goal
@@ -27,9 +25,9 @@ returns-after-grouped c =
     let v = c.args.v in
     simp (c.visit_code.ensures, ne_eqb v 0 (λ e. omega arith), lt-ltb v 8 (omega arith))
     (elim c.if-grouped.branch [
-        then-grouped+else-next-ne9 w ↦ rw (w.if-grouped.true, w.if-next-ne9.false)
+      | then-grouped+else-next-ne9 w ↦ rw (w.if-grouped.true, w.if-next-ne9.false)
       | else-grouped w ↦ rw w.if-grouped.false
-      ])
+    ])
 
 pub returns-in_default : goal.returns-in_default
 unfolding placing

@@ -3,7 +3,6 @@ use mathlib.Core.Path.{refl}
 use Prim.Native.Nat.{◌+◌}
 use native.Mathlib.Omega.{arith}
 use lib.Seq.{drop-set-lt}
-use borrow.Author.Rules.{rules}
 use Rattle.strategy.proofs.Front.{kept_push}
 use Rattle.strategy.proofs.push.Goals as goal
 

@@ -2,7 +2,6 @@
 use mathlib.Core.Path.{refl}
 use native.Mathlib.Omega.{arith}
 use borrow.Author.Tests.{ne_eqb}
-use borrow.Author.Rules.{rules}
 use Rattle.strategy.proofs.put_code.Goals as goal
 
 pub returns-then-code-eq0 : goal.returns-then-code-eq0

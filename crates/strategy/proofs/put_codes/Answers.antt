@@ -1,11 +1,8 @@
 -- Answers of `put_codes`. Assumes nothing.
-use mathlib.Core.Bool.{false}
 use mathlib.Core.Path.{refl}
-use Prim.Native.Nat.{◌+◌, ◌-◌, ◌≤◌}
+use Prim.Native.Nat.{◌+◌, ◌-◌}
 use native.Mathlib.Omega.{arith}
-use borrow.Author.Rules.{rules}
-use Rattle.strategy.specs.Codes.{codes}
-use Rattle.strategy.proofs.Codes.{CodesLeft, left_start, left_more, left_end, placed_forks}
+use Rattle.strategy.proofs.Codes.{left_start, left_more, left_end, placed_forks}
 use Rattle.strategy.proofs.put_codes.Goals as goal
 
 pub loop-i-init : goal.loop-i-init

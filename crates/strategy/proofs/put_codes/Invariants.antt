@@ -1,11 +1,8 @@
 -- `strategy::put_codes` meets its contract. The invariant: the codes left are to be stored from the present place on. Assumes nothing.
 use mathlib.Core.Bool.{false}
-use mathlib.Core.Path.{refl}
-use Prim.Native.Nat.{◌+◌, ◌-◌, ◌≤◌}
-use native.Mathlib.Omega.{arith}
-use borrow.Author.Rules.{rules}
+use Prim.Native.Nat.{◌-◌, ◌≤◌}
 use Rattle.strategy.specs.Codes.{codes}
-use Rattle.strategy.proofs.Codes.{CodesLeft, left_start, left_more, left_end, placed_forks}
+use Rattle.strategy.proofs.Codes.{CodesLeft}
 use Rattle.strategy.proofs.put_codes.Given as goal
 
 abbrev pub invariant-loop-i : goal.invariant-loop-i

@@ -1,12 +1,8 @@
 -- Answers of `put_default`. Assumes nothing.
-use mathlib.Core.List.{◌++◌}
-use mathlib.Core.Path.{◌≡◌, ◌∙◌}
-use Prim.Native.Nat.{◌+◌, ◌-◌, ◌≤◌}
+use mathlib.Core.Path.{◌∙◌}
+use Prim.Native.Nat.{◌+◌, ◌-◌}
 use native.Mathlib.Omega.{arith}
-use lib.ListN.{length, take, length-set}
-use borrow.Author.Rules.{rules}
-use Rattle.paper.specs.Strategy.{upward, default}
-use Rattle.paper.specs.Writer.{numbers}
+use lib.ListN.{length-set}
 use Rattle.strategy.proofs.Front.{default_more, default_end, default_start}
 use Rattle.strategy.proofs.put_default.Goals as goal
 

@@ -1,13 +1,10 @@
 -- `strategy::put_default` meets its contract. The invariant: the list is what is stored, and the numbers from the next on. Assumes nothing.
 use mathlib.Core.List.{◌++◌}
-use mathlib.Core.Path.{◌≡◌, ◌∙◌}
-use Prim.Native.Nat.{◌+◌, ◌-◌, ◌≤◌}
-use native.Mathlib.Omega.{arith}
-use lib.ListN.{length, take, length-set}
-use borrow.Author.Rules.{rules}
+use mathlib.Core.Path.{◌≡◌}
+use Prim.Native.Nat.{◌-◌, ◌≤◌}
+use lib.ListN.{length, take}
 use Rattle.paper.specs.Strategy.{upward, default}
 use Rattle.paper.specs.Writer.{numbers}
-use Rattle.strategy.proofs.Front.{default_more, default_end, default_start}
 use Rattle.strategy.proofs.put_default.Given as goal
 
 abbrev pub invariant-loop-i : goal.invariant-loop-i

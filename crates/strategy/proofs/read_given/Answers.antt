@@ -1,6 +1,5 @@
 -- `strategy::read_given` meets its contract, by the laws of Reading. Assumes nothing.
 use native.Mathlib.Omega.{arith}
-use borrow.Author.Rules.{rules}
 use Rattle.bits.proofs.Reading.{got, got_as, ran_out}
 use Rattle.strategy.proofs.Reading.{read_given_out, read_given_refused, read_given_read}
 use Rattle.strategy.proofs.read_given.Goals as goal

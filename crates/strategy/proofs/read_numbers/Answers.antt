@@ -1,15 +1,11 @@
 -- Answers of `read_numbers`. Assumes nothing.
-use mathlib.Core.Bool.{false}
-use mathlib.Core.Path.{◌≡◌, sym, ◌∙◌}
-use Prim.Native.Nat.{◌+◌, ◌-◌, ◌≤◌}
+use mathlib.Core.Path.{sym, ◌∙◌}
+use Prim.Native.Nat.{◌+◌, ◌-◌}
 use native.Mathlib.Omega.{arith}
-use lib.ListN.{length, take, drop, length-set}
-use borrow.Author.Rules.{rules}
+use lib.ListN.{length-set}
 use Rattle.paper.specs.Result.{return}
-use Rattle.paper.specs.Bits.{bits_of}
-use Rattle.paper.specs.Reader.{read_numbers}
 use Rattle.bits.proofs.Reading.{got, got_as, ran_out}
-use Rattle.strategy.proofs.Reading.{prepend, numbers_start, numbers_out, numbers_fault, numbers_go, numbers_more, numbers_end}
+use Rattle.strategy.proofs.Reading.{numbers_start, numbers_out, numbers_fault, numbers_go, numbers_more, numbers_end}
 use Rattle.strategy.proofs.read_numbers.Goals as goal
 
 pub loop-k-init : goal.loop-k-init

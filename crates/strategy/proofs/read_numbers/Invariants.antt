@@ -1,16 +1,12 @@
 -- `strategy::read_numbers` meets its contract. The invariant: reading the whole is reading what is left, with what is stored in front.
 -- Assumes nothing.
 use mathlib.Core.Bool.{false}
-use mathlib.Core.Path.{◌≡◌, sym, ◌∙◌}
-use Prim.Native.Nat.{◌+◌, ◌-◌, ◌≤◌}
-use native.Mathlib.Omega.{arith}
-use lib.ListN.{length, take, drop, length-set}
-use borrow.Author.Rules.{rules}
-use Rattle.paper.specs.Result.{return}
+use mathlib.Core.Path.{◌≡◌}
+use Prim.Native.Nat.{◌-◌, ◌≤◌}
+use lib.ListN.{length, take, drop}
 use Rattle.paper.specs.Bits.{bits_of}
 use Rattle.paper.specs.Reader.{read_numbers}
-use Rattle.bits.proofs.Reading.{got, got_as, ran_out}
-use Rattle.strategy.proofs.Reading.{prepend, numbers_start, numbers_out, numbers_fault, numbers_go, numbers_more, numbers_end}
+use Rattle.strategy.proofs.Reading.{prepend}
 use Rattle.strategy.proofs.read_numbers.Given as goal
 
 abbrev pub invariant-loop-k : goal.invariant-loop-k

@@ -1,6 +1,5 @@
 -- `strategy::read_strategy` meets its contract, by the laws of Reading. Assumes nothing.
 use native.Mathlib.Omega.{arith}
-use borrow.Author.Rules.{rules}
 use Rattle.bits.proofs.Reading.{got, ran_out}
 use Rattle.strategy.proofs.Reading.{read_out, read_default, read_list}
 use Rattle.strategy.proofs.read_strategy.Goals as goal

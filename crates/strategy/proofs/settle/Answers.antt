@@ -1,11 +1,7 @@
 -- Answers of `settle`. Assumes nothing.
-use mathlib.Core.List.{[]}
-use mathlib.Core.Path.{◌≡◌, refl, ◌∙◌}
-use Prim.Native.Nat.{◌+◌, ◌-◌, ◌≤◌}
+use mathlib.Core.Path.{refl, ◌∙◌}
+use Prim.Native.Nat.{◌+◌}
 use native.Mathlib.Omega.{arith}
-use lib.ListN.{length, take, drop}
-use borrow.Author.Rules.{rules}
-use Rattle.strategy.specs.Settling.{settling}
 use Rattle.strategy.proofs.Front.{settling_more, settling_end, kept_same, same_at, same_from}
 use Rattle.strategy.proofs.settle.Goals as goal
 

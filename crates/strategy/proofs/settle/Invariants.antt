@@ -1,12 +1,9 @@
 -- `strategy::settle` meets its contract. The invariant: settling the whole is settling what is left, behind what is kept. Assumes nothing.
 use mathlib.Core.List.{[]}
-use mathlib.Core.Path.{◌≡◌, refl, ◌∙◌}
-use Prim.Native.Nat.{◌+◌, ◌-◌, ◌≤◌}
-use native.Mathlib.Omega.{arith}
+use mathlib.Core.Path.{◌≡◌}
+use Prim.Native.Nat.{◌-◌, ◌≤◌}
 use lib.ListN.{length, take, drop}
-use borrow.Author.Rules.{rules}
 use Rattle.strategy.specs.Settling.{settling}
-use Rattle.strategy.proofs.Front.{settling_more, settling_end, kept_same, same_at, same_from}
 use Rattle.strategy.proofs.settle.Given as goal
 
 abbrev pub invariant-loop-i : goal.invariant-loop-i

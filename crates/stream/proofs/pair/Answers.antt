@@ -1,7 +1,6 @@
 -- `stream::pair` meets its contract, by the law of two bytes. Assumes nothing.
 use native.Mathlib.Omega.{arith}
 use Rattle.stream.proofs.Numbers.{number_two}
-use borrow.Author.Rules.{rules}
 use Rattle.stream.proofs.pair.Goals as goal
 
 pub returns : goal.returns

@@ -2,7 +2,6 @@
 use mathlib.Core.Path.{refl}
 use native.Mathlib.Omega.{arith}
 use Rattle.stream.proofs.Parts.{counted_none, counted_few, counted_at}
-use borrow.Author.Rules.{rules}
 use Rattle.stream.proofs.part_end.Goals as goal
 
 pub returns-then-input-at-lt2 : goal.returns-then-input-at-lt2

@@ -1,10 +1,9 @@
 -- Answers of `put_number`. Assumes nothing.
-use Rattle.stream.proofs.Puts.{with_bytes, byte_more, put_bytes}
-use mathlib.Core.Path.{◌≡◌, refl, ◌∙◌}
-use Prim.Native.Nat.{◌-◌, ◌≤◌}
+use Rattle.stream.proofs.Puts.{byte_more, put_bytes}
+use mathlib.Core.Path.{refl, ◌∙◌}
+use Prim.Native.Nat.{◌-◌}
 use native.Mathlib.Omega.{arith}
-use lib.ListN.{length, length-set}
-use borrow.Author.Rules.{rules}
+use lib.ListN.{length-set}
 use Rattle.stream.proofs.put_number.Goals as goal
 
 pub loop-i-init : goal.loop-i-init

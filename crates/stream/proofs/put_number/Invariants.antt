@@ -1,11 +1,9 @@
 -- `stream::put_number` meets its contract. The loop's invariant: with the first i bytes, which are those of what is left, the output has them all. The
 -- measure is i. Assumes nothing.
-use Rattle.stream.proofs.Puts.{with_bytes, byte_more, put_bytes}
-use mathlib.Core.Path.{◌≡◌, refl, ◌∙◌}
-use Prim.Native.Nat.{◌-◌, ◌≤◌}
-use native.Mathlib.Omega.{arith}
-use lib.ListN.{length, length-set}
-use borrow.Author.Rules.{rules}
+use Rattle.stream.proofs.Puts.{with_bytes}
+use mathlib.Core.Path.{◌≡◌}
+use Prim.Native.Nat.{◌≤◌}
+use lib.ListN.{length}
 use Rattle.stream.proofs.put_number.Given as goal
 
 abbrev pub invariant-loop-i : goal.invariant-loop-i

@@ -1,11 +1,6 @@
 -- Answers of `all_linear`. Assumes nothing.
-use mathlib.Core.Path.{◌≡◌, refl, sym, ◌∙◌}
-use Prim.Native.Nat.{◌-◌}
+use mathlib.Core.Path.{refl, sym, ◌∙◌}
 use native.Mathlib.Omega.{arith}
-use lib.ListN.{drop}
-use borrow.Author.Rules.{rules}
-use Rattle.paper.specs.Strict.{all_linear}
-use Rattle.tables.specs.Tables.{book_of}
 use Rattle.strict.proofs.Books.{linear_read}
 use Rattle.strict.proofs.Rules.{linear_next, linear_stops, linear_ends}
 use Rattle.strict.proofs.all_linear.Goals as goal

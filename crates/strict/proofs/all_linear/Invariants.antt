@@ -1,14 +1,9 @@
 -- `strict::all_linear` meets its contract. The loop's invariant: the rules from i on decide. The measure is how many are left. Assumes nothing.
-use mathlib.Core.Path.{◌≡◌, refl, sym, ◌∙◌}
+use mathlib.Core.Path.{◌≡◌}
 use Prim.Native.Nat.{◌-◌}
-use native.Mathlib.Omega.{arith}
 use lib.ListN.{drop}
-use borrow.Author.Rules.{rules}
-use borrow.Author.Tests.{not-true, not-false}
 use Rattle.paper.specs.Strict.{all_linear}
 use Rattle.tables.specs.Tables.{book_of}
-use Rattle.strict.proofs.Books.{linear_read}
-use Rattle.strict.proofs.Rules.{linear_next, linear_stops, linear_ends}
 use Rattle.strict.proofs.all_linear.Given as goal
 
 abbrev pub invariant-loop-i : goal.invariant-loop-i

@@ -1,10 +1,8 @@
 -- Answers of `first_pair`. Assumes nothing.
 use mathlib.Core.Path.{refl}
-use Prim.Native.Nat.{◌-◌}
 use native.Mathlib.Omega.{arith}
-use borrow.Author.Rules.{rules}
 use Rattle.paper.specs.Strict.{overlap_of}
-use Rattle.strict.proofs.Rules.{Decides, decides_next, pair_first, pair_none}
+use Rattle.strict.proofs.Rules.{decides_next, pair_first, pair_none}
 use Rattle.strict.proofs.first_pair.Goals as goal
 
 pub loop-i-init : goal.loop-i-init

@@ -1,10 +1,6 @@
 -- `strict::first_pair` meets its contract. The loop's invariant: the rules from i on decide. The measure is how many are left. Assumes nothing.
-use mathlib.Core.Path.{refl}
 use Prim.Native.Nat.{◌-◌}
-use native.Mathlib.Omega.{arith}
-use borrow.Author.Rules.{rules}
-use Rattle.paper.specs.Strict.{overlap_of}
-use Rattle.strict.proofs.Rules.{Decides, decides_next, pair_first, pair_none}
+use Rattle.strict.proofs.Rules.{Decides}
 use Rattle.strict.proofs.first_pair.Given as goal
 
 abbrev pub invariant-loop-i : goal.invariant-loop-i

@@ -1,13 +1,10 @@
 -- Answers of `has_constant`. Assumes nothing.
 use mathlib.Core.List.{List}
 use mathlib.Core.Path.{◌≡◌, refl, sym, ap, ◌∙◌}
-use Prim.Native.Nat.{ℕ, ◌-◌, ◌<◌}
+use Prim.Native.Nat.{ℕ, ◌<◌}
 use native.Mathlib.Omega.{arith}
-use lib.ListN.{drop}
-use borrow.Author.Rules.{rules}
 use borrow.Author.Tests.{eq-eqb, ne_eqb}
 use Rattle.paper.specs.Book.{Operator, arity_at}
-use Rattle.paper.specs.Strict.{has_constant}
 use Rattle.side.specs.Promises.{AritiesIn}
 use Rattle.tables.specs.Layout.{arity_in}
 use Rattle.strict.proofs.Rules.{constant_next, constant_found, constant_none}

@@ -1,11 +1,7 @@
 -- Answers of `is_linear`. Assumes nothing.
-use mathlib.Core.Bool.{Bool}
 use mathlib.Core.Logic.{inl, inr}
 use mathlib.Core.Path.{refl}
-use Prim.Native.Nat.{◌+◌, ◌*◌, ◌≤◌}
 use native.Mathlib.Omega.{arith}
-use borrow.Author.Rules.{rules}
-use Rattle.strict.specs.Promises.{RestLinear}
 use Rattle.strict.proofs.Sides.{ended, stopped, went, side_linear}
 use Rattle.strict.proofs.is_linear.Goals as goal
 

@@ -1,13 +1,7 @@
 -- `strict::is_linear` meets its contract: an answer for the symbols to come is one for all. Assumes nothing.
 use mathlib.Core.Bool.{Bool}
-use mathlib.Core.Logic.{inl, inr}
-use mathlib.Core.Path.{refl}
 use Prim.Native.Nat.{◌+◌, ◌*◌, ◌≤◌}
-use native.Mathlib.Omega.{arith}
-use borrow.Author.Rules.{rules}
-use borrow.Author.Tests.{ltb-true, ltb-false}
 use Rattle.strict.specs.Promises.{RestLinear}
-use Rattle.strict.proofs.Sides.{ended, stopped, went, side_linear}
 use Rattle.strict.proofs.is_linear.Given as goal
 
 abbrev pub invariant-loop-due : goal.invariant-loop-due

@@ -1,6 +1,5 @@
 -- `strict::judge` meets its contract: an undated book's verdict, test by test. Assumes nothing.
 use mathlib.Core.Path.{sym, ◌∙◌}
-use borrow.Author.Rules.{rules}
 use Rattle.strict.proofs.Books.{arities_in, said_repeated, said_constantless, said_pair}
 use Rattle.strict.proofs.judge.Goals as goal
 

@@ -1,6 +1,5 @@
 -- `strict::judge_short` meets its contract: the book's own refusal, 24 for a dated book, the verdict of an undated one. Assumes nothing.
 use mathlib.Core.Path.{sym, ◌∙◌}
-use borrow.Author.Rules.{rules}
 use Rattle.paper.proofs.Strict.{strict_own}
 use Rattle.strict.proofs.Books.{dated_told, undated_read, undated_told}
 use Rattle.strict.proofs.judge_short.Goals as goal

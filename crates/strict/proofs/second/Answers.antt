@@ -1,15 +1,7 @@
 -- Answers of `second`. Assumes nothing.
-use mathlib.Core.List.{List}
 use mathlib.Core.Bool.{not}
-use mathlib.Core.Path.{◌≡◌, refl, sym, ap, ◌∙◌}
-use Prim.Native.Nat.{◌+◌, ◌-◌, ◌<◌}
+use mathlib.Core.Path.{refl, sym, ap, ◌∙◌}
 use native.Mathlib.Omega.{arith}
-use lib.ListN.{length, drop}
-use borrow.Author.Rules.{rules}
-use Rattle.paper.specs.Book.{Rule}
-use Rattle.paper.specs.Strict.{overlap_with}
-use Rattle.tables.specs.Tables.{rule_at}
-use Rattle.apart.specs.Rows.{Rows}
 use Rattle.strict.proofs.Rules.{compatible_by, with_next, with_found, with_none}
 use Rattle.strict.proofs.second.Goals as goal
 

@@ -1,15 +1,12 @@
 -- `strict::second` meets its contract. The loop's invariant: the rules from j on decide. The measure is how many are left. Assumes nothing.
 use mathlib.Core.List.{List}
-use mathlib.Core.Path.{◌≡◌, refl, sym, ◌∙◌}
+use mathlib.Core.Path.{◌≡◌}
 use Prim.Native.Nat.{◌+◌, ◌-◌, ◌<◌}
-use native.Mathlib.Omega.{arith}
 use lib.ListN.{length, drop}
-use borrow.Author.Rules.{rules}
 use Rattle.paper.specs.Book.{Rule}
 use Rattle.paper.specs.Strict.{overlap_with}
 use Rattle.tables.specs.Tables.{rule_at}
 use Rattle.apart.specs.Rows.{Rows}
-use Rattle.strict.proofs.Rules.{compatible_by, with_next, with_found, with_none}
 use Rattle.strict.proofs.second.Given as goal
 
 abbrev pub invariant-loop-j : goal.invariant-loop-j

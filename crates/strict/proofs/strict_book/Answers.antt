@@ -1,7 +1,6 @@
 -- `strict::strict_book` meets its contract: what stands behind a book's first 65,536 bytes is not looked at. Assumes nothing.
 use mathlib.Core.Path.{◌∙◌}
 use native.Mathlib.Omega.{arith}
-use borrow.Author.Rules.{rules}
 use Rattle.strict.proofs.Books.{strict_prefix}
 use Rattle.strict.proofs.strict_book.Goals as goal
 

@@ -1,6 +1,5 @@
 -- `strict::take` meets its contract, by the laws of Sides. Assumes nothing.
 use mathlib.Core.Path.{sym, ◌∙◌}
-use borrow.Author.Rules.{rules}
 use Rattle.side.proofs.Mask.{bit_clear}
 use Rattle.strict.proofs.Sides.{took_operator, took_variable, met_again}
 use Rattle.strict.proofs.take.Goals as goal

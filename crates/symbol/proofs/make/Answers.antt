@@ -1,6 +1,5 @@
 -- `symbol::make` meets its contract. Assumes nothing.
 use native.Mathlib.Omega.{arith}
-use borrow.Author.Rules.{rules}
 use Rattle.symbol.specs.Record.{operator, size}
 use Rattle.symbol.proofs.Record.{unmarked_bit}
 use Rattle.symbol.proofs.make.Goals as goal

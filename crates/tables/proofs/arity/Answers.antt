@@ -1,7 +1,6 @@
 -- `tables::arity` meets its contract. Assumes nothing.
 use mathlib.Core.Path.{◌∙◌, ap}
 use Prim.Native.Nat.{ℕ}
-use borrow.Author.Rules.{rules}
 use Rattle.tables.specs.Layout.{arity_in}
 use Rattle.tables.proofs.arity.Goals as goal
 

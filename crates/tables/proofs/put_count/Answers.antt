@@ -1,5 +1,4 @@
 -- `tables::put_count` meets its contract. Assumes nothing.
-use borrow.Author.Rules.{rules}
 use Rattle.tables.proofs.put_count.Goals as goal
 
 pub returns : goal.returns

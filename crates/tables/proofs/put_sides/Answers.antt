@@ -1,5 +1,4 @@
 -- `tables::put_sides` meets its contract. Assumes nothing.
-use borrow.Author.Rules.{rules}
 use Rattle.tables.proofs.put_sides.Goals as goal
 
 pub returns : goal.returns

@@ -1,6 +1,5 @@
 -- `tables::step_at` meets its contract. Assumes nothing.
 use mathlib.Core.Path.{sym}
-use borrow.Author.Rules.{rules}
 use Rattle.tables.proofs.step_at.Goals as goal
 
 pub returns : goal.returns

@@ -1,11 +1,10 @@
 -- Answers of `argument`. Assumes nothing.
 use mathlib.Core.List.{List}
-use mathlib.Core.Path.{◌≡◌, refl, sym, ◌∙◌}
-use Prim.Native.Nat.{ℕ, ◌+◌, ◌-◌, ◌<◌}
+use mathlib.Core.Path.{refl, sym, ◌∙◌}
+use Prim.Native.Nat.{ℕ, ◌<◌}
 use native.Mathlib.Omega.{arith}
-use lib.ListN.{length, get_or, length-map}
+use lib.ListN.{length, length-map}
 use borrow.Author.Rules.{rules}
-use Rattle.flat.specs.Sizes.{hop}
 use Rattle.symbol.specs.Record.{sizes}
 use Rattle.term.specs.Present.{Hops}
 use Rattle.term.proofs.Hopping.{hop_none, hops_first, passed}

@@ -1,14 +1,9 @@
 -- `term::argument` meets its contract: what is left to pass leads to where all leads. Assumes nothing.
-use mathlib.Core.List.{List}
-use mathlib.Core.Path.{◌≡◌, refl, sym, ◌∙◌}
-use Prim.Native.Nat.{ℕ, ◌+◌, ◌-◌, ◌<◌}
-use native.Mathlib.Omega.{arith}
-use lib.ListN.{length, get_or, length-map}
-use borrow.Author.Rules.{rules}
+use mathlib.Core.Path.{◌≡◌}
+use Prim.Native.Nat.{◌+◌}
 use Rattle.flat.specs.Sizes.{hop}
 use Rattle.symbol.specs.Record.{sizes}
 use Rattle.term.specs.Present.{Hops}
-use Rattle.term.proofs.Hopping.{hop_none, hops_first, passed}
 use Rattle.term.proofs.argument.Given as goal
 
 abbrev pub invariant-loop-left : goal.invariant-loop-left

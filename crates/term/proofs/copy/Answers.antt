@@ -6,7 +6,6 @@ use native.Mathlib.Omega.{arith}
 use native.Mathlib.Numerals.{add-one}
 use lib.ListN.{length, drop, length-drop}
 use lib.Seq.{paste, paste-zero, paste-suc, length-paste, get_or-drop}
-use borrow.Author.Rules.{rules}
 use Rattle.term.specs.Promises.{Pasted}
 use Rattle.term.proofs.copy.Goals as goal
 

@@ -1,13 +1,8 @@
 -- `term::copy` meets its contract: so far the first j are copied. Assumes nothing.
-use mathlib.Core.List.{List}
-use mathlib.Core.Path.{◌≡◌, ap, ◌∙◌}
-use Prim.Native.Nat.{ℕ, ◌+◌, ◌-◌, ◌≤◌}
-use native.Mathlib.Omega.{arith}
-use native.Mathlib.Numerals.{add-one}
-use lib.ListN.{length, drop, length-drop}
-use lib.Seq.{paste, paste-zero, paste-suc, length-paste, get_or-drop}
-use borrow.Author.Rules.{rules}
-use Rattle.term.specs.Promises.{Pasted}
+use mathlib.Core.Path.{◌≡◌}
+use Prim.Native.Nat.{◌-◌, ◌≤◌}
+use lib.ListN.{drop}
+use lib.Seq.{paste}
 use Rattle.term.proofs.copy.Given as goal
 
 abbrev pub invariant-loop-j : goal.invariant-loop-j

@@ -8,7 +8,6 @@ use native.Mathlib.Nat.{eq-or-lt_of_le}
 use native.Mathlib.Omega.{arith}
 use lib.ListN.{length, get_or, take, drop, set, length-map, length-set, get_or-map}
 use lib.Seq.{length-take-le, get_or-take, get_or-set_same, get_or-set_other, ext_get_or}
-use borrow.Author.Rules.{rules}
 use Rattle.flat.specs.Symbols.{skip}
 use Rattle.flat.specs.Rules.{spells}
 use Rattle.flat.specs.Sizes as flat
@@ -19,7 +18,7 @@ use Rattle.tables.specs.Layout.{arity_in}
 use Rattle.term.specs.Present.{Hops}
 use Rattle.term.specs.Promises.{Loaded}
 use Rattle.term.proofs.Hopping.{hops_arguments, hop_end_is, first_inside}
-use Rattle.term.proofs.load.Invariants.{Put, Put-from}
+use Rattle.term.proofs.load.Invariants.{Put, PutFrom}
 use Rattle.term.proofs.load.Goals as goal
 
 -- the arguments of the operator o at offset k can be passed, and then its size is known; the first, if any, was put
@@ -31,7 +30,7 @@ record Ready (ar : ℕ → ℕ) (line : List ℕ) (n : ℕ) (symbols : List ℕ)
 
 module _ (ar : ℕ → ℕ) (line : List ℕ) (n : ℕ) (long : length line ≡ 1024) (few : n ≤ 1024) (term : spells ar 1 (take n line) ≡ true) where
   -- the symbol before offset i is next
-  ready : (symbols : List ℕ) (i : ℕ) → length symbols ≡ 1024 → 0 < i → i ≤ n → Put-from ar line n symbols i →
+  ready : (symbols : List ℕ) (i : ℕ) → length symbols ≡ 1024 → 0 < i → i ≤ n → PutFrom ar line n symbols i →
       Ready ar line n symbols (i - 1) (get_or line (i - 1) 0)
   ready symbols i l z h put =
       let xs = take n line in
@@ -52,17 +51,17 @@ module _ (ar : ℕ → ℕ) (line : List ℕ) (n : ℕ) (long : length line ≡ 
       }
 
   put_next : (symbols : List ℕ) (i x z : ℕ) → length symbols ≡ 1024 → 0 < i → i ≤ n → operator x ≡ get_or line (i - 1) 0 → size x ≡ z → marked x ≡ false →
-      z ≡ flat.hop (sizes symbols) (ar (get_or line (i - 1) 0)) (i - 1 + 1) - (i - 1) → Put-from ar line n symbols i →
-      Put-from ar line n (set symbols (i - 1) x) (i - 1)
+      z ≡ flat.hop (sizes symbols) (ar (get_or line (i - 1) 0)) (i - 1 + 1) - (i - 1) → PutFrom ar line n symbols i →
+      PutFrom ar line n (set symbols (i - 1) x) (i - 1)
   put_next symbols i x z l p h o w v e put j a b = go (eq-or-lt_of_le a)
     where
       go : (i - 1 ≡ j) ⊎ (i - 1 < j) → Put ar line n j (get_or (set symbols (i - 1) x) j 0)
       go (inl f) = rw (← f, get_or-set_same symbols (i - 1) x 0 (omega arith)) (o, w ∙ e ∙ (ready symbols i l p h put).size_is, v)
       go (inr f) = rw (get_or-set_other symbols (i - 1) j x 0 (λ g. omega arith)) (put j (omega arith) b)
 
-  all-put : (symbols : List ℕ) (i : ℕ) → length symbols ≡ 1024 → i ≡ 0 → Put-from ar line n symbols i →
+  all_put : (symbols : List ℕ) (i : ℕ) → length symbols ≡ 1024 → i ≡ 0 → PutFrom ar line n symbols i →
       Loaded ar (take n line) (map (λ o. false) (take n line)) n symbols
-  all-put symbols i l z put =
+  all_put symbols i l z put =
       let b : length (take n line) ≡ n = length-take-le n line (omega arith) in
       let f : length (operators (take n symbols)) ≡ n = front_length operator n symbols (omega arith) in
       let m : length (marks (take n symbols)) ≡ n = front_length marked n symbols (omega arith) in
@@ -124,4 +123,4 @@ loop-i-preserved c =
 pub returns : goal.returns
 returns c =
     let l = c.loop-i in
-    all-put (arity_in c.args.operators.now) _ _ c.requires.1 c.requires.2 c.requires.3 _ l.i l.invariant.1 (omega arith) l.invariant.2
+    all_put (arity_in c.args.operators.now) _ _ c.requires.1 c.requires.2 c.requires.3 _ l.i l.invariant.1 (omega arith) l.invariant.2

@@ -5,7 +5,6 @@ use mathlib.Core.Path.{◌≡◌, ap, ◌∙◌}
 use Prim.Native.Nat.{ℕ}
 use lib.ListN.{get_or, set, length-set}
 use lib.Seq.{map-set_same}
-use borrow.Author.Rules.{rules}
 use Rattle.symbol.specs.Record.{operator, marked, size, marks}
 use Rattle.symbol.proofs.Record.{map_set}
 use Rattle.term.specs.Promises.{MarkedAt}

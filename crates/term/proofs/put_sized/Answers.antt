@@ -1,9 +1,8 @@
 -- `term::put_sized` meets its contract: the size goes from the operator to where its last argument ends. Assumes nothing.
 use mathlib.Core.Path.{refl, ap, ◌∙◌}
-use Prim.Native.Nat.{ℕ, ◌+◌, ◌-◌}
+use Prim.Native.Nat.{ℕ, ◌+◌}
 use native.Mathlib.Omega.{arith}
 use lib.ListN.{length-set}
-use borrow.Author.Rules.{rules}
 use Rattle.flat.specs.Sizes.{hop}
 use Rattle.flat.proofs.Sizes.{hop_least}
 use Rattle.symbol.specs.Record.{sizes}

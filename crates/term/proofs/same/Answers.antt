@@ -7,17 +7,16 @@ use native.Mathlib.Numerals.{add-one}
 use native.Mathlib.Omega.{arith}
 use lib.ListN.{length, get_or, take, drop, length-take, length-drop}
 use lib.Seq.{take-suc, get_or-take, get_or-drop}
-use borrow.Author.Rules.{rules}
 use Rattle.paper.proofs.Operators.{same_true, same_false}
 use Rattle.symbol.specs.Record.{operator, operators}
 use Rattle.symbol.proofs.Record.{front_length, operator_front}
 use Rattle.term.specs.Promises.{Compared}
-use Rattle.term.proofs.same.Invariants.{Equal-before}
+use Rattle.term.proofs.same.Invariants.{EqualBefore}
 use Rattle.term.proofs.same.Goals as goal
 
 module _ (xs : List ℕ) (a b : ℕ) where
   -- an equal symbol is passed
-  equal_next : (i : ℕ) → a + i < length xs → b + i < length xs → get_or xs (a + i) 0 ≡ get_or xs (b + i) 0 → Equal-before xs a b i → Equal-before xs a b (i + 1)
+  equal_next : (i : ℕ) → a + i < length xs → b + i < length xs → get_or xs (a + i) 0 ≡ get_or xs (b + i) 0 → EqualBefore xs a b i → EqualBefore xs a b (i + 1)
   equal_next i k l e h =
       rw (
         add-one i,
@@ -30,7 +29,7 @@ module _ (xs : List ℕ) (a b : ℕ) where
       )
 
   -- all n symbols are passed
-  all_equal : (n i : ℕ) → i ≡ n → Equal-before xs a b i → Compared xs a b n true
+  all_equal : (n i : ℕ) → i ≡ n → EqualBefore xs a b i → Compared xs a b n true
   all_equal n i e h = record { is = sym (same_true _ _ (rw e at h)) }
 
   -- a symbol of the n differs

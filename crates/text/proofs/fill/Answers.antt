@@ -1,10 +1,7 @@
 -- Answers of `fill`. Assumes nothing.
-use Prim.Native.Nat.{◌-◌}
 use native.Mathlib.Omega.{arith}
-use lib.ListN.{length}
-use borrow.Author.Rules.{rules}
 use mathlib.Core.Path.{sym, ◌∙◌}
-use Rattle.text.proofs.Pass.{Passed, passed_none, passed_all, passed_separator, passed_letter, passed_over}
+use Rattle.text.proofs.Pass.{passed_none, passed_all, passed_separator, passed_letter, passed_over}
 use Rattle.text.proofs.fill.Goals as goal
 
 pub loop-i-init : goal.loop-i-init

@@ -1,10 +1,6 @@
 -- Answers of `has_classes`. Assumes nothing.
-use mathlib.Core.Path.{◌≡◌, sym, ◌∙◌}
-use Prim.Native.Nat.{◌-◌, ◌≤◌, ◌<◌}
+use mathlib.Core.Path.{sym, ◌∙◌}
 use native.Mathlib.Omega.{arith}
-use borrow.Author.Rules.{rules}
-use Rattle.paper.specs.Text.{one_argument, has_classes}
-use Rattle.tables.specs.Layout.{arity_in}
 use Rattle.text.proofs.Operators.{few, end_other, end_none, class_other, class_one, class_all}
 use Rattle.text.proofs.has_classes.Goals as goal
 

@@ -1,11 +1,8 @@
 -- `text::has_classes` meets its contract: operators 0 to 42 have their arities if those from o on have. Assumes nothing.
-use mathlib.Core.Path.{◌≡◌, sym, ◌∙◌}
+use mathlib.Core.Path.{◌≡◌}
 use Prim.Native.Nat.{◌-◌, ◌≤◌, ◌<◌}
-use native.Mathlib.Omega.{arith}
-use borrow.Author.Rules.{rules}
 use Rattle.paper.specs.Text.{one_argument, has_classes}
 use Rattle.tables.specs.Layout.{arity_in}
-use Rattle.text.proofs.Operators.{few, end_other, end_none, class_other, class_one, class_all}
 use Rattle.text.proofs.has_classes.Given as goal
 
 abbrev pub invariant-loop-o : goal.invariant-loop-o

@@ -1,7 +1,6 @@
 -- `units::arrive` meets its contract: the count is now 0, or it isn't. Assumes nothing.
 use mathlib.Core.Path.{◌∙◌}
 use native.Mathlib.Omega.{arith}
-use borrow.Author.Rules.{rules}
 use Rattle.units.proofs.Changes.{arrive_last, arrive_more}
 use Rattle.units.proofs.arrive.Goals as goal
 

@@ -1,11 +1,6 @@
 -- Answers of `first_idle`. Assumes nothing.
-use mathlib.Core.List.{List}
-use mathlib.Core.Path.{◌≡◌, refl, sym, ◌∙◌}
-use Prim.Native.Nat.{ℕ, ◌-◌}
+use mathlib.Core.Path.{refl, sym, ◌∙◌}
 use native.Mathlib.Omega.{arith}
-use borrow.Author.Rules.{rules}
-use Rattle.flat.specs.Machine.{first_idle, first_from}
-use Rattle.units.specs.Stacks.{units_from, units_of}
 use Rattle.units.proofs.Loops.{first_start, first_next, first_here, first_none}
 use Rattle.units.proofs.first_idle.Goals as goal
 

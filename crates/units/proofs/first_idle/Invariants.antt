@@ -1,12 +1,9 @@
 -- `units::first_idle` meets its contract: the loop's invariant: the whole search gives what the search from unit u gives. Assumes nothing.
 use mathlib.Core.List.{List}
-use mathlib.Core.Path.{◌≡◌, refl, sym, ◌∙◌}
+use mathlib.Core.Path.{◌≡◌}
 use Prim.Native.Nat.{ℕ, ◌-◌}
-use native.Mathlib.Omega.{arith}
-use borrow.Author.Rules.{rules}
 use Rattle.flat.specs.Machine.{first_idle, first_from}
 use Rattle.units.specs.Stacks.{units_from, units_of}
-use Rattle.units.proofs.Loops.{first_start, first_next, first_here, first_none}
 use Rattle.units.proofs.first_idle.Given as goal
 
 abbrev pub invariant-loop-v : goal.invariant-loop-v

@@ -1,11 +1,8 @@
 -- Answers of `idle_count`. Assumes nothing.
-use mathlib.Core.List.{List}
-use mathlib.Core.Path.{◌≡◌, ap, ◌∙◌}
-use Prim.Native.Nat.{ℕ, ◌+◌, ◌-◌, ◌≤◌}
+use mathlib.Core.Path.{ap, ◌∙◌}
+use Prim.Native.Nat.{ℕ, ◌+◌}
 use native.Mathlib.Omega.{arith}
-use borrow.Author.Rules.{rules}
 use Rattle.flat.specs.Machine.{idle_count}
-use Rattle.units.specs.Stacks.{units_from}
 use Rattle.units.proofs.Loops.{units_all, count_none, count_idle, count_busy}
 use Rattle.units.proofs.idle_count.Goals as goal
 

@@ -1,12 +1,9 @@
 -- `units::idle_count` meets its contract: the loop's invariant: so many of the units from v up are idle. Assumes nothing.
 use mathlib.Core.List.{List}
-use mathlib.Core.Path.{◌≡◌, ap, ◌∙◌}
+use mathlib.Core.Path.{◌≡◌}
 use Prim.Native.Nat.{ℕ, ◌+◌, ◌-◌, ◌≤◌}
-use native.Mathlib.Omega.{arith}
-use borrow.Author.Rules.{rules}
 use Rattle.flat.specs.Machine.{idle_count}
 use Rattle.units.specs.Stacks.{units_from}
-use Rattle.units.proofs.Loops.{units_all, count_none, count_idle, count_busy}
 use Rattle.units.proofs.idle_count.Given as goal
 
 abbrev pub invariant-loop-v : goal.invariant-loop-v

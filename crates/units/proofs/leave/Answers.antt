@@ -1,10 +1,9 @@
 -- Answers of `leave`. Assumes nothing.
 use mathlib.Core.Path.{ap, ◌∙◌}
-use Prim.Native.Nat.{◌-◌, ◌≤◌}
 use native.Mathlib.Omega.{arith}
 use borrow.Author.Rules.{rules}
 use Rattle.flat.specs.Machine.{left}
-use Rattle.units.proofs.Changes.{LeftBelow, left_start, left_more, left_all}
+use Rattle.units.proofs.Changes.{left_start, left_more, left_all}
 use Rattle.units.proofs.leave.Goals as goal
 
 pub loop-u-init : goal.loop-u-init

@@ -1,10 +1,6 @@
 -- `units::leave` meets its contract: the loop's invariant: the cells of units 0 to u - 1 are as they should be. Assumes nothing.
-use mathlib.Core.Path.{ap, ◌∙◌}
 use Prim.Native.Nat.{◌-◌, ◌≤◌}
-use native.Mathlib.Omega.{arith}
-use borrow.Author.Rules.{rules}
-use Rattle.flat.specs.Machine.{left}
-use Rattle.units.proofs.Changes.{LeftBelow, left_start, left_more, left_all}
+use Rattle.units.proofs.Changes.{LeftBelow}
 use Rattle.units.proofs.leave.Given as goal
 
 abbrev pub invariant-loop-u : goal.invariant-loop-u

@@ -1,6 +1,5 @@
 -- `units::set_top` meets its contract: the highest frame of unit u is put anew. Assumes nothing.
 use native.Mathlib.Omega.{arith}
-use borrow.Author.Rules.{rules}
 use Rattle.units.proofs.Changes.{tops}
 use Rattle.units.proofs.set_top.Goals as goal
 

@@ -1,9 +1,6 @@
 -- Answers of `shift_units`. Assumes nothing.
-use Prim.Native.Nat.{◌-◌, ◌≤◌}
 use native.Mathlib.Omega.{arith}
-use borrow.Author.Rules.{rules}
-use Rattle.units.specs.Stacks.{store}
-use Rattle.units.proofs.Loops.{ShiftedBelow, frames_of, below_none, below_rest, below_more, below_all}
+use Rattle.units.proofs.Loops.{frames_of, below_none, below_rest, below_more, below_all}
 use Rattle.units.proofs.shift_units.Goals as goal
 
 pub loop-u-init : goal.loop-u-init

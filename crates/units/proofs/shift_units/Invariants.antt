@@ -1,9 +1,7 @@
 -- `units::shift_units` meets its contract: the loop's invariant: the offsets of units 0 to u - 1 have moved. Assumes nothing.
 use Prim.Native.Nat.{◌-◌, ◌≤◌}
-use native.Mathlib.Omega.{arith}
-use borrow.Author.Rules.{rules}
 use Rattle.units.specs.Stacks.{store}
-use Rattle.units.proofs.Loops.{ShiftedBelow, frames_of, below_none, below_rest, below_more, below_all}
+use Rattle.units.proofs.Loops.{ShiftedBelow}
 use Rattle.units.proofs.shift_units.Given as goal
 
 abbrev pub invariant-loop-u : goal.invariant-loop-u

@@ -1,9 +1,7 @@
 -- Answers of `sleep_all`. Assumes nothing.
 use mathlib.Core.Path.{subst, ◌≡◌, refl, ◌∙◌}
-use Prim.Native.Nat.{ℕ, ◌-◌, ◌≤◌}
+use Prim.Native.Nat.{ℕ}
 use native.Mathlib.Omega.{arith}
-use lib.ListN.{length}
-use borrow.Author.Rules.{rules}
 use Rattle.units.specs.Stacks.{store}
 use Rattle.units.specs.Promises.{AsleepBelow}
 use Rattle.units.proofs.Loops.{asleep_none, asleep_more}

@@ -1,12 +1,9 @@
 -- `units::sleep_all` meets its contract: the loop's invariant: units 0 to u - 1 are asleep. Assumes nothing.
-use mathlib.Core.Path.{subst, ◌≡◌, refl, ◌∙◌}
-use Prim.Native.Nat.{ℕ, ◌-◌, ◌≤◌}
-use native.Mathlib.Omega.{arith}
+use mathlib.Core.Path.{◌≡◌}
+use Prim.Native.Nat.{◌-◌, ◌≤◌}
 use lib.ListN.{length}
-use borrow.Author.Rules.{rules}
 use Rattle.units.specs.Stacks.{store}
 use Rattle.units.specs.Promises.{AsleepBelow}
-use Rattle.units.proofs.Loops.{asleep_none, asleep_more}
 use Rattle.units.proofs.sleep_all.Given as goal
 
 abbrev pub invariant-loop-u : goal.invariant-loop-u

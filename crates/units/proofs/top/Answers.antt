@@ -1,6 +1,5 @@
 -- `units::top` meets its contract: the highest frame of unit u. Assumes nothing.
 use native.Mathlib.Omega.{arith}
-use borrow.Author.Rules.{rules}
 use Rattle.units.proofs.Changes.{topmost}
 use Rattle.units.proofs.top.Goals as goal
 

@@ -1,6 +1,5 @@
 -- `units::wake_unit` meets its contract: the unit leaves the queue, and nothing changes if it stands in none. Assumes nothing.
 use native.Mathlib.Omega.{arith}
-use borrow.Author.Rules.{rules}
 use Rattle.units.proofs.Changes.{left_as, left_none}
 use Rattle.units.proofs.wake_unit.Goals as goal
 

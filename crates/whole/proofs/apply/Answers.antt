@@ -1,6 +1,5 @@
 -- `whole::apply` meets its contract. Assumes nothing.
 use native.Mathlib.Omega.{arith}
-use borrow.Author.Rules.{rules}
 use Rattle.whole.proofs.Applying.{room, unmoved, alone_unmoved, applied}
 use Rattle.whole.proofs.apply.Goals as goal
 use Rattle.whole.proofs.apply.Goals.{else-count-gt1-via-then-count-gt1+else-a-k, else-count-gt1-via-else-count-gt1}
@@ -26,9 +25,9 @@ returns-else-count-gt1 c =
     let g = rw c.length-len.ensures at c.replace.ensures in (
       applied g i c.set_top.ensures
           (elim c.else-count-gt1.branch [
-              else-count-gt1-via-then-count-gt1+else-a-k w ↦ unmoved w.if-a-k.false c.set_top.ensures.fit
+            | else-count-gt1-via-then-count-gt1+else-a-k w ↦ unmoved w.if-a-k.false c.set_top.ensures.fit
             | else-count-gt1-via-else-count-gt1 w ↦
                 alone_unmoved c.requires.4 c.set_top.ensures i (omega arith) _ _ c.requires.2
-            ]),
+          ]),
       g.part_long,
     )

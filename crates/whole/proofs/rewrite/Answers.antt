@@ -1,5 +1,4 @@
 -- `whole::rewrite` meets its contract. Assumes nothing.
-use borrow.Author.Rules.{rules}
 use Rattle.whole.proofs.Machine.{missed, spends, fills, rewrote}
 use Rattle.whole.proofs.Terms.{end_behind}
 use Rattle.whole.proofs.rewrite.Goals as goal

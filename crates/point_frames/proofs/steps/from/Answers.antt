@@ -1,11 +1,6 @@
 -- Answers of `steps.from`. Assumes nothing.
-use mathlib.Core.Path.{◌≡◌}
-use Prim.Native.Nat.{◌-◌, ◌≤◌}
+use Prim.Native.Nat.{◌-◌}
 use native.Mathlib.Omega.{arith}
-use lib.ListN.{drop}
-use borrow.Author.Rules.{rules}
-use Rattle.tables.specs.Layout.{steps_in}
-use Rattle.point_frames.specs.Steps.{Told}
 use Rattle.point_frames.proofs.Rows.{few_forks, few_named, told_first, told_next, told_last}
 use Rattle.point_frames.proofs.steps.from.Goals as goal
 

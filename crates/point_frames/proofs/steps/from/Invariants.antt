@@ -1,12 +1,9 @@
 -- `point_frames::steps::from` meets its contract: the loop's invariant: r is of the steps from step i on. Assumes nothing.
 use mathlib.Core.Path.{◌≡◌}
-use Prim.Native.Nat.{◌-◌, ◌≤◌}
-use native.Mathlib.Omega.{arith}
+use Prim.Native.Nat.{◌≤◌}
 use lib.ListN.{drop}
-use borrow.Author.Rules.{rules}
 use Rattle.tables.specs.Layout.{steps_in}
 use Rattle.point_frames.specs.Steps.{Told}
-use Rattle.point_frames.proofs.Rows.{few_forks, few_named, told_first, told_next, told_last}
 use Rattle.point_frames.proofs.steps.from.Given as goal
 
 abbrev pub invariant-loop-i : goal.invariant-loop-i

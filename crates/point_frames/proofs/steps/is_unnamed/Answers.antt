@@ -1,10 +1,5 @@
 -- Answers of `steps.is_unnamed`. Assumes nothing.
-use mathlib.Core.Path.{◌≡◌, refl, ◌∙◌}
-use Prim.Native.Nat.{◌-◌}
-use lib.ListN.{drop}
-use borrow.Author.Rules.{rules}
-use Rattle.flat.specs.Tested.{unnamed}
-use Rattle.tables.specs.Layout.{steps_in}
+use mathlib.Core.Path.{refl, ◌∙◌}
 use Rattle.point_frames.proofs.Rows.{named_here, unnamed_past, unnamed_end}
 use Rattle.point_frames.proofs.steps.is_unnamed.Goals as goal
 

@@ -1,11 +1,9 @@
 -- `point_frames::steps::is_unnamed` meets its contract: the loop's invariant: the steps from step k on name the argument exactly if those from step i on do. Assumes nothing.
-use mathlib.Core.Path.{◌≡◌, refl, ◌∙◌}
+use mathlib.Core.Path.{◌≡◌}
 use Prim.Native.Nat.{◌-◌}
 use lib.ListN.{drop}
-use borrow.Author.Rules.{rules}
 use Rattle.flat.specs.Tested.{unnamed}
 use Rattle.tables.specs.Layout.{steps_in}
-use Rattle.point_frames.proofs.Rows.{named_here, unnamed_past, unnamed_end}
 use Rattle.point_frames.proofs.steps.is_unnamed.Given as goal
 
 abbrev pub invariant-loop-i : goal.invariant-loop-i

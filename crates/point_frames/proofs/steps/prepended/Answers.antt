@@ -1,7 +1,6 @@
 -- `point_frames::steps::prepended` meets its contract: by the step in front. Assumes nothing.
 use mathlib.Core.Path.{refl}
 use native.Mathlib.Omega.{arith}
-use borrow.Author.Rules.{rules}
 use Rattle.flat.specs.Machine.{next_count}
 use Rattle.flat.specs.Rules.{forks_left}
 use Rattle.flat.specs.Meets.{named}

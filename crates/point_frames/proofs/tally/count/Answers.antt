@@ -1,5 +1,4 @@
 -- `point_frames::tally::count` meets its contract: by the frame. Assumes nothing.
-use borrow.Author.Rules.{rules}
 use Rattle.point_frames.proofs.Counts.{exit_no_job, job_no_exit, neither, jobs_same, exits_same}
 use Rattle.point_frames.proofs.tally.count.Goals as goal
 

@@ -1,12 +1,8 @@
 -- Answers of `tally.count_all`. Assumes nothing.
 use mathlib.Core.Path.{◌≡◌, refl}
-use Prim.Native.Nat.{◌+◌, ◌-◌, ◌≤◌}
+use Prim.Native.Nat.{◌+◌, ◌-◌}
 use native.Mathlib.Omega.{arith}
-use borrow.Author.Rules.{rules}
-use Rattle.flat.specs.Rules.{jobs_at, exits_to, upto}
-use Rattle.units.specs.Stacks.{store}
-use Rattle.point_frames.specs.Counting.{stack_in, all_jobs, all_exits}
-use Rattle.point_frames.proofs.Counts.{JobsLeft, ExitsLeft, jobs_first, jobs_fit, jobs_more, jobs_all, exits_first, exits_fit, exits_more, exits_all, upto_next, upto_end, jobs_room, exits_room, jobs_tallied, exits_tallied}
+use Rattle.point_frames.proofs.Counts.{jobs_first, jobs_fit, jobs_more, jobs_all, exits_first, exits_fit, exits_more, exits_all, upto_next, upto_end, jobs_room, exits_room, jobs_tallied, exits_tallied}
 use Rattle.point_frames.proofs.tally.count_all.Goals as goal
 
 pub loop-v-init : goal.loop-v-init

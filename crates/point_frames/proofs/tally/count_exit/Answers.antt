@@ -1,7 +1,6 @@
 -- `point_frames::tally::count_exit` meets its contract: the counter of the frame that is named is one more. Assumes nothing.
 use Prim.Native.Nat.{◌<◌}
 use native.Mathlib.Omega.{arith}
-use borrow.Author.Rules.{rules}
 use Rattle.point_frames.proofs.Counts.{exit_room, exit_stored, exit_no_frame, exit_no_unit}
 use Rattle.point_frames.proofs.tally.count_exit.Goals as goal
 
@@ -14,8 +13,7 @@ height-requires c =
 pub overflow_add-exits : goal.overflow_add-exits
 overflow_add-exits c =
     record {
-      fits = exit_room c.requires.0 c.index-v.ensures.0 c.offset-i.ensures.0 c.height.result c.requires.1 c.if-v-units.true
-          c.height.ensures c.if-i-height.true;
+      fits = omega (arith, exit_room c.requires.0 c.index-v.ensures.0 c.offset-i.ensures.0 c.height.result c.requires.1 c.if-v-units.true c.height.ensures c.if-i-height.true);
     }
 
 pub returns-then-i-height : goal.returns-then-i-height

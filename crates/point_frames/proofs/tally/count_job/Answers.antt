@@ -1,6 +1,5 @@
 -- `point_frames::tally::count_job` meets its contract: the counter at the job's offset is one more. Assumes nothing.
 use mathlib.Core.Path.{refl}
-use borrow.Author.Rules.{rules}
 use Rattle.point_frames.proofs.Counts.{job_room, job_stored}
 use Rattle.point_frames.proofs.tally.count_job.Goals as goal
 

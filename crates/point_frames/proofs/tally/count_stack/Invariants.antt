@@ -1,15 +1,8 @@
 -- `point_frames::tally::count_stack` meets its contract: the loop's invariant: the lowest h frames are left to count. Assumes nothing.
-use mathlib.Core.List.{[], ◌∷◌}
-use mathlib.Core.Path.{◌≡◌, ap}
-use Prim.Native.Nat.{ℕ, ◌+◌, ◌-◌, ◌≤◌, ◌<◌}
-use native.Mathlib.Omega.{arith}
-use borrow.Author.Rules.{rules}
-use Rattle.flat.specs.Rules.{jobs_at, exits_to}
-use Rattle.units.specs.Frames.{flat}
+use Prim.Native.Nat.{◌≤◌}
 use Rattle.units.specs.Stacks.{base, stack_of, height_in, store}
 use Rattle.point_frames.specs.Counting.{stack_in, jobs_of, exits_of}
-use Rattle.point_frames.proofs.Stacks.{heights, stack_some}
-use Rattle.point_frames.proofs.Counts.{JobsLeft, ExitsLeft, jobs_first, jobs_fit, jobs_more, jobs_all, exits_first, exits_fit, exits_more, exits_all, jobs_lower, exits_lower, jobs_end, exits_end}
+use Rattle.point_frames.proofs.Counts.{JobsLeft, ExitsLeft}
 use Rattle.point_frames.proofs.tally.count_stack.Given as goal
 
 abbrev pub invariant-loop-h : goal.invariant-loop-h

@@ -1,12 +1,8 @@
 -- Answers of `tally.distinct`. Assumes nothing.
-use mathlib.Core.Path.{◌≡◌, refl, ◌∙◌}
-use Prim.Native.Nat.{◌-◌, ◌≤◌}
+use mathlib.Core.Path.{refl, ◌∙◌}
+use Prim.Native.Nat.{◌-◌}
 use native.Mathlib.Omega.{arith}
-use lib.Dec.{leb}
-use lib.ListN.{get_or}
-use borrow.Author.Rules.{rules}
 use borrow.Author.Tests.{le-leb, lt-leb}
-use Rattle.flat.specs.Tested.{each_below}
 use Rattle.point_frames.proofs.Stacks.{below_none, below_pass, below_fail}
 use Rattle.point_frames.proofs.tally.distinct.Goals as goal
 

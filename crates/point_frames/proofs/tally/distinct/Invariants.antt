@@ -1,13 +1,9 @@
 -- `point_frames::tally::distinct` meets its contract: the loop's invariant: all offsets pass exactly if those below x do. Assumes nothing.
-use mathlib.Core.Path.{◌≡◌, refl, ◌∙◌}
-use Prim.Native.Nat.{◌-◌, ◌≤◌}
-use native.Mathlib.Omega.{arith}
+use mathlib.Core.Path.{◌≡◌}
+use Prim.Native.Nat.{◌≤◌}
 use lib.Dec.{leb}
 use lib.ListN.{get_or}
-use borrow.Author.Rules.{rules}
-use borrow.Author.Tests.{le-leb, lt-leb}
 use Rattle.flat.specs.Tested.{each_below}
-use Rattle.point_frames.proofs.Stacks.{below_none, below_pass, below_fail}
 use Rattle.point_frames.proofs.tally.distinct.Given as goal
 
 abbrev pub invariant-loop-x : goal.invariant-loop-x

@@ -1,7 +1,6 @@
 -- `units::Unit::move_up` meets its contract: the unit leaves, it is behind the one that leaves, or before it. Assumes nothing.
 use mathlib.Core.Path.{refl, sym, ◌∙◌}
 use native.Mathlib.Omega.{arith}
-use borrow.Author.Rules.{rules}
 use Rattle.flat.proofs.Ranks.{left_here, left_above, left_below}
 use Rattle.units.proofs.Unit.move_up.Goals as goal
 

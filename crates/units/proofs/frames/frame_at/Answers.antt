@@ -1,5 +1,4 @@
 -- `units::frames::frame_at` meets its contract: the halves of the word are the frame's two bytes. Assumes nothing.
-use borrow.Author.Rules.{rules}
 use Rattle.units.proofs.frames.frame_at.Goals as goal
 
 pub returns : goal.returns

@@ -1,7 +1,6 @@
 -- `units::frames::frame_of` meets its contract: one law of Bytes for each kind of frame. Assumes nothing.
 use mathlib.Core.Path.{sym}
 use native.Mathlib.Omega.{arith}
-use borrow.Author.Rules.{rules}
 use Rattle.units.proofs.Bytes.{job_word, exit_word, sleep_of, bingo_of}
 use Rattle.units.proofs.frames.frame_of.Goals as goal
 

@@ -1,5 +1,4 @@
 -- `units::frames::is_zero_at` meets its contract: the frame's kind and its high byte decide. Assumes nothing.
-use borrow.Author.Rules.{rules}
 use Rattle.units.proofs.frames.is_zero_at.Goals as goal
 
 pub returns : goal.returns

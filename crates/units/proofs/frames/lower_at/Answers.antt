@@ -1,5 +1,4 @@
 -- `units::frames::lower_at` meets its contract: the frame is put back with its count lowered. Assumes nothing.
-use borrow.Author.Rules.{rules}
 use Rattle.units.proofs.frames.lower_at.Goals as goal
 
 pub returns : goal.returns

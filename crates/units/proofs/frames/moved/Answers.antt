@@ -1,23 +1,22 @@
 -- `units::frames::moved` meets its contract: a job behind the symbols that give way, a job before them, another frame. Assumes nothing.
 use native.Mathlib.Omega.{arith}
-use borrow.Author.Rules.{rules}
 use Rattle.units.proofs.Bytes.{moved_other, moved_before, moved_room, moved_behind}
 use Rattle.units.proofs.frames.moved.Goals as goal
 
 pub overflow_add-result : goal.overflow_add-result
-overflow_add-result c = omega (arith, moved_room _ _ _ _ _ c.if-kind-lt32.true c.if-e-x.true c.requires)
+overflow_add-result c = omega (arith, moved_room _ _ _ _ _ c.if-kind-lt32.true (omega arith) c.requires)
 
 pub overflow_add-result-then-e-x : goal.overflow_add-result-then-e-x
-overflow_add-result-then-e-x c = omega (arith, moved_room _ _ _ _ _ c.if-kind-lt32.true c.if-e-x.true c.requires)
+overflow_add-result-then-e-x c = omega (arith, moved_room _ _ _ _ _ c.if-kind-lt32.true (omega arith) c.requires)
 
 pub overflow_cast-result : goal.overflow_cast-result
-overflow_cast-result c = omega (arith, moved_room _ _ _ _ _ c.if-kind-lt32.true c.if-e-x.true c.requires)
+overflow_cast-result c = omega (arith, moved_room _ _ _ _ _ c.if-kind-lt32.true (omega arith) c.requires)
 
 pub overflow_add-result-then-e-x-2 : goal.overflow_add-result-then-e-x-2
-overflow_add-result-then-e-x-2 c = omega (arith, moved_room _ _ _ _ _ c.if-kind-lt32.true c.if-e-x.true c.requires)
+overflow_add-result-then-e-x-2 c = omega (arith, moved_room _ _ _ _ _ c.if-kind-lt32.true (omega arith) c.requires)
 
 pub returns-then-e-x : goal.returns-then-e-x
-returns-then-e-x c = moved_behind _ _ _ _ _ c.if-kind-lt32.true c.if-e-x.true c.requires
+returns-then-e-x c = moved_behind _ _ _ _ _ c.if-kind-lt32.true (omega arith) c.requires
 
 pub returns-else-e-x : goal.returns-else-e-x
 returns-else-e-x c = moved_before _ _ _ _ _ c.if-kind-lt32.true c.if-e-x.false

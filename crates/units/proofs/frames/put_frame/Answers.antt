@@ -1,7 +1,6 @@
 -- `units::frames::put_frame` meets its contract: what is written for each kind decodes to the frame. Assumes nothing.
 use mathlib.Core.Path.{◌≡◌, subst}
 use native.Mathlib.Omega.{arith}
-use borrow.Author.Rules.{rules}
 use Rattle.units.specs.declared.frames.Frame.{Frame}
 use Rattle.units.specs.Frames.{flat, decode, InThreeBytes}
 use Rattle.units.proofs.Bytes.{job_bytes, exit_bytes}

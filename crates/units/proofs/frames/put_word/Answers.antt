@@ -1,7 +1,6 @@
 -- `units::frames::put_word` meets its contract: three stores. Assumes nothing.
 use native.Mathlib.Omega.{arith}
 use lib.ListN.{length-set}
-use borrow.Author.Rules.{rules}
 use Rattle.units.proofs.Areas.{stores}
 use Rattle.units.proofs.frames.put_word.Goals as goal
 

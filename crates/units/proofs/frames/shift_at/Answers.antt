@@ -1,5 +1,4 @@
 -- `units::frames::shift_at` meets its contract: the frame is put back with its offset moved. Assumes nothing.
-use borrow.Author.Rules.{rules}
 use Rattle.units.proofs.frames.shift_at.Goals as goal
 
 pub moved-requires : goal.moved-requires

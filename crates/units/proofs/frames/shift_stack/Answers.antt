@@ -1,15 +1,14 @@
 -- Answers of `frames.shift_stack`. Assumes nothing.
 use mathlib.Core.Logic.{inl}
 use mathlib.Core.Path.{◌≡◌}
-use Prim.Native.Nat.{ℕ, ◌+◌, ◌*◌, ◌-◌, ◌≤◌, ◌<◌}
+use Prim.Native.Nat.{◌+◌, ◌*◌, ◌-◌, ◌<◌}
 use native.Mathlib.Omega.{arith}
 use lib.ListN.{length}
-use borrow.Author.Rules.{rules}
 use Rattle.flat.specs.Machine.{shift_frame}
 use Rattle.units.specs.Stacks.{Below}
 use Rattle.units.specs.Promises.{frames}
 use Rattle.units.proofs.Areas.{outside_frame}
-use Rattle.units.proofs.Stacks.{all_at, ShiftedAbove, above_none, above_more, above_all}
+use Rattle.units.proofs.Stacks.{all_at, above_none, above_more, above_all}
 use Rattle.units.proofs.frames.shift_stack.Goals as goal
 
 pub loop-at-init : goal.loop-at-init

@@ -1,15 +1,8 @@
 -- `units::frames::shift_stack` meets its contract: the loop's invariant: the frames from place at on have gone along. Assumes nothing.
-use mathlib.Core.Logic.{inl}
 use mathlib.Core.Path.{◌≡◌}
-use Prim.Native.Nat.{ℕ, ◌+◌, ◌*◌, ◌-◌, ◌≤◌, ◌<◌}
-use native.Mathlib.Omega.{arith}
-use lib.ListN.{length}
-use borrow.Author.Rules.{rules}
-use Rattle.flat.specs.Machine.{shift_frame}
-use Rattle.units.specs.Stacks.{Below}
+use Prim.Native.Nat.{◌+◌, ◌*◌, ◌-◌, ◌≤◌}
 use Rattle.units.specs.Promises.{frames}
-use Rattle.units.proofs.Areas.{outside_frame}
-use Rattle.units.proofs.Stacks.{all_at, ShiftedAbove, above_none, above_more, above_all}
+use Rattle.units.proofs.Stacks.{ShiftedAbove}
 use Rattle.units.proofs.frames.shift_stack.Given as goal
 
 abbrev pub invariant-loop-at : goal.invariant-loop-at
