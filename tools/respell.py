@@ -26,6 +26,8 @@ APART = {
     "getD-from": "get_or_from",
     "getD-listed": "get_or_listed",
     "eN": "eN",
+    # what port.py leaves of a type's name
+    "Goes_on": "GoesOn",
     "Order-discrete": "order_discrete",
     "Flat-discrete": "flat_discrete",
     "Frame-discrete": "frame_discrete",

@@ -8,13 +8,13 @@ use Rattle.stream.specs.Promises.{PartEnds}
 use Rattle.stream.specs.declared.PartEnd as E
 use Rattle.records.specs.Record.{longest}
 use Rattle.batch.specs.Lines.{lines_of}
-use Rattle.batch.specs.Promises.{Goes_on}
+use Rattle.batch.specs.Promises.{GoesOn}
 use Rattle.batch.specs.declared.Next as N
 use Rattle.batch.specs.declared.Stop as S
 use Rattle.batch.proofs.Splitting.{lines_none, lines_next}
 
 module _ (lines : List ℕ) (at left : ℕ) where
-  pub cut_short : at < length lines → PartEnds lines at E.PartEnd.Short → Goes_on lines at left (N.Next.None S.Stop.Cut)
+  pub cut_short : at < length lines → PartEnds lines at E.PartEnd.Short → GoesOn lines at left (N.Next.None S.Stop.Cut)
   cut_short h p = (h, lines_none (drop at lines) 17 p.is)
 
   module _ (end : ℕ) (p : PartEnds lines at (E.PartEnd.At end)) where
@@ -24,8 +24,8 @@ module _ (lines : List ℕ) (at left : ℕ) where
         lines_next (drop at lines) (record { value = take (end - (at + 2)) (drop (at + 2) lines); left = drop end lines }) p.is
         (omega (arith, w.0, w.1, length-drop at lines, length-drop end lines))
 
-    pub no_room : at < length lines → left < longest → Goes_on lines at left (N.Next.None S.Stop.Room)
+    pub no_room : at < length lines → left < longest → GoesOn lines at left (N.Next.None S.Stop.Room)
     no_room h k = (h, k, omega (arith, ap length whole))
 
-    pub next_done : longest ≤ left → Goes_on lines at left (N.Next.Line end)
+    pub next_done : longest ≤ left → GoesOn lines at left (N.Next.Line end)
     next_done h = (p.within.0, p.within.1, h, whole)

@@ -39,11 +39,11 @@ Stops lines at left Stop.cut = (at < length lines) × (lines_of (drop at lines) 
 Stops lines at left Stop.room = (at < length lines) × (left < longest) × (0 < length (lines_of (drop at lines)))
 
 -- at a position, with so many bytes left: the next line's end, where it is whole and the longest record would fit; or why it isn't done
-abbrev pub Goes_on : List ℕ → ℕ → ℕ → N.Next → Type 0
-Goes_on lines at left (N.Next.Line end) =
+abbrev pub GoesOn : List ℕ → ℕ → ℕ → N.Next → Type 0
+GoesOn lines at left (N.Next.Line end) =
     (at + 2 ≤ end) × (end ≤ length lines) × (longest ≤ left)
     × (lines_of (drop at lines) ≡ take (end - (at + 2)) (drop (at + 2) lines) ∷ lines_of (drop end lines))
-Goes_on lines at left (N.Next.None s) = Stops lines at left (B.stop s)
+GoesOn lines at left (N.Next.None s) = Stops lines at left (B.stop s)
 
 -- by the day of the net
 module _ (read : LineReader) (book net : List ℕ) (l : Limits) (schedule : List ℕ) (work : ℕ) where

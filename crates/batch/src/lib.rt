@@ -51,7 +51,7 @@ enum Next {
 // The line at a position, where so many bytes are left for records.
 fn next_line(lines: &[u8], at: usize, left: usize) -> Next
     requires { at ≤ length lines.now }
-    ensures { C.Goes_on lines.now at left result }
+    ensures { C.GoesOn lines.now at left result }
 {
     if lines.len() <= at {
         return Next::None(Stop::End);

@@ -126,7 +126,7 @@ pub record Areas (work net output : List ℕ) : Type 0 where
   pub faultless : fault 1 (length work) (length net) (length output) ≡ 0
 
 -- the run in the arrays, by the book and its tables, is that of the name's point, in slot k, and may go on with the schedule
-pub record Goes_on (k : ℕ) (name points book operators rules schedule : List ℕ) (x : Numbers) (a : Arrays) : Type 0 where
+pub record GoesOn (k : ℕ) (name points book operators rules schedule : List ℕ) (x : Numbers) (a : Arrays) : Type 0 where
   pub found : find_checked name points ≡ accepted (record { at = k; point = point name book (day_in rules) (saved x a) })
   pub slot : Inside points k
   pub tables : TablesOf book operators rules
