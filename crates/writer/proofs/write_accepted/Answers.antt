@@ -7,7 +7,7 @@ use Rattle.writer.proofs.Laws.{few}
 use Rattle.writer.proofs.write_accepted.Goals as goal
 
 pub emit-start-requires : goal.emit-start-requires
-emit-start-requires c = let f = c.form_of-form.ensures in (omega (arith, f.low), pow_pos _, omega arith)
+emit-start-requires c = let f = c.form_of-form.ensures in (omega (arith, f.low), omega (arith, pow_pos c.form_of-form.result.count), omega arith)
 
 pub short-requires : goal.short-requires
 short-requires c =
