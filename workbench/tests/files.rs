@@ -369,16 +369,23 @@ fn one_long_line_is_refused_unread() {
     fs::remove_dir_all(folder).unwrap();
 }
 
-/// The script with a stand-in for the prover, beside a program of an earlier
+/// The scripts with a stand-in for the prover, beside a program of an earlier
 /// check.
 fn example(prover: &str) -> (Option<i32>, String) {
     let folder = folder("example");
-    let program = folder.join("target/bin/reduce");
+    let program = "#!/bin/sh\necho a page\n".to_owned();
     let script = folder.join("tools/example");
     for (path, content) in [
         (&script, fs::read_to_string("../tools/example").unwrap()),
+        (
+            &folder.join("tools/build"),
+            fs::read_to_string("../tools/build").unwrap(),
+        ),
+        (&folder.join("crates/reduce/src/main.rt"), String::new()),
+        (&folder.join("crates/reduce/stdin"), String::new()),
+        (&folder.join("crates/reduce/out/reduce"), program.clone()),
         (&folder.join("bin/rt"), format!("#!/bin/sh\n{prover}\n")),
-        (&program, "#!/bin/sh\necho a page\n".to_owned()),
+        (&folder.join("target/bin/reduce"), program),
         (&folder.join("examples/finished.in"), String::new()),
     ] {
         fs::create_dir_all(path.parent().unwrap()).unwrap();
@@ -396,13 +403,12 @@ fn example(prover: &str) -> (Option<i32>, String) {
 
 #[test]
 fn after_a_failed_proof_no_program_is_run() {
-    let proved = "rt: reduce: proved";
-    let passed = format!("echo '{proved}'");
-    assert_eq!(example(&passed), (Some(0), format!("{proved}\na page\n")));
+    let made = "cp ../../target/bin/reduce out/reduce";
+    assert_eq!(example(made), (Some(0), "a page\n".to_owned()));
     let failed = [
-        format!("echo '{proved}'; exit 1"),
-        format!("echo '{proved}'; kill -9 $$"),
-        format!("echo '{proved}'; rm target/bin/reduce"),
+        format!("{made}; exit 1"),
+        format!("{made}; kill -9 $$"),
+        format!("{made}; rm out/reduce"),
         "exit 0".to_owned(),
         "exit 127".to_owned(),
     ];
