@@ -1,5 +1,6 @@
 -- `batch::answer_line` meets its contract, by the laws of Answers. Assumes nothing.
 use mathlib.Core.Path.{sym, ◌∙◌}
+use native.Mathlib.Omega.{arith}
 use Rattle.batch.proofs.Answers.{asks, read_by, not_read, not_named, posted}
 use Rattle.batch.proofs.answer_line.Goals as goal
 
@@ -26,7 +27,7 @@ post-run-requires c =
 
 pub put_run-requires : goal.put_run-requires
 put_run-requires c =
-    (c.post-run.ensures.posted.most, c.post-run.ensures.posted.long, c.requires.named_value.1)
+    (c.post-run.ensures.posted.most, c.post-run.ensures.posted.long, omega arith)
 
 pub returns-in-Refused : goal.returns-in-Refused
 returns-in-Refused c =
