@@ -5,7 +5,6 @@ use Prim.Native.Nat.{ℕ, ◌+◌, ◌-◌, ◌≤◌, ◌<◌}
 use native.Mathlib.Omega.{arith}
 use lib.ListN.{length, take, drop, length-drop}
 use Rattle.stream.specs.Promises.{PartEnds}
-use Rattle.stream.specs.declared.PartEnd as E
 use Rattle.records.specs.Record.{longest}
 use Rattle.batch.specs.Lines.{lines_of}
 use Rattle.batch.specs.Promises.{GoesOn}
@@ -14,10 +13,10 @@ use Rattle.batch.specs.declared.Stop as S
 use Rattle.batch.proofs.Splitting.{lines_none, lines_next}
 
 module _ (lines : List ℕ) (at left : ℕ) where
-  pub cut_short : at < length lines → PartEnds lines at E.PartEnd.Short → GoesOn lines at left (N.Next.None S.Stop.Cut)
+  pub cut_short : at < length lines → PartEnds lines at None → GoesOn lines at left (N.Next.None S.Stop.Cut)
   cut_short h p = (h, lines_none (drop at lines) 17 p.is)
 
-  module _ (end : ℕ) (p : PartEnds lines at (E.PartEnd.At end)) where
+  module _ (end : ℕ) (p : PartEnds lines at (Some end)) where
     whole : lines_of (drop at lines) ≡ take (end - (at + 2)) (drop (at + 2) lines) ∷ lines_of (drop end lines)
     whole =
         let w = p.within in

@@ -13,7 +13,6 @@ ghost use Rattle.batch.specs.Promises as C;
 
 use book::Book;
 use engine::Form;
-use stream::PartEnd;
 use text::Text;
 use whole::Limits;
 
@@ -57,8 +56,8 @@ fn next_line(lines: &[u8], at: usize, left: usize) -> Next
         return Next::None(Stop::End);
     }
     match stream::part_end(lines, at) {
-        PartEnd::Short => Next::None(Stop::Cut),
-        PartEnd::At(end) => {
+        None => Next::None(Stop::Cut),
+        Some(end) => {
             if left < records::LONGEST {
                 return Next::None(Stop::Room);
             }

@@ -12,7 +12,6 @@ use Rattle.paper.specs.Result.{Result, refused, accepted, Read, Reader, return, 
 use Rattle.paper.specs.Dated.{is_dated}
 use Rattle.paper.specs.Page.{Request, number, read_bytes, read_number, read_day, read_schedule, read_request}
 use Rattle.stream.specs.Promises.{read_counted, PartEnds}
-use Rattle.stream.specs.declared.PartEnd as E
 use Rattle.stream.proofs.Parts.{number_there, number_cut}
 use Rattle.page.specs.Promises.{asked, DayStands, PartsStand}
 use Rattle.page.specs.declared.Day as Y
@@ -152,14 +151,14 @@ module _ (input : List ℕ) where
 -- THE PARTS
 
 module _ (input : List ℕ) where
-  pub cut_first : PartEnds input 0 E.PartEnd.Short → PartsStand input I.InputParts.Refused
+  pub cut_first : PartEnds input 0 None → PartsStand input I.InputParts.Refused
   cut_first c = record { is = first_cut input c.is; within = tt }
 
-  module _ {b : ℕ} (c : PartEnds input 0 (E.PartEnd.At b)) where
-    pub cut_second : PartEnds input b E.PartEnd.Short → PartsStand input I.InputParts.Refused
+  module _ {b : ℕ} (c : PartEnds input 0 (Some b)) where
+    pub cut_second : PartEnds input b None → PartsStand input I.InputParts.Refused
     cut_second d = record { is = second_cut input b _ c.is d.is; within = tt }
 
-    module _ {l : ℕ} (d : PartEnds input b (E.PartEnd.At l)) where
+    module _ {l : ℕ} (d : PartEnds input b (Some l)) where
       rest : read_request input ≡ read_rest (take (b - 2) (drop 2 input)) (take (l - (b + 2)) (drop (b + 2) input)) (drop l input)
       rest = third input b _ c.is l _ d.is
 

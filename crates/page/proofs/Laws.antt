@@ -16,7 +16,6 @@ use Rattle.paper.specs.Text.{read_text}
 use Rattle.paper.specs.Page.{LineReader, number, read_request, line, refused_word, page_by, page_of, payee_page_of}
 use Rattle.paper.proofs.Refusals.{page_not_six, payee_page_not_six}
 use Rattle.stream.specs.Promises.{PartEnds}
-use Rattle.stream.specs.declared.PartEnd as E
 use Rattle.stream.proofs.Numbers.{number_two}
 use Rattle.stream.proofs.Parts.{counted_at}
 use Rattle.page.specs.Spec.{Paged, Bytes, StandardInput, PagedFrom, begins, fixed_line}
@@ -71,9 +70,9 @@ long_refused input h k =
     let m : ℕ = number 0 (take 2 (drop b input)) in
     let m_below : m < 65536 = length_below input b h (omega arith) in
     let l : ℕ = b + 2 + m in
-    let book : PartEnds input 0 (E.PartEnd.At b) =
+    let book : PartEnds input 0 (Some b) =
     record { is = counted_at input 0 (omega arith) n b refl refl (omega arith); within = (omega arith, omega arith) } in
-    let line : PartEnds input b (E.PartEnd.At l) =
+    let line : PartEnds input b (Some l) =
     record { is = counted_at input b (omega arith) m l refl refl (omega arith); within = (omega arith, omega arith) } in
     let (dated, form, day, e, f, w) = day_of input (take (b - 2) (drop 2 input)) (l + 5) (omega arith) in
     (cut_over input book line (omega arith) form f (omega arith)).is

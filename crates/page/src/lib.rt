@@ -10,7 +10,6 @@ ghost use Rattle.page.specs.Promises as C;
 
 use engine::{Answer, Form};
 use run::Run;
-use stream::PartEnd;
 
 // The length that a page has room in.
 pub const PAGE: usize = 8192;
@@ -73,10 +72,10 @@ fn day_at(input: &[u8], at: usize, dated: bool) -> Day
 fn parts_of(input: &[u8]) -> InputParts
     ensures { C.PartsStand input.now result }
 {
-    let PartEnd::At(book) = stream::part_end(input, 0) else {
+    let Some(book) = stream::part_end(input, 0) else {
         return InputParts::Refused;
     };
-    let PartEnd::At(line) = stream::part_end(input, book) else {
+    let Some(line) = stream::part_end(input, book) else {
         return InputParts::Refused;
     };
     let left = input.len() - line;

@@ -1,9 +1,8 @@
 -- Bytes in a row: numbers of some bytes, the most significant first; parts behind their length (document 01, 'The program and its page'); and bytes that are
 -- written at a position. Assumes nothing.
-use Rattle.std.specs.Prelude.{List, [], ◌∷◌, ◌++◌, ◌≡◌, ℕ, zero, suc, ◌+◌, ◌-◌, ◌/◌, ◌%◌, ◌≤◌, length, take, drop}
+use Rattle.std.specs.Prelude.{List, [], ◌∷◌, ◌++◌, Option, Some, None, ◌≡◌, ℕ, zero, suc, ◌+◌, ◌-◌, ◌/◌, ◌%◌, ◌≤◌, length, take, drop}
 use Rattle.paper.specs.Result.{Result, refused, accepted, Read, Reader, ◌>>=◌}
 use Rattle.paper.specs.Page.{read_bytes, read_number}
-use Rattle.stream.specs.declared.PartEnd as E
 
 -- NUMBERS
 
@@ -23,15 +22,15 @@ read_counted = do
 
 module _ (input : List ℕ) where
   -- what the reading of counted bytes at position at gives, if they end so
-  abbrev pub read_up_to : ℕ → E.PartEnd → Result (Read (List ℕ))
-  read_up_to at E.PartEnd.Short = refused 17
-  read_up_to at (E.PartEnd.At e) = accepted (record { value = take (e - (at + 2)) (drop (at + 2) input); left = drop e input })
+  abbrev pub read_up_to : ℕ → Option ℕ → Result (Read (List ℕ))
+  read_up_to at None = refused 17
+  read_up_to at (Some e) = accepted (record { value = take (e - (at + 2)) (drop (at + 2) input); left = drop e input })
 
-  abbrev pub EndsWithin : ℕ → E.PartEnd → Type 0
-  EndsWithin at E.PartEnd.Short = Unit {0}
-  EndsWithin at (E.PartEnd.At e) = (at + 2 ≤ e) × (e ≤ length input)
+  abbrev pub EndsWithin : ℕ → Option ℕ → Type 0
+  EndsWithin at None = Unit {0}
+  EndsWithin at (Some e) = (at + 2 ≤ e) × (e ≤ length input)
 
-  pub record PartEnds (at : ℕ) (r : E.PartEnd) : Type 0 where
+  pub record PartEnds (at : ℕ) (r : Option ℕ) : Type 0 where
     pub is : read_counted (drop at input) ≡ read_up_to at r
     pub within : EndsWithin at r
 

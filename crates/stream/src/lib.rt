@@ -5,13 +5,6 @@ ghost use Rattle.std.specs.Prelude.{◌≡◌, ◌+◌, ◌≤◌, ◌<◌, leng
 ghost use Rattle.paper.specs.Page.{number};
 ghost use Rattle.stream.specs.Promises as C;
 
-// The position behind counted bytes, or that they are cut short.
-#[derive(Drop)]
-pub enum PartEnd {
-    Short,
-    At(usize),
-}
-
 // Two bytes as one number.
 pub fn pair(input: &[u8], at: usize) -> usize
     requires { at + 2 ≤ length input.now }
@@ -20,20 +13,20 @@ pub fn pair(input: &[u8], at: usize) -> usize
     casts::index(input[at]) * 256 + casts::index(input[at + 1])
 }
 
-// The position behind the bytes whose length stands at position at.
-pub fn part_end(input: &[u8], at: usize) -> PartEnd
+// The position behind the bytes whose length stands at position at; none if they are cut short.
+pub fn part_end(input: &[u8], at: usize) -> Option<usize>
     requires { at ≤ length input.now }
     ensures { C.PartEnds input.now at result }
 {
     if input.len() - at < 2 {
-        return PartEnd::Short;
+        return None;
     }
     let n = pair(input, at);
     let start = at + 2;
     if input.len() - start < n {
-        return PartEnd::Short;
+        return None;
     }
-    PartEnd::At(start + n)
+    Some(start + n)
 }
 
 // The last n bytes of a number, at position at; the position behind them.
@@ -42,11 +35,9 @@ pub fn put_number(output: &mut [u8], at: usize, n: usize, v: usize) -> usize
     ensures { C.WrittenAt at (C.bytes n v) output.old output.new result }
 {
     let mut left = v;
-    let mut i = n;
-    while 0 < i {
-        i -= 1;
-        output[at + i] = casts::byte(left % 256);
-        left = left / 256;
+    for i in (0..n).rev() {
+        output[at + i] = (left % 256) as u8;
+        left /= 256;
     }
     at + n
 }

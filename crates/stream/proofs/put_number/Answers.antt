@@ -14,7 +14,7 @@ loop-i-preserved c =
     let l = c.loop-i in (
       omega arith,
       simp length-set l.invariant.1,
-      byte_more c.args.at l.i (l.i - 1) l.left l.output (omega arith) (omega arith) c.byte.ensures ∙ l.invariant.2,
+      byte_more c.args.at l.i (l.i - 1) l.left l.output (omega arith) (omega arith) refl ∙ l.invariant.2,
     )
 
 pub returns : goal.returns
