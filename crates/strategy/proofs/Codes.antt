@@ -7,8 +7,10 @@ use native.Mathlib.Omega.{arith}
 use native.Mathlib.Numerals.{add-one}
 use borrow.Author.Tests.{ne_eqb, lt-ltb}
 use lib.Dec.{eqb, ltb, eqb-suc-zero}
-use lib.ListN.{length, get_or, take, drop, set, replicate, length-append, length-map, take-append-drop}
-use lib.Seq.{sets, drop-cons, get_or-drop, length-take-le}
+use borrow.Rule.Slice.PartMut.{mid_of, put_mid}
+use lib.ListN.{length, get_or, take, drop, set, replicate, length-append, length-drop, length-map, take-append-drop}
+use Rattle.std.proofs.lemmas.List.{length-replicate}
+use lib.Seq.{sets, sets-eq, drop-drop, drop-cons, get_or-drop, length-take-le}
 use Rattle.paper.specs.Result.{if}
 use Rattle.paper.specs.Strategy.{Item, Step, group_steps, layout}
 use Rattle.paper.specs.Writer.{numbers}
@@ -26,11 +28,16 @@ sets_append l i (u ∷ us) vs =
     let e : suc i + length us ≡ i + suc (length us) = omega arith in
     sets_append (set l i u) (suc i) us vs ∙ ap (λ (k : ℕ). sets (sets (set l i u) (suc i) us) k vs) e
 
-pub clear_more : (l : List ℕ) (i m n : ℕ) → m ≡ suc n → sets l i (replicate m 0) ≡ sets (set l i 0) (i + 1) (replicate n 0)
-clear_more l i m n z = rw (z, add-one i)
-
-pub clear_end : (l : List ℕ) (i m : ℕ) → m ≡ 0 → sets l i (replicate m 0) ≡ l
-clear_end l i m z = rw z
+-- a part that is filled with 0s
+pub filled : (l : List ℕ) (a e : ℕ) {ys : List ℕ} → ys ≡ replicate (length (mid_of a (e - a) l)) 0 → a ≤ e → e ≤ length l →
+    put_mid a (e - a) l ys ≡ sets l a (replicate (e - a) 0)
+filled l a e h p q =
+    let n : length (take (e - a) (drop a l)) ≡ e - a = length-take-le (e - a) (drop a l) (omega (arith, length-drop a l)) in
+    let zs : List ℕ = replicate (e - a) 0 in
+    let z : length zs ≡ e - a = length-replicate (e - a) 0 in
+    ap₂ (λ (ys r : List ℕ). take a l ++ (ys ++ r)) (h ∙ ap (λ (k : ℕ). replicate {A = ℕ} k 0) n) (drop-drop (e - a) a l ∙ ap (λ (k : ℕ). drop (a + k) l) (sym z))
+    ∙ sym (append_assoc (take a l) zs (drop (a + length zs) l))
+    ∙ sym (sets-eq zs l a (omega (arith, z)))
 
 -- One number
 

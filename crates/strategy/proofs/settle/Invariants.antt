@@ -10,6 +10,3 @@ abbrev pub invariant-loop-i : goal.invariant-loop-i
 invariant-loop-i l =
     (l.i ≤ l.count) × (l.len ≤ l.i) × (l.group ≤ l.len) × (length l.items ≡ 32) × (drop l.i l.items ≡ drop l.i l.initial.items)
     × (settling [] 0 (take l.count l.initial.items) ≡ settling (take l.len l.items) l.group (drop l.i (take l.count l.initial.items)))
-
-abbrev pub decreases-loop-i : goal.decreases-loop-i
-decreases-loop-i l = l.count - l.i
