@@ -1,7 +1,7 @@
 -- A list at the front of an array: how the code that settles reads and changes it. Assumes nothing.
-use mathlib.Core.Bool.{Bool, true, false}
+use mathlib.Core.Bool.{Bool, true}
 use mathlib.Core.List.{List, [], ◌∷◌, ◌++◌}
-use mathlib.Core.Logic.{◌⊎◌, inl, inr}
+use mathlib.Core.Logic.{inl, inr}
 use mathlib.Core.Path.{◌≡◌, refl, sym, ap, ap₂, ◌∙◌}
 use Prim.Native.Nat.{ℕ, suc, ◌+◌, ◌-◌, ◌≤◌, ◌<◌}
 use native.Mathlib.Omega.{arith}
@@ -16,7 +16,6 @@ use Rattle.paper.proofs.Tests.{eqb_cases}
 use Rattle.paper.specs.Strategy.{has, upward, default}
 use Rattle.paper.specs.Writer.{numbers}
 use Rattle.strategy.specs.Settling.{ends_in_zero, closed, keeping, opening, settling, AtFront}
-use Rattle.tables.proofs.Rows.{get_d_any}
 use Rattle.strategy.proofs.OnePass.{has_cons}
 
 -- a number stands in a list if one of its numbers is equal

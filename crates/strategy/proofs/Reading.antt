@@ -64,7 +64,7 @@ turn_cases false g h e = let z : ◌≡◌ {A = ℕ} 0 1 = cc in absurd (omega a
 
 turn_none : (b g : Bool) (d : Refusal) → ◌≡◌ {A = Answer Bool Refusal} (if b (Ok g) (Err Refusal.BadStrategy)) (Err d) → (b ≡ false) × (number d ≡ 3)
 turn_none true g d e = let z : ◌≡◌ {A = ℕ} 0 1 = cc in absurd (omega arith)
-turn_none false g d e = (refl, ap (λ (x : Answer Bool Refusal). elim x [ | Ok _ ↦ 0 | Err r ↦ number r ]) (sym e))
+turn_none false g d e = (refl, ap (λ (x : Answer Bool Refusal). elim x [ Ok _ ↦ 0 | Err r ↦ number r ]) (sym e))
 
 -- the turns of the loop, with us read so far
 module _ (a : ℕ) (g : Bool) (us xs : List ℕ) where

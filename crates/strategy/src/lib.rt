@@ -8,7 +8,7 @@ ghost use Rattle.paper.specs.Strategy.{default, has};
 ghost use Rattle.paper.specs.Reader.{allowed, grouped_after};
 ghost use Rattle.paper.specs.Writer.{numbers};
 ghost use Rattle.strategy.specs.Settling.{ends_in_zero, closed, keeping, opening, settling, AtFront};
-ghost use Rattle.strategy.specs.Codes.{placing, unless_0, codes};
+ghost use Rattle.strategy.specs.Codes.{placing, listed, codes};
 ghost use Rattle.strategy.specs.Promises.{turn, NumbersAt, GivenAt, StrategyAt, Layable, LaidOut};
 
 use refusal::Refusal;
@@ -60,7 +60,13 @@ fn item(v: u8, arity: u8, grouped: bool, left: usize) -> Result<bool, Refusal>
 }
 
 // Reads count items from position at on; the position behind them.
-fn read_numbers(book: &[u8], at: usize, arity: u8, count: usize, items: &mut [u8; 32]) -> Result<usize, Refusal>
+fn read_numbers(
+    book: &[u8],
+    at: usize,
+    arity: u8,
+    count: usize,
+    items: &mut [u8; 32],
+) -> Result<usize, Refusal>
     requires { (length book.now ≤ 2 ^ 60) × (count ≤ 31) × (length items.old ≡ 32) }
     ensures { NumbersAt book.now at arity count items.new result }
 {
@@ -195,7 +201,12 @@ fn read_given(book: &[u8], at: usize, arity: u8, items: &mut [u8; 32]) -> Result
 }
 
 // The strategy of an operator, at the position behind its arity.
-pub fn read_strategy(book: &[u8], at: usize, arity: u8, items: &mut [u8; 32]) -> Result<Listed, Refusal>
+pub fn read_strategy(
+    book: &[u8],
+    at: usize,
+    arity: u8,
+    items: &mut [u8; 32],
+) -> Result<Listed, Refusal>
     requires { (length book.now ≤ 2 ^ 60) × (arity < 8) × (length items.old ≡ 32) }
     ensures { StrategyAt book.now at arity items.new result }
 {
@@ -209,10 +220,10 @@ pub fn read_strategy(book: &[u8], at: usize, arity: u8, items: &mut [u8; 32]) ->
     read_given(book, given.next, arity, items)
 }
 
-// The code of a number's step, 0 for none; whether a group is open behind it, and how many FORKs the group has so far.
+// The code of a number's step, if it has one; whether a group is open behind it, and how many FORKs the group has so far.
 #[derive(Clone, Copy, Debug, PartialEq, Eq)]
 pub struct Placed {
-    pub code: u8,
+    pub code: Option<u8>,
     pub grouped: bool,
     pub forks: u8,
 }
@@ -225,31 +236,31 @@ fn place(v: u8, next: u8, grouped: bool, forks: u8) -> Placed
 {
     match v {
         0 => Placed {
-            code: tables::WHOLE,
+            code: Some(tables::WHOLE),
             grouped,
             forks,
         },
         1..=7 => {
             if grouped && next != 9 {
                 return Placed {
-                    code: tables::fork_code(v - 1),
+                    code: Some(tables::fork_code(v - 1)),
                     grouped,
                     forks: forks + 1,
                 };
             }
             Placed {
-                code: tables::visit_code(v - 1),
+                code: Some(tables::visit_code(v - 1)),
                 grouped,
                 forks,
             }
         }
         8 => Placed {
-            code: 0,
+            code: None,
             grouped: true,
             forks: 0,
         },
         _ => Placed {
-            code: tables::join_code(forks),
+            code: Some(tables::join_code(forks)),
             grouped: false,
             forks: 0,
         },
@@ -257,14 +268,14 @@ fn place(v: u8, next: u8, grouped: bool, forks: u8) -> Placed
 }
 
 // Writes a code, where there is one, and answers the place behind it.
-fn put_code(operators: &mut [u8; 4352], at: usize, code: u8) -> usize
+fn put_code(operators: &mut [u8; 4352], at: usize, code: Option<u8>) -> usize
     requires { at < 4352 }
-    ensures { (operators.new ≡ sets operators.old at (unless_0 code)) × (result ≡ at + length (unless_0 code)) }
+    ensures { (operators.new ≡ sets operators.old at (listed code)) × (result ≡ at + length (listed code)) }
 {
-    if code == 0 {
+    let Some(c) = code else {
         return at;
-    }
-    operators[at] = code;
+    };
+    operators[at] = c;
     at + 1
 }
 

@@ -1,6 +1,5 @@
 -- `strategy::clear` meets its contract: the part is filled with 0s. Assumes nothing.
 use Rattle.std.proofs.Common.{arith}
-use Rattle.std.proofs.lemmas.Slice.{put_mid-paste}
 use Rattle.strategy.proofs.Codes.{filled}
 use Rattle.strategy.proofs.clear.Goals as goal
 

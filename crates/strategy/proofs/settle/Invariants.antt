@@ -1,7 +1,7 @@
 -- `strategy::settle` meets its contract. The invariant: settling the whole is settling what is left, behind what is kept. Assumes nothing.
 use mathlib.Core.List.{[]}
 use mathlib.Core.Path.{◌≡◌}
-use Prim.Native.Nat.{◌-◌, ◌≤◌}
+use Prim.Native.Nat.{◌≤◌}
 use lib.ListN.{length, take, drop}
 use Rattle.strategy.specs.Settling.{settling}
 use Rattle.strategy.proofs.settle.Given as goal
