@@ -77,23 +77,19 @@ fn put_word(work: &mut [u8], at: usize, kind: u8, word: u16)
 fn frame_of(kind: u8, word: u16) -> Frame
     ensures { (flat result ≡ decode kind (word % 256) (word / 256)) × InThreeBytes (flat result) }
 {
-    if kind < 32 {
-        return Frame::Job(Job {
+    match kind {
+        0..=31 => Frame::Job(Job {
             offset: word % 1024,
             next: kind,
             count: (word / 1024) as u8,
-        });
-    }
-    if kind < 40 {
-        return Frame::Exit(Exit {
+        }),
+        32..=39 => Frame::Exit(Exit {
             unit: kind - 32,
             index: word,
-        });
+        }),
+        40 => Frame::Sleep,
+        _ => Frame::Bingo,
     }
-    if kind == 40 {
-        return Frame::Sleep;
-    }
-    Frame::Bingo
 }
 
 pub fn frame_at(work: &[u8], at: usize) -> Frame
@@ -108,18 +104,10 @@ pub fn put_frame(work: &mut [u8], at: usize, f: Frame)
     ensures { U.FramePut at (flat f) work.old work.new }
 {
     match f {
-        Frame::Job(job) => {
-            put_word(work, at, job.next, job.offset + u16::from(job.count) * 1024);
-        }
-        Frame::Exit(exit) => {
-            put_word(work, at, exit.unit + 32, exit.index);
-        }
-        Frame::Sleep => {
-            put_word(work, at, 40, 0);
-        }
-        Frame::Bingo => {
-            put_word(work, at, 41, 0);
-        }
+        Frame::Job(job) => put_word(work, at, job.next, job.offset + u16::from(job.count) * 1024),
+        Frame::Exit(exit) => put_word(work, at, exit.unit + 32, exit.index),
+        Frame::Sleep => put_word(work, at, 40, 0),
+        Frame::Bingo => put_word(work, at, 41, 0),
     }
 }
 
