@@ -13,7 +13,7 @@ use Rattle.whole.specs.declared.Limits.{Limits}
 use Rattle.entry.specs.State.{limited, state, Arrays}
 use Rattle.entry.specs.Promises.{Running}
 pub use Rattle.entry.specs.Promises.{ending}
-use Rattle.entry.specs.declared.Ending.{Ending}
+pub use Rattle.entry.specs.declared.Ending.{Ending}
 use Rattle.run.specs.declared.Run.{Run}
 
 -- before the first entry of a part nothing is counted but the rewrites of the parts before

@@ -43,7 +43,7 @@ use Rattle.units.proofs.Units.{length_units, unit_at, units_are, changed_then}
 use Rattle.units.proofs.Changes.{cell_rank, store_same, store_other}
 
 module _ (w c : List ℕ) where
-  units_all : (u n : ℕ) → u ≡ 0 → units_of w c n ≡ units_from w c u (n - u)
+  pub units_all : (u n : ℕ) → u ≡ 0 → units_of w c n ≡ units_from w c u (n - u)
   units_all u n e = let z : n - 0 ≡ n = omega arith in rw (e, z)
 
   -- the search for the first of the queue: what is left of it at unit u with m units to go
