@@ -9,7 +9,7 @@ use Rattle.paper.specs.Tree.{Correct, preorder}
 use Rattle.paper.specs.Book.{Term, Book, arity}
 use Rattle.paper.specs.Machine.{Ending}
 use Rattle.paper.specs.Run.{Answer}
-use Rattle.paper.specs.Page.{LineReader, ending_number, answer_by}
+use Rattle.paper.specs.Page.{LineReader, answer_by}
 use Rattle.paper.specs.Sound.{Sound}
 use Rattle.paper.proofs.Dated.{day_sound}
 use Rattle.paper.proofs.Enough.{told_alone}
@@ -17,6 +17,7 @@ use Rattle.paper.proofs.Line.{line_correct}
 use Rattle.paper.proofs.Readers.{accepted_injective, refused_accepted}
 use Rattle.paper.proofs.Text.{text_correct}
 use Rattle.entry.specs.State.{limited}
+use Rattle.entry.specs.declared.Ending as C
 use Rattle.run.specs.declared.Run.{Run}
 use Rattle.run.specs.Promises.{ending}
 use Rattle.engine.specs.Spec as R
@@ -27,19 +28,16 @@ use Rattle.bound.specs.declared.Bound as D
 
 -- BY THE ENDING
 
-pub other : (e : Ending) (s f : ℕ) → (ending_number e ≡ 0 → ⊥) → Bound.unknown e ≡ tells e s f
+pub other : (e : C.Ending) (s f : ℕ) → (e ≡ C.Ending.Finished → ⊥) → Bound.unknown (ending e) ≡ tells (ending e) s f
 unfolding tells
-other Ending.finished s f n = absurd (n refl)
-other Ending.spent s f n = refl
-other Ending.full s f n = refl
-other Ending.cut s f n = refl
+other C.Ending.Finished s f n = absurd (n refl)
+other C.Ending.Spent s f n = refl
+other C.Ending.Full s f n = refl
+other C.Ending.Cut s f n = refl
 
-pub finished : (e : Ending) (s f : ℕ) → ending_number e ≡ 0 → Bound.told s f ≡ tells e s f
+pub finished : (e : C.Ending) (s f : ℕ) → e ≡ C.Ending.Finished → Bound.told s f ≡ tells (ending e) s f
 unfolding tells
-finished Ending.finished s f n = refl
-finished Ending.spent s f n = absurd (omega arith)
-finished Ending.full s f n = absurd (omega arith)
-finished Ending.cut s f n = absurd (omega arith)
+finished e s f n = rw n
 
 -- what is told are the numbers of a run that finished
 told_of : (e : Ending) (s f S F : ℕ) → tells e s f ≡ Bound.told S F → (e ≡ Ending.finished) × (s ≡ S) × (f ≡ F)

@@ -14,7 +14,7 @@ use run::{Ending, Run};
 pub const ENTRIES: usize = 65536;
 
 // The number of the refusal; the ending of a run that did not finish; S, the orders that the run carries out, and F, its FORKs.
-#[derive(Drop)]
+#[derive(Clone, Copy, Debug, PartialEq, Eq)]
 pub enum Bound {
     Refused(u8),
     Unknown(Ending),
@@ -26,11 +26,10 @@ fn tell(run: Run) -> Bound
     requires { run.granted + run.kept ≤ run.entries }
     ensures { X.values result ≡ accepted (X.tells (ending run.ending) run.entries (run.granted + run.kept)) }
 {
-    let ending = run.ending;
-    if run::ending_number(ending) != 0 {
-        return Bound::Unknown(ending);
+    match run.ending {
+        Ending::Finished => Bound::Told(run.entries, run.granted + run.kept),
+        ending => Bound::Unknown(ending),
     }
-    Bound::Told(run.entries, run.granted + run.kept)
 }
 
 // S and F of a line or text by the rules of a book that stand on a day, if a run of one unit finishes within the budget.

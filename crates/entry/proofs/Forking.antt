@@ -20,7 +20,7 @@ use Rattle.tables.specs.Layout.{step_of, code_in, steps_in}
 use Rattle.net.proofs.Laws.{tables_by}
 use Rattle.units.specs.Stacks.{store, height_in, units_in}
 use Rattle.units.specs.Promises.{answer}
-use Rattle.units.specs.declared.Idle as I
+use Rattle.std.specs.Prelude.{Option as Answer, Some, None}
 use Rattle.units.specs.declared.frames.Job.{Job}
 use Rattle.placing.specs.Promises.{CanPlace}
 use Rattle.placing.proofs.Order.{placed_length}
@@ -114,17 +114,17 @@ module _ {bytes operators net symbols scratch work units order : List ℕ} {u : 
   }
 
   -- by the answer
-  pub fork_places : {b : ℕ} {work' units' : List ℕ} (g : I.Idle) → O.Forked x b l.units u (store work units) (store work' units') g → E.CanPlace g order
-  fork_places (I.TheVariants.Unit v) d = record { fits = z.order_fits; room = granted_room v d.found }
-  fork_places I.TheVariants.None d = record { fits = z.order_fits; room = tt }
+  pub fork_places : {b : ℕ} {work' units' : List ℕ} (g : Answer ℕ) → O.Forked x b l.units u (store work units) (store work' units') g → E.CanPlace g order
+  fork_places (Some v) d = record { fits = z.order_fits; room = granted_room v d.found }
+  fork_places None d = record { fits = z.order_fits; room = tt }
 
   -- the state behind a FORK is that of the counts and of the order behind it
-  counted : (work' units' order' : List ℕ) (g : I.Idle) → E.Placed g order order' →
+  counted : (work' units' order' : List ℕ) (g : Answer ℕ) → E.Placed g order order' →
       entries.counted_fork s (units_in (store work' units') l.units) (answer g) ≡ state symbols work' units' order' (forked p g) l
-  counted work' units' order' (I.TheVariants.Unit v) k =
-      ap (with_placed (state symbols work' units' order' (forked p (I.TheVariants.Unit v)) l)) (sym k.is)
-  counted work' units' order' I.TheVariants.None k =
-      ap (with_placed (state symbols work' units' order' (forked p I.TheVariants.None) l)) (sym k.is)
+  counted work' units' order' (Some v) k =
+      ap (with_placed (state symbols work' units' order' (forked p (Some v)) l)) (sym k.is)
+  counted work' units' order' None k =
+      ap (with_placed (state symbols work' units' order' (forked p None) l)) (sym k.is)
 
   -- found at offset b
   module _ {b : ℕ} (eb : b ≡ hop (sizes symbols) i (x.offset + 1)) where
@@ -140,7 +140,7 @@ module _ {bytes operators net symbols scratch work units order : List ℕ} {u : 
       grant = granted_fits;
     }
 
-    pub fork_entered : {work' units' order' : List ℕ} {g : I.Idle} → O.Forked x b l.units u (store work units) (store work' units') g → (p' : Progress) →
+    pub fork_entered : {work' units' order' : List ℕ} {g : Answer ℕ} → O.Forked x b l.units u (store work units) (store work' units') g → (p' : Progress) →
         (p' ≡ forked p g) × E.Placed g order order' →
         (going (state symbols work' units' order' p' l) ≡ flat_entry (F.B z r t) (F.L z r t) u s) × Arrays symbols scratch work' units' order' l
     fork_entered {work'} {units'} {order'} {g} d p' h =

@@ -1,7 +1,7 @@
 -- One entry (document 01, 'Orders of a unit'): what it asks of the state, and that its outcome is the machine's on lists. Assumes nothing.
-use Rattle.std.specs.Prelude.{true, List, ◌∷◌, ◌≡◌, ℕ, suc, ◌+◌, ◌-◌, ◌^◌, ◌≤◌, ◌<◌, length, get_or}
+use Rattle.std.specs.Prelude.{true, List, ◌∷◌, Option, Some, None, Result, Ok, Err, ◌≡◌, ℕ, suc, ◌+◌, ◌-◌, ◌^◌, ◌≤◌, ◌<◌, length, get_or}
 use Rattle.std.proofs.Math.Option.{some}
-use Rattle.paper.specs.Machine.{Ending}
+use Rattle.paper.specs.Machine as paper
 use Rattle.paper.specs.Sound.{All}
 use Rattle.paper.specs.Strategy.{Step}
 use Rattle.flat.specs.Machine.{Frame, FlatState, FlatOutcome, going, ended, mark, flat_entry}
@@ -12,7 +12,6 @@ use Rattle.term.specs.Present.{length_in, operators_in, marks_in, sizes_in}
 use Rattle.net.specs.Net.{book_by, NetOf}
 use Rattle.units.specs.Stacks.{busy_in, Store, store}
 use Rattle.units.specs.Promises.{TopIs}
-use Rattle.units.specs.declared.Idle as I
 use Rattle.units.specs.declared.frames.Job.{Job}
 use Rattle.placing.specs.Order.{placed_in, OrderFits}
 use Rattle.placing.specs.Promises as C
@@ -20,7 +19,7 @@ use Rattle.orders.specs.Promises as O
 use Rattle.whole.specs.declared.Progress.{Progress}
 use Rattle.whole.specs.declared.Limits.{Limits}
 use Rattle.entry.specs.State.{limited}
-use Rattle.entry.specs.declared.Entry.{Entry}
+use Rattle.entry.specs.declared.Ending.{Ending}
 
 -- the operators and the net are of a book, and s is a state that runs by it reach
 pub record Running (bytes operators net : List ℕ) (l : Limits) (s : FlatState) : Type 0 where
@@ -37,39 +36,42 @@ pub record Turn (l : Limits) (u : ℕ) (s : FlatState) : Type 0 where
   pub room : s.granted + s.kept + 1 < 2 ^ 64
 
 -- the progress behind an entry; one that ends the run has changed nothing
-abbrev pub after : Progress → Entry → Progress
-after p (Entry.Going p') = p'
-after p Entry.Finished = p
-after p Entry.Spent = p
-after p Entry.Full = p
+abbrev pub after : Progress → Result Progress Ending → Progress
+after p (Ok p') = p'
+after p (Err e) = p
+
+-- the paper's ending; its number is ending_number of the paper's page
+abbrev pub ending : Ending → paper.Ending
+ending Ending.Finished = paper.finished
+ending Ending.Spent = paper.spent
+ending Ending.Full = paper.full
+ending Ending.Cut = paper.cut
 
 -- the outcome that an answer tells, s being the state behind it
-abbrev pub outcome : Entry → FlatState → FlatOutcome
-outcome (Entry.Going p) s = going s
-outcome Entry.Finished s = ended Ending.finished s
-outcome Entry.Spent s = ended Ending.spent s
-outcome Entry.Full s = ended Ending.full s
+abbrev pub outcome : Result Progress Ending → FlatState → FlatOutcome
+outcome (Ok p) s = going s
+outcome (Err e) s = ended (ending e) s
 
 -- the progress behind a FORK that a unit got, or that was kept
-abbrev pub forked : Progress → I.Idle → Progress
-forked p (I.TheVariants.Unit v) = record { rewrites = p.rewrites; granted = suc p.granted; kept = p.kept }
-forked p I.TheVariants.None = record { rewrites = p.rewrites; granted = p.granted; kept = suc p.kept }
+abbrev pub forked : Progress → Option ℕ → Progress
+forked p (Some v) = record { rewrites = p.rewrites; granted = suc p.granted; kept = p.kept }
+forked p None = record { rewrites = p.rewrites; granted = p.granted; kept = suc p.kept }
 
 -- the order of placing behind it
-abbrev pub placed_by : I.Idle → List ℕ → List ℕ
-placed_by (I.TheVariants.Unit v) vs = v ∷ vs
-placed_by I.TheVariants.None vs = vs
+abbrev pub placed_by : Option ℕ → List ℕ → List ℕ
+placed_by (Some v) vs = v ∷ vs
+placed_by None vs = vs
 
 -- there is room for a part that a unit got; it has been placed
-abbrev pub RoomFor : I.Idle → List ℕ → Type 0
-RoomFor (I.TheVariants.Unit v) order = C.CanPlace order v
-RoomFor I.TheVariants.None order = Unit {0}
+abbrev pub RoomFor : Option ℕ → List ℕ → Type 0
+RoomFor (Some v) order = C.CanPlace order v
+RoomFor None order = Unit {0}
 
-pub record CanPlace (got : I.Idle) (order : List ℕ) : Type 0 where
+pub record CanPlace (got : Option ℕ) (order : List ℕ) : Type 0 where
   pub fits : OrderFits order
   pub room : RoomFor got order
 
-pub record Placed (got : I.Idle) (order order' : List ℕ) : Type 0 where
+pub record Placed (got : Option ℕ) (order order' : List ℕ) : Type 0 where
   pub fits : OrderFits order'
   pub is : placed_in order' ≡ placed_by got (placed_in order)
 

@@ -2,7 +2,7 @@
 #![tactic(auto)]
 
 ghost use Rattle.std.proofs.Math.Option.{some};
-ghost use Rattle.std.specs.Prelude.{◌≡◌, ◌+◌, ◌-◌, ◌^◌, ◌≤◌, ◌<◌, length, get_or, drop};
+ghost use Rattle.std.specs.Prelude.{◌≡◌, ◌+◌, ◌-◌, ◌^◌, ◌≤◌, ◌<◌, ◌≢◌, IfErr, length, get_or, drop};
 ghost use Rattle.paper.specs.Strategy as P;
 ghost use Rattle.flat.specs.Machine.{FlatState, flat_entry};
 ghost use Rattle.symbol.specs.Record.{operator};
@@ -17,16 +17,16 @@ ghost use Rattle.entry.specs.State as S;
 ghost use Rattle.entry.specs.Promises as E;
 
 use tables::Step;
-use units::{Frame, Idle, Job};
+use units::{Frame, Job};
 use whole::{Limits, Place, Progress, Whole};
 
-// The run goes on from here; or this entry ends it, and nothing has changed.
-#[derive(Drop)]
-pub enum Entry {
-    Going(Progress),
+// How a run ends: an entry ends it, which changes nothing, or its schedule does.
+#[derive(Clone, Copy, Debug, PartialEq, Eq)]
+pub enum Ending {
     Finished,
     Spent,
     Full,
+    Cut,
 }
 
 // The unit whose turn it is, the job on top of its stack, and the operator of the job's term, which is read once.
@@ -38,21 +38,23 @@ struct Task {
 }
 
 // A FORK has been carried out: a part that a unit got is placed, any other was kept.
-fn forked(order: &mut [u16; 1024], p: Progress, got: Idle) -> Progress
+fn forked(order: &mut [u16; 1024], p: Progress, got: Option<usize>) -> Progress
     requires { (p.granted + p.kept + 1 < 2 ^ 64) × E.CanPlace got order.old }
     ensures { (result ≡ E.forked p got) × E.Placed got order.old order.new }
 {
-    let mut next = p;
     match got {
-        Idle::Unit(v) => {
+        Some(v) => {
             placing::place(order, v);
-            next.granted = p.granted + 1;
+            Progress {
+                granted: p.granted + 1,
+                ..p
+            }
         }
-        Idle::None => {
-            next.kept = p.kept + 1;
-        }
+        None => Progress {
+            kept: p.kept + 1,
+            ..p
+        },
     }
-    next
 }
 
 // A rewrite has been made.
@@ -62,8 +64,7 @@ fn rewritten(p: Progress) -> Progress
 {
     Progress {
         rewrites: p.rewrites + 1,
-        granted: p.granted,
-        kept: p.kept,
+        ..p
     }
 }
 
@@ -89,7 +90,7 @@ fn visit(
     ensures { let s : Store = store work.old units.old in E.Visited operators.now task.job.offset task.unit symbols.old symbols.new s (store work.new units.new) }
 {
     let job = task.job;
-    let a = casts::offset(job.offset);
+    let a = usize::from(job.offset);
     if term::is_marked_at(symbols, a) {
         units::drop_top(units, task.unit);
         return;
@@ -112,7 +113,7 @@ fn visit_argument(
     ensures { let s : Store = store work.old units.old in E.ArgumentVisited operators.now job i u symbols.old symbols.new s (store work.new units.new) }
 {
     let b = orders::argument(symbols, job, i);
-    let at = casts::offset(b);
+    let at = usize::from(b);
     if term::is_marked_at(symbols, at) {
         orders::advance(work, units, u, job);
         return;
@@ -135,16 +136,17 @@ fn rewrite(
     task: Task,
     p: Progress,
     l: Limits,
-) -> Entry
+) -> Result<Progress, Ending>
     requires arrays { S.Arrays symbols.old scratch.old work.old units.old order.now l }
     requires running { let s : FlatState = S.state symbols.old work.old units.old order.now p l in E.Running book.now operators.now net.now l s × E.Turn l task.unit s × E.Working work.old units.old task.unit task.job × (task.operator ≡ operator (get_or symbols.old task.job.offset 0)) }
     requires next { E.Next operators.now symbols.old task.job P.Step.whole }
     ensures l_after { let s : FlatState = S.state symbols.old work.old units.old order.now p l in E.outcome result (S.state symbols.new work.new units.new order.now (E.after p result) l) ≡ E.entered book.now net.now l task.unit s }
     ensures arrays_2 { S.Arrays symbols.new scratch.new work.new units.new order.now l }
+    ensures over { IfErr result (λ e. e ≢ Ending.Cut) }
 {
     let u = task.unit;
     let job = task.job;
-    let a = casts::offset(job.offset);
+    let a = usize::from(job.offset);
     let o = task.operator;
     let place = Place {
         unit: u,
@@ -157,11 +159,11 @@ fn rewrite(
         Whole::Missed => {
             orders::proceed(operators, work, units, u, o, job);
             mark_last(operators, symbols, o, job.next, a);
-            Entry::Going(p)
+            Ok(p)
         }
-        Whole::Rewrote => Entry::Going(rewritten(p)),
-        Whole::Spent => Entry::Spent,
-        Whole::Full => Entry::Full,
+        Whole::Rewrote => Ok(rewritten(p)),
+        Whole::Spent => Err(Ending::Spent),
+        Whole::Full => Err(Ending::Full),
     }
 }
 
@@ -178,12 +180,13 @@ fn step(
     task: Task,
     p: Progress,
     l: Limits,
-) -> Entry
+) -> Result<Progress, Ending>
     requires arrays { S.Arrays symbols.old scratch.old work.old units.old order.old l }
     requires running { let s : FlatState = S.state symbols.old work.old units.old order.old p l in E.Running book.now operators.now net.now l s × E.Turn l task.unit s × E.Working work.old units.old task.unit task.job × (task.operator ≡ operator (get_or symbols.old task.job.offset 0)) }
     requires le_next { 1 ≤ task.job.next }
     ensures l_after { let s : FlatState = S.state symbols.old work.old units.old order.old p l in E.outcome result (S.state symbols.new work.new units.new order.new (E.after p result) l) ≡ E.entered book.now net.now l task.unit s }
     ensures arrays_2 { S.Arrays symbols.new scratch.new work.new units.new order.new l }
+    ensures over { IfErr result (λ e. e ≢ Ending.Cut) }
 {
     let u = task.unit;
     let job = task.job;
@@ -191,16 +194,16 @@ fn step(
     match tables::step_at(operators, o, job.next - 1) {
         Step::Visit(i) => {
             visit_argument(operators, symbols, work, units, u, job, i);
-            Entry::Going(p)
+            Ok(p)
         }
         Step::Fork(i) => {
             let b = orders::argument(symbols, job, i);
             let got = orders::fork(work, units, l.units, u, job, b);
-            Entry::Going(forked(order, p, got))
+            Ok(forked(order, p, got))
         }
         Step::Join(_) => {
             orders::join(operators, work, units, l.units, u, o, job);
-            Entry::Going(p)
+            Ok(p)
         }
         // WHOLE: a job with no step left is not kept on a stack.
         _ => rewrite(
@@ -222,15 +225,16 @@ fn carry_out(
     task: Task,
     p: Progress,
     l: Limits,
-) -> Entry
+) -> Result<Progress, Ending>
     requires arrays { S.Arrays symbols.old scratch.old work.old units.old order.old l }
     requires running { let s : FlatState = S.state symbols.old work.old units.old order.old p l in E.Running book.now operators.now net.now l s × E.Turn l task.unit s × E.Working work.old units.old task.unit task.job × (task.operator ≡ operator (get_or symbols.old task.job.offset 0)) }
     ensures l_after { let s : FlatState = S.state symbols.old work.old units.old order.old p l in E.outcome result (S.state symbols.new work.new units.new order.new (E.after p result) l) ≡ E.entered book.now net.now l task.unit s }
     ensures arrays_2 { S.Arrays symbols.new scratch.new work.new units.new order.new l }
+    ensures over { IfErr result (λ e. e ≢ Ending.Cut) }
 {
     if task.job.next == 0 {
         visit(operators, symbols, work, units, task);
-        return Entry::Going(p);
+        return Ok(p);
     }
     step(
         book, operators, net, symbols, scratch, work, units, order, task, p, l,
@@ -250,45 +254,37 @@ pub fn enter(
     u: usize,
     p: Progress,
     l: Limits,
-) -> Entry
+) -> Result<Progress, Ending>
     requires arrays { S.Arrays symbols.old scratch.old work.old units.old order.old l }
     requires running { let s : FlatState = S.state symbols.old work.old units.old order.old p l in E.Running book.now operators.now net.now l s × E.Turn l u s }
     ensures l_after { let s : FlatState = S.state symbols.old work.old units.old order.old p l in E.outcome result (S.state symbols.new work.new units.new order.new (E.after p result) l) ≡ E.entered book.now net.now l u s }
     ensures arrays_2 { S.Arrays symbols.new scratch.new work.new units.new order.new l }
+    ensures over { IfErr result (λ e. e ≢ Ending.Cut) }
 {
     if !units::is_busy(units, u) {
-        return Entry::Going(p);
+        return Ok(p);
     }
     match units::top(work, units, u) {
         Frame::Job(job) => {
-            let operator = term::operator_at(symbols, casts::offset(job.offset));
+            let operator = term::operator_at(symbols, usize::from(job.offset));
+            let task = Task {
+                unit: u,
+                job,
+                operator,
+            };
             carry_out(
-                book,
-                operators,
-                net,
-                symbols,
-                scratch,
-                work,
-                units,
-                order,
-                Task {
-                    unit: u,
-                    job,
-                    operator,
-                },
-                p,
-                l,
+                book, operators, net, symbols, scratch, work, units, order, task, p, l,
             )
         }
         Frame::Exit(exit) => {
             orders::exit(work, units, u, exit);
             placing::take_out(order, u);
-            Entry::Going(p)
+            Ok(p)
         }
         Frame::Sleep => {
             units::sleep_unit(units, l.units, u);
-            Entry::Going(p)
+            Ok(p)
         }
-        Frame::Bingo => Entry::Finished,
+        Frame::Bingo => Err(Ending::Finished),
     }
 }

@@ -136,10 +136,9 @@ module _ {operators symbols : List ℕ} {x : Job} {i : ℕ} (q : ArgumentInside 
   inside : (argument_of operators xs x i).offset < length_in symbols
   inside = argument_inside (arity_in operators) symbols q.sized x.offset i q.offset q.few
 
-  pub argument_asks : (length symbols ≡ 1024) × (x.offset < 1024) × Hops (sizes symbols) i (x.offset + 1)
+  pub argument_asks : (x.offset < 1024) × Hops (sizes symbols) i (x.offset + 1)
       × (hop (sizes symbols) i (x.offset + 1) < 1024)
   argument_asks = (
-    q.sized.long,
     omega (arith, q.offset, q.sized.most),
     argument_hops (arity_in operators) symbols q.sized x.offset i q.offset (omega (arith, q.few)),
     omega (arith, hop_is, inside, q.sized.most),

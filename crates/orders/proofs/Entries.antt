@@ -20,7 +20,7 @@ use Rattle.tables.proofs.Rows.{here_is}
 use Rattle.flat.proofs.Idle.{idle_other}
 use Rattle.units.specs.Stacks.{height_in, Store, units_in}
 use Rattle.units.specs.Promises.{StacksFit, dropped, at, Changed, CellIdled, answer}
-use Rattle.units.specs.declared.Idle.{Idle}
+use Rattle.std.specs.Prelude.{Option as Answer}
 use Rattle.units.specs.declared.frames.Job.{Job}
 use Rattle.units.specs.declared.frames.Exit.{Exit}
 use Rattle.units.proofs.Units.{height_at, at_is, at_else}
@@ -196,7 +196,7 @@ module _ (B : Book) (L : Limits) (u n : ℕ) (s : FlatState) (t : Store) (us : s
             (ap₂ (λ (y : List FlatUnit) (z : FlatUnit). leave 1 (put y v z)) (ap (λ (gs : List Frame). put s.units u (flat_unit 0 gs)) (goes x.count) ∙ at_here g)
             (ap₂ (λ (z : FlatUnit) (j : ℕ). given u j b z) m (sym height_here)))
 
-        pub fork_entry : (i : ℕ) {t' : Store} {r : Idle} → some (Step.fork i) ≡ step_of (code_in operators (operator x.offset) (x.next - 1)) →
+        pub fork_entry : (i : ℕ) {t' : Store} {r : Answer ℕ} → some (Step.fork i) ≡ step_of (code_in operators (operator x.offset) (x.next - 1)) →
             (argument_by B s.symbols x i).offset < length s.symbols → Forked x (argument_of operators s.symbols x i).offset n u t t' r →
             carry_out B L u s fs (Frame.job x.offset x.next x.count) ≡ going (counted_fork s (units_in t' n) (answer r))
         unfolding do_step

@@ -1,13 +1,13 @@
 -- Laws of FORK: the argument is kept, or an idle unit gets it. Assumes nothing.
-use mathlib.Core.Path.{◌≡◌, sym, ap, ap₂, subst, ◌∙◌}
+use mathlib.Core.Path.{◌≡◌, refl, sym, ap, ap₂, subst, ◌∙◌}
 use mathlib.Core.List.{List}
 use mathlib.Core.Option.{none, some}
-use Prim.Native.Nat.{ℕ, ◌-◌, pred}
+use Prim.Native.Nat.{ℕ, zero, suc, ◌-◌, pred}
 use native.Mathlib.Omega.{arith}
 use Rattle.flat.specs.Machine.{Frame, FlatUnit, first_idle, leave}
 use Rattle.units.specs.Stacks.{height_in, Store, store, units_in}
 use Rattle.units.specs.Promises.{HasRoom, pushed, at, Changed, CellsLeft}
-use Rattle.units.specs.declared.Idle as I
+use Rattle.std.proofs.Common.{Some, None}
 use Rattle.units.specs.declared.frames.Job.{Job}
 use Rattle.units.proofs.Units.{changed_then, height_is, height_same, height_other}
 use Rattle.orders.specs.Promises.{
@@ -25,11 +25,15 @@ use Rattle.orders.specs.Promises.{
   Forked,
 }
 
+one_less : (n : ℕ) → n - 1 ≡ pred n
+one_less zero = refl
+one_less (suc n) = omega arith
+
 -- kept: the job goes on with a count c that is one less, and another is pushed
-module _ (x : Job) {u c : ℕ} {s s₁ : Store} (e : c ≡ pred x.count)
+module _ (x : Job) {u c : ℕ} {s s₁ : Store} (e : c ≡ x.count - 1)
     (p : Advanced (record { offset = x.offset; next = x.next; count = c }) u s s₁) where
   lowered : Restacked (advances x (pred x.count)) u s s₁
-  lowered = subst (λ (y : ℕ). Restacked (advances x y) u s s₁) e p.change
+  lowered = subst (λ (y : ℕ). Restacked (advances x y) u s s₁) (e ∙ one_less x.count) p.change
 
   pub keep_room : {b : ℕ} → CanKeep x b u s → HasRoom s₁ u 1
   keep_room q = record { fit = p.change.fit; unit = q.job.top.unit; room = omega (arith, q.room, height_same lowered) }
@@ -62,14 +66,14 @@ module _ {x : Job} {u : ℕ} {s s₁ : Store} (p : Advanced x u s s₁) where
 
 -- by the search
 module _ {x : Job} {b n u : ℕ} {s s' : Store} where
-  pub fork_grants : {v : ℕ} → first_idle (units_in s n) ≡ some v → Granted x b v u s s' → Forked x b n u s s' (I.TheVariants.Unit v)
+  pub fork_grants : {v : ℕ} → first_idle (units_in s n) ≡ some v → Granted x b v u s s' → Forked x b n u s s' (Some v)
   fork_grants z g = record {
     fit = g.fit;
     units = g.units n ∙ ap (forks x b u (height_in s.cells u) (units_in s n)) (sym z);
     found = z;
   }
 
-  pub fork_keeps : first_idle (units_in s n) ≡ none → ArgumentKept x b u s s' → Forked x b n u s s' I.TheVariants.None
+  pub fork_keeps : first_idle (units_in s n) ≡ none → ArgumentKept x b u s s' → Forked x b n u s s' None
   fork_keeps z d = record {
     fit = d.change.fit;
     units = d.change.units n ∙ ap (forks x b u (height_in s.cells u) (units_in s n)) (sym z);

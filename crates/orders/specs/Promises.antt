@@ -1,6 +1,7 @@
 -- What the orders of a unit ask and do, on the units as they are kept, by the machine on lists: ss are the steps of the term's operator, as the table
 -- has them, x is the job on top of unit u's stack, and s the work area with the cells, before and after. Assumes nothing.
 use Rattle.std.specs.Prelude.{◌≡◌, Bool, true, false, List, [], ◌∷◌, ◌≢◌, ℕ, zero, suc, ◌+◌, ◌-◌, ◌≤◌, ◌<◌, pred, length, get_or, drop}
+use Rattle.std.specs.Prelude.{Option as Answer}
 use Rattle.std.proofs.Math.Option.{Option, none, some}
 use Rattle.paper.specs.Strategy.{Step}
 use Rattle.paper.specs.Marks.{unless_marked}
@@ -10,7 +11,6 @@ use Rattle.tables.specs.Layout.{arity_in, steps_in, Rowed}
 use Rattle.term.specs.Present.{length_in, operators_in, Sized}
 use Rattle.units.specs.Stacks.{height, height_in, Store, units_in, unit_in}
 use Rattle.units.specs.Promises.{StacksFit, HasFrame, dropped, idled, at, Changed, answer}
-use Rattle.units.specs.declared.Idle.{Idle}
 use Rattle.units.specs.declared.frames.Job.{Job}
 use Rattle.units.specs.declared.frames.Exit.{Exit}
 
@@ -185,7 +185,7 @@ pub record CanFork (x : Job) (b n u : ℕ) (s : Store) : Type 0 where
   pub keep : first_idle (units_in s n) ≡ none → RoomFor (keeps x b) u s
   pub grant : (v : ℕ) → first_idle (units_in s n) ≡ some v → (v ≢ u) × (height_in s.cells v + 2 ≤ height)
 
-pub record Forked (x : Job) (b n u : ℕ) (s s' : Store) (r : Idle) : Type 0 where
+pub record Forked (x : Job) (b n u : ℕ) (s s' : Store) (r : Answer ℕ) : Type 0 where
   pub fit : StacksFit s'
   pub units : units_in s' n ≡ forks x b u (height_in s.cells u) (units_in s n) (first_idle (units_in s n))
   pub found : first_idle (units_in s n) ≡ answer r

@@ -2,7 +2,7 @@
 // u's stack, and o the operator of its term: the job's next order is carried out, and it goes on with the one behind.
 #![tactic(auto)]
 
-ghost use Rattle.std.specs.Prelude.{◌≡◌, ◌+◌, ◌<◌, ◌≤◌, pred, length, drop};
+ghost use Rattle.std.specs.Prelude.{◌≡◌, ◌+◌, ◌<◌, ◌≤◌, drop};
 ghost use Rattle.flat.specs.Sizes.{hop};
 ghost use Rattle.symbol.specs.Record.{sizes};
 ghost use Rattle.tables.specs.Layout as L;
@@ -12,7 +12,7 @@ ghost use Rattle.units.specs.Promises as U;
 ghost use Rattle.orders.specs.Promises as O;
 
 use tables::Step;
-use units::{Exit, Frame, Idle, Job};
+use units::{Exit, Frame, Job};
 
 // Has operator o a step k?
 pub fn has_step(operators: &[u8; 4352], o: u8, k: u8) -> bool
@@ -30,18 +30,11 @@ fn next_count(operators: &[u8; 4352], o: u8, k: u8) -> u8
     requires { (k ≤ 16) × L.Rowed operators.now o }
     ensures { O.Counted (drop k (L.steps_in operators.now o)) result }
 {
-    let mut i = k;
-    while i < 16 {
+    for i in k..16 {
         match tables::step_at(operators, o, i) {
-            Step::None => {
-                return 0;
-            }
-            Step::Join(c) => {
-                return c;
-            }
-            _ => {
-                i += 1;
-            }
+            Step::None => return 0,
+            Step::Join(c) => return c,
+            _ => {}
         }
     }
     0
@@ -57,9 +50,8 @@ pub fn advance(work: &mut [u8], units: &[u32; 8], u: usize, job: Job)
         units,
         u,
         Frame::Job(Job {
-            offset: job.offset,
             next: job.next + 1,
-            count: job.count,
+            ..job
         }),
     );
 }
@@ -125,10 +117,10 @@ pub fn visit(operators: &[u8; 4352], work: &mut [u8], units: &mut [u32; 8], u: u
 
 // The offset of argument i of the job's term.
 pub fn argument(symbols: &[u32; 1024], job: Job, i: u8) -> u16
-    requires { (length symbols.now ≡ 1024) × (job.offset < 1024) × Hops (sizes symbols.now) i (job.offset + 1) × (hop (sizes symbols.now) i (job.offset + 1) < 1024) }
+    requires { (job.offset < 1024) × Hops (sizes symbols.now) i (job.offset + 1) × (hop (sizes symbols.now) i (job.offset + 1) < 1024) }
     ensures { (result ≡ hop (sizes symbols.now) i (job.offset + 1)) × (result < 1024) }
 {
-    casts::short(term::argument(symbols, casts::offset(job.offset), casts::index(i)))
+    term::argument(symbols, usize::from(job.offset), usize::from(i)) as u16
 }
 
 // VISIT of the argument at offset b, of operator p: the job goes on, and the argument's orders are put on top of it.
@@ -162,17 +154,8 @@ pub fn join(
     ensures { let s : K.Store = K.store work.old units.old in O.Joined (L.steps_in operators.now o) job count u s (K.store work.new units.new) }
 {
     if job.count == 0 {
-        let c = next_count(operators, o, job.next);
-        advance(
-            work,
-            units,
-            u,
-            Job {
-                offset: job.offset,
-                next: job.next,
-                count: c,
-            },
-        );
+        let count = next_count(operators, o, job.next);
+        advance(work, units, u, Job { count, ..job });
     } else {
         units::wait_unit(units, count, u);
     }
@@ -184,21 +167,7 @@ pub fn exit(work: &mut [u8], units: &mut [u32; 8], u: usize, exit: Exit)
     ensures { let s : K.Store = K.store work.old units.old in O.Exited exit u s (K.store work.new units.new) }
 {
     units::drop_top(units, u);
-    units::arrive(
-        work,
-        units,
-        casts::index(exit.unit),
-        casts::offset(exit.index),
-    );
-}
-
-fn lower(count: u8) -> u8
-    ensures { (result ≡ pred count) × (result ≤ count) }
-{
-    if count == 0 {
-        return 0;
-    }
-    count - 1
+    units::arrive(work, units, usize::from(exit.unit), usize::from(exit.index));
 }
 
 // FORK with no idle unit: the argument at offset b is kept, as a job on top of the one that goes on.
@@ -206,27 +175,9 @@ fn keep(work: &mut [u8], units: &mut [u32; 8], u: usize, job: Job, b: u16)
     requires { let s : K.Store = K.store work.old units.old in O.CanKeep job b u s }
     ensures { let s : K.Store = K.store work.old units.old in O.ArgumentKept job b u s (K.store work.new units.new) }
 {
-    let c = lower(job.count);
-    advance(
-        work,
-        units,
-        u,
-        Job {
-            offset: job.offset,
-            next: job.next,
-            count: c,
-        },
-    );
-    units::push(
-        work,
-        units,
-        u,
-        Frame::Job(Job {
-            offset: b,
-            next: 0,
-            count: 0,
-        }),
-    );
+    let count = job.count.saturating_sub(1);
+    advance(work, units, u, Job { count, ..job });
+    units::push(work, units, u, Frame::Job(Job::new(b)));
 }
 
 // The term at offset b is put on unit v's stack, over an EXIT; v is the first of the idle queue, and leaves it.
@@ -235,16 +186,7 @@ fn give(work: &mut [u8], units: &mut [u32; 8], v: usize, exit: Exit, b: u16)
     ensures { let s : K.Store = K.store work.old units.old in O.Given v exit.unit exit.index b s (K.store work.new units.new) }
 {
     units::push(work, units, v, Frame::Exit(exit));
-    units::push(
-        work,
-        units,
-        v,
-        Frame::Job(Job {
-            offset: b,
-            next: 0,
-            count: 0,
-        }),
-    );
+    units::push(work, units, v, Frame::Job(Job::new(b)));
     units::leave(units, 1);
 }
 
@@ -260,26 +202,29 @@ fn grant(work: &mut [u8], units: &mut [u32; 8], u: usize, job: Job, b: u16, v: u
         units,
         v,
         Exit {
-            unit: casts::byte(u),
-            index: index,
+            unit: u as u8,
+            index,
         },
         b,
     );
 }
 
 // FORK of the argument at offset b, by unit u of so many: the first of the idle queue gets it, or it is kept; which unit got it.
-pub fn fork(work: &mut [u8], units: &mut [u32; 8], count: usize, u: usize, job: Job, b: u16) -> Idle
+pub fn fork(
+    work: &mut [u8],
+    units: &mut [u32; 8],
+    count: usize,
+    u: usize,
+    job: Job,
+    b: u16,
+) -> Option<usize>
     requires { let s : K.Store = K.store work.old units.old in O.CanFork job b count u s }
     ensures { let s : K.Store = K.store work.old units.old in O.Forked job b count u s (K.store work.new units.new) result }
 {
-    match units::first_idle(units, count) {
-        Idle::Unit(v) => {
-            grant(work, units, u, job, b, v);
-            Idle::Unit(v)
-        }
-        Idle::None => {
-            keep(work, units, u, job, b);
-            Idle::None
-        }
+    let idle = units::first_idle(units, count);
+    match idle {
+        Some(v) => grant(work, units, u, job, b, v),
+        None => keep(work, units, u, job, b),
     }
+    idle
 }

@@ -2,9 +2,10 @@
 use mathlib.Core.Path.{◌≡◌, refl, sym, ap, ◌∙◌}
 use mathlib.Core.List.{List, ◌∷◌}
 use mathlib.Core.Logic.{◌≢◌, ◌⊎◌, inl, inr}
-use Prim.Native.Nat.{ℕ, zero, suc, ◌+◌, ◌≤◌, ◌<◌}
+use Prim.Native.Nat.{ℕ, zero, suc, ◌+◌, ◌-◌, ◌≤◌, ◌<◌}
 use native.Mathlib.Omega.{arith}
 use native.Mathlib.Numerals.{add-one}
+use Rattle.std.specs.List.{CopiedTo, SameBelow, SameFrom}
 use lib.ListN.{length, get_or, set, length-set}
 use lib.Seq.{get_or-set_same, get_or-set_other}
 use borrow.Author.Tests.{eq-eqb, ne_eqb}
@@ -93,8 +94,9 @@ later_found order u i (suc n) l f h =
 pub latest_is : (order : List ℕ) (u i : ℕ) → i ≤ pending_in order → (i ≡ 0) ⊎ (get_or order i 0 ≡ u) → NoneLater order u i → Latest order u i
 latest_is order u i l f h = record { few = l; is = later_found order u i (pending_in order) l f h }
 
-pub later_more : (order : List ℕ) (u i i' : ℕ) → NoneLater order u i → get_or order i 0 ≢ u → i ≡ suc i' → NoneLater order u i'
-later_more order u i i' h ne e j a b z = elim (eqb_cases j i) [ inl p ↦ ne (ap (λ (k : ℕ). get_or order k 0) (sym p.1) ∙ z) | inr p ↦ h j (omega (arith, p.1)) b z ]
+pub later_more : (order : List ℕ) (u i : ℕ) → NoneLater order u i → {k k' : ℕ} → get_or order k 0 ≢ u → (k ≡ i) × (i ≡ suc k') → NoneLater order u k'
+later_more order u i h {k} ne e j a b z =
+    elim (eqb_cases j k) [ inl p ↦ ne (ap (λ (m : ℕ). get_or order m 0) (sym p.1) ∙ z) | inr p ↦ h j (omega (arith, p.1)) b z ]
 
 -- A PART GONE
 
@@ -105,22 +107,14 @@ pub record Moved (i k : ℕ) (order order' : List ℕ) : Type 0 where
   pub down : (j : ℕ) → i ≤ j → j < k → get_or order' j 0 ≡ get_or order (suc j) 0
   pub above : (j : ℕ) → k ≤ j → get_or order' j 0 ≡ get_or order j 0
 
-pub moved_start : {i k : ℕ} {order : List ℕ} → i ≡ k → Moved i k order order
-moved_start e = record { size = refl; below = λ j l. refl; down = λ j a b. absurd (omega arith); above = λ j l. refl }
-
-pub moved_more : {i k k' x : ℕ} {order order₁ : List ℕ} → i ≤ k → k < length order → Moved i k order order₁ → k' ≡ k + 1 → x ≡ get_or order₁ (k + 1) 0 →
-    Moved i k' order (set order₁ k x)
-moved_more {i} {k} {k'} {x} {order} {order₁} a l m e f =
-    record {
-      size = length-set order₁ k x ∙ m.size;
-      below = λ j h. get_or-set_other order₁ k j x 0 (λ z. absurd (omega arith)) ∙ m.below j h;
-      down = λ j b c. elim (eqb_cases j k) [
-        | inl p ↦ ap (λ (z : ℕ). get_or (set order₁ k x) z 0) p.1 ∙ get_or-set_same order₁ k x 0 (omega (arith, m.size)) ∙ f
-            ∙ ap (λ (z : ℕ). get_or order₁ z 0) (add-one k) ∙ m.above (suc k) (omega arith) ∙ ap (λ (z : ℕ). get_or order (suc z) 0) (sym p.1)
-        | inr p ↦ get_or-set_other order₁ k j x 0 p.1 ∙ m.down j b (omega (arith, p.1))
-      ];
-      above = λ j h. get_or-set_other order₁ k j x 0 (λ z. absurd (omega arith)) ∙ m.above j (omega arith);
-    }
+pub moved_down : {i n from : ℕ} (to : ℕ) {order order' : List ℕ} → length order' ≡ length order → from ≡ i + 1 → to - from ≡ n - i →
+    CopiedTo order order' from i (to - from) × SameBelow order order' i × SameFrom order order' (i + (to - from)) → i ≤ n → Moved i n order order'
+moved_down to {order = order} s f t c l = record {
+  size = s;
+  below = λ j h. c.1 j 0 h;
+  down = λ j a b. c.0 j 0 a (omega arith) ∙ ap (λ (k : ℕ). get_or order k 0) (omega arith);
+  above = λ j h. c.2 j 0 (omega arith);
+}
 
 module _ (i n : ℕ) (order order' : List ℕ) (b : (j : ℕ) → 1 ≤ j → j < i → get_or order' j 0 ≡ get_or order j 0)
     (d : (j : ℕ) → i ≤ j → j < n → get_or order' j 0 ≡ get_or order (suc j) 0) (one : 1 ≤ i) where

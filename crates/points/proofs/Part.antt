@@ -24,7 +24,7 @@ use Rattle.whole.specs.declared.Limits.{Limits}
 use Rattle.entry.specs.State as E
 use Rattle.entry.specs.State.{limited}
 use Rattle.run.specs.Promises.{counted, left_by, answer, Ran}
-use Rattle.run.specs.declared.Ending.{Ending}
+use Rattle.entry.specs.declared.Ending.{Ending}
 use Rattle.run.specs.declared.Run.{Run}
 use Rattle.point.specs.declared.Numbers.{Numbers}
 use Rattle.point.specs.Saved.{Arrays, arrays, saved}

@@ -6,7 +6,7 @@ use Rattle.flat.specs.Form.{Saved}
 use Rattle.flat.specs.Parts.{kept_count}
 use Rattle.symbol.specs.Record.{operators}
 use Rattle.whole.specs.declared.Limits.{Limits}
-use Rattle.run.specs.declared.Ending.{Ending}
+use Rattle.entry.specs.declared.Ending.{Ending}
 use Rattle.run.specs.declared.Run.{Run}
 use Rattle.point.specs.declared.Numbers.{Numbers}
 use Rattle.point.specs.Saved.{Arrays, saved, Standing}

@@ -2,6 +2,7 @@
 -- state that is now kept. Assumes nothing.
 use mathlib.Core.Path.{◌≡◌, refl, sym, ap, ◌∙◌}
 use mathlib.Core.List.{List, ◌∷◌}
+use mathlib.Core.Logic.{◌≢◌}
 use mathlib.Core.Option.{none, some}
 use Prim.Native.Nat.{ℕ, suc, ◌+◌, ◌^◌, ◌≤◌, ◌<◌}
 use native.Mathlib.Numerals.{add-one}
@@ -27,7 +28,7 @@ use Rattle.entry.specs.State.{limited, state, Arrays}
 use Rattle.entry.specs.Promises.{Running, Turn}
 use Rattle.run.specs.Promises as R
 use Rattle.run.specs.Promises.{ending, begun, Runnable, left_by, Ran}
-use Rattle.run.specs.declared.Ending.{Ending}
+use Rattle.entry.specs.declared.Ending.{Ending}
 use Rattle.run.specs.declared.Run.{Run}
 
 -- THE MACHINE ON LISTS
@@ -60,6 +61,13 @@ module _ (B : Book) (L : paper.Limits) (us : List ℕ) (i : ℕ) (s : FlatState)
   parked_cut l = ap (λ (vs : List ℕ). flat_parked B L vs s) (drop_of_length-le us l)
 
 -- THE STATE AS IT IS KEPT
+
+-- of a run that an entry has ended nothing is left
+left_none : (x : Ending) → x ≢ Ending.Cut → (s : FlatState) → left_by x s ≡ none
+left_none Ending.Finished over s = refl
+left_none Ending.Spent over s = refl
+left_none Ending.Full over s = refl
+left_none Ending.Cut over s = absurd (over refl)
 
 -- after i entries of the run from the state s₀
 pub record Along (bytes operators net : List ℕ) (l : Limits) (schedule : List ℕ) (s₀ : FlatState) (symbols scratch work units order : List ℕ) (p : Progress) (i : ℕ) :
@@ -125,7 +133,7 @@ module _ {bytes operators net : List ℕ} {l : Limits} {schedule : List ℕ} whe
           }
 
       -- the entry ends the run, and the state is as it was
-      pub along_ends : (x : Ending) → ((s : FlatState) → left_by x s ≡ none) →
+      pub along_ends : (x : Ending) → x ≢ Ending.Cut →
           ended (ending x) (state symbols' work' units' order' p l) ≡ flat_entry (book_by bytes net) (limited l.budget) u (state symbols work units order p l) →
           Arrays symbols' scratch' work' units' order' l → (r : Run) → r ≡ R.ended x (i + 1) p symbols' →
           Ran bytes net l schedule s₀ symbols' scratch' work' units' order' r
@@ -135,7 +143,7 @@ module _ {bytes operators net : List ℕ} {l : Limits} {schedule : List ℕ} whe
             is =
                 ap (λ (j : ℕ). flat_answer (ending x) j (state symbols' work' units' order' p l)) (add-one i)
                 ∙ sym (a.is ∙ run_more (book_by bytes net) (limited l.budget) schedule i _ h u eu _ e);
-            parked = over _ ∙ sym (a.parked ∙ parked_more (book_by bytes net) (limited l.budget) schedule i _ h u eu _ e);
+            parked = left_none x over _ ∙ sym (a.parked ∙ parked_more (book_by bytes net) (limited l.budget) schedule i _ h u eu _ e);
             bounded = record {
               long = z.symbols_long;
               root = refl;

@@ -14,7 +14,7 @@ use Rattle.net.specs.Net.{book_by}
 use Rattle.whole.specs.declared.Limits.{Limits}
 use Rattle.entry.specs.State.{limited, state}
 use Rattle.run.specs.Promises.{answer, counted, left_by, Ran}
-use Rattle.run.specs.declared.Ending.{Ending}
+use Rattle.entry.specs.declared.Ending.{Ending}
 use Rattle.run.specs.declared.Run.{Run}
 
 module _ {bytes net : List ℕ} {l : Limits} {schedule symbols scratch work units order : List ℕ} {r : Run} where

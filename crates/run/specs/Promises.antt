@@ -2,7 +2,6 @@
 -- lists. Assumes nothing.
 use Rattle.std.specs.Prelude.{List, ◌≡◌, ℕ, ◌+◌, ◌^◌, ◌≤◌, ◌<◌, length}
 use Rattle.std.proofs.Math.Option.{Option, none, some}
-use Rattle.paper.specs.Machine as paper
 use Rattle.paper.specs.Sound.{All}
 use Rattle.flat.specs.Machine.{FlatState}
 use Rattle.flat.specs.Run.{FlatAnswer, flat_run_from}
@@ -13,15 +12,9 @@ use Rattle.whole.specs.declared.Progress.{Progress}
 use Rattle.whole.specs.declared.Limits.{Limits}
 use Rattle.entry.specs.State.{limited, state, Arrays}
 use Rattle.entry.specs.Promises.{Running}
-use Rattle.run.specs.declared.Ending.{Ending}
+pub use Rattle.entry.specs.Promises.{ending}
+pub use Rattle.entry.specs.declared.Ending.{Ending}
 use Rattle.run.specs.declared.Run.{Run}
-
--- the paper's ending; its number is ending_number of the paper's page
-abbrev pub ending : Ending → paper.Ending
-ending Ending.Finished = paper.finished
-ending Ending.Spent = paper.spent
-ending Ending.Full = paper.full
-ending Ending.Cut = paper.cut
 
 -- before the first entry of a part nothing is counted but the rewrites of the parts before
 abbrev pub begun : ℕ → Progress

@@ -7,20 +7,11 @@ ghost use Rattle.flat.specs.Machine.{FlatState};
 ghost use Rattle.entry.specs.State as S;
 ghost use Rattle.run.specs.Promises as R;
 
-use entry::Entry;
+pub use entry::Ending;
 use whole::{Limits, Progress};
 
-// How a run ended.
-#[derive(Clone, Copy)]
-pub enum Ending {
-    Finished,
-    Spent,
-    Full,
-    Cut,
-}
-
 // What a run answers: its ending, rewrites made, entries used, FORKs granted and kept, and the present term's length.
-#[derive(Clone, Copy)]
+#[derive(Clone, Copy, Debug, PartialEq, Eq)]
 pub struct Run {
     pub ending: Ending,
     pub rewrites: u32,
@@ -34,12 +25,7 @@ pub struct Run {
 pub fn ending_number(e: Ending) -> usize
     ensures { (result ≡ ending_number (R.ending e)) × (result < 4) }
 {
-    match e {
-        Ending::Finished => 0,
-        Ending::Spent => 1,
-        Ending::Full => 2,
-        Ending::Cut => 3,
-    }
+    e as usize
 }
 
 // A run that ended so after so many entries, the present term being left in the symbols.
@@ -80,8 +66,7 @@ pub fn run_schedule(
         granted: 0,
         kept: 0,
     };
-    let mut i = 0;
-    while i < schedule.len() {
+    for (i, &u) in schedule.iter().enumerate() {
         match entry::enter(
             book,
             operators,
@@ -91,24 +76,13 @@ pub fn run_schedule(
             work,
             units,
             order,
-            casts::index(schedule[i]),
+            usize::from(u),
             p,
             l,
         ) {
-            Entry::Going(next) => {
-                p = next;
-            }
-            Entry::Finished => {
-                return ended(Ending::Finished, i + 1, p, symbols);
-            }
-            Entry::Spent => {
-                return ended(Ending::Spent, i + 1, p, symbols);
-            }
-            Entry::Full => {
-                return ended(Ending::Full, i + 1, p, symbols);
-            }
+            Ok(next) => p = next,
+            Err(ending) => return ended(ending, i + 1, p, symbols),
         }
-        i += 1;
     }
-    ended(Ending::Cut, i, p, symbols)
+    ended(Ending::Cut, schedule.len(), p, symbols)
 }

@@ -9,12 +9,11 @@ use lib.ListN.{length, take, drop}
 use lib.Seq.{take_at}
 use Rattle.paper.specs.Result.{Result, refused, accepted, then}
 use Rattle.paper.specs.Tree.{preorder}
-use Rattle.paper.specs.Machine.{Ending}
 use Rattle.paper.specs.Run.{Answer}
-use Rattle.paper.specs.Page.{LineReader, frame_fault, run_checked, ending_number, answer_by}
+use Rattle.paper.specs.Page.{LineReader, frame_fault, run_checked, answer_by}
 use Rattle.paper.proofs.Tests.{ltb_false}
 use Rattle.run.specs.declared.Run.{Run}
-use Rattle.run.specs.Promises.{ending}
+use Rattle.run.specs.Promises.{Ending, ending}
 use Rattle.engine.specs.Spec as R
 use Rattle.engine.specs.declared.Answer as E
 use Rattle.fees.specs.Fees.{Charge, charge}
@@ -26,31 +25,25 @@ use Rattle.settlement.specs.declared.Settled as D
 
 -- THE POSTING OF A RUN
 
--- by the number of its ending
+-- by its ending
 module _ (term rates : List ℕ) (amount : ℤ) (ss : List ℕ) where
-  by_finished : (e : Ending) → ending_number e ≡ 0 → charged e term rates amount ss ≡ then (charge term rates amount ss) (λ C. accepted (some C))
+  by_other : (e : Ending) → (e ≡ Ending.Finished → ⊥) → charged (ending e) term rates amount ss ≡ accepted none
   unfolding charged
-  by_finished Ending.finished n = refl
-  by_finished Ending.spent n = absurd (omega arith)
-  by_finished Ending.full n = absurd (omega arith)
-  by_finished Ending.cut n = absurd (omega arith)
+  by_other Ending.Finished n = absurd (n refl)
+  by_other Ending.Spent n = refl
+  by_other Ending.Full n = refl
+  by_other Ending.Cut n = refl
 
-  by_other : (e : Ending) → (ending_number e ≡ 0 → ⊥) → charged e term rates amount ss ≡ accepted none
-  unfolding charged
-  by_other Ending.finished n = absurd (n refl)
-  by_other Ending.spent n = refl
-  by_other Ending.full n = refl
-  by_other Ending.cut n = refl
-
-  module _ (run : Run) {n : ℕ} (e : n ≡ ending_number (ending run.ending)) where
-    pub ended_so : (n ≡ 0 → ⊥) → {output output' : List ℕ} {parts : List ℤ} → output' ≡ term ++ drop (length term) output →
+  module _ (run : Run) where
+    pub ended_so : (run.ending ≡ Ending.Finished → ⊥) → {output output' : List ℕ} {parts : List ℤ} → output' ≡ term ++ drop (length term) output →
         RunSettled run term (charged (ending run.ending) term rates amount ss) output output' parts parts (D.Settled.Ended run)
-    ended_so h w = rw (by_other (ending run.ending) (λ z. h (e ∙ z))) (record { is = refl; output_is = w; parts_are = refl })
+    ended_so h w = rw (by_other run.ending h) (record { is = refl; output_is = w; parts_are = refl })
 
-    finished : n ≡ 0 → charged (ending run.ending) term rates amount ss ≡ then (charge term rates amount ss) (λ C. accepted (some C))
-    finished h = by_finished (ending run.ending) (sym e ∙ h)
+    finished : run.ending ≡ Ending.Finished → charged (ending run.ending) term rates amount ss ≡ then (charge term rates amount ss) (λ C. accepted (some C))
+    unfolding charged
+    finished h = rw h
 
-    pub refused_so : n ≡ 0 → (k : ℕ) {output : List ℕ} {parts parts' : List ℤ} → ChargedAs (charge term rates amount ss) parts parts' (F.Charged.Refused k) →
+    pub refused_so : run.ending ≡ Ending.Finished → (k : ℕ) {output : List ℕ} {parts parts' : List ℤ} → ChargedAs (charge term rates amount ss) parts parts' (F.Charged.Refused k) →
         RunSettled run term (charged (ending run.ending) term rates amount ss) output output parts parts' (D.Settled.Refused k)
     unfolding then
     refused_so h k {output} {parts} {parts'} q = rw (finished h) (go (charge term rates amount ss) q)
@@ -63,7 +56,7 @@ module _ (term rates : List ℕ) (amount : ℤ) (ss : List ℕ) where
             record { is = ap D.Settled.Refused i; output_is = refl; parts_are = q.unchanged j refl }
         go (accepted C) q = let a = q.answer in let z : ◌≡◌ {A = ℕ} 0 1 = cc in absurd (omega arith)
 
-    pub posted_so : n ≡ 0 → (f : ℤ) {output output' : List ℕ} {parts parts' : List ℤ} → ChargedAs (charge term rates amount ss) parts parts' (F.Charged.Fee f) →
+    pub posted_so : run.ending ≡ Ending.Finished → (f : ℤ) {output output' : List ℕ} {parts parts' : List ℤ} → ChargedAs (charge term rates amount ss) parts parts' (F.Charged.Fee f) →
         output' ≡ term ++ drop (length term) output →
         RunSettled run term (charged (ending run.ending) term rates amount ss) output output' parts parts' (D.Settled.Posted run f)
     unfolding then

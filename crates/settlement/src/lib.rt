@@ -10,10 +10,10 @@ ghost use Rattle.settlement.specs.Promises as C;
 
 use engine::{Answer, Form};
 use fees::Charged;
-use run::Run;
+use run::{Ending, Run};
 
 // The number of the refusal; a run that did not finish; a finished run, and the fee of its posting.
-#[derive(Drop)]
+#[derive(Clone, Copy, Debug, PartialEq, Eq)]
 pub enum Settled {
     Refused(u8),
     Ended(Run),
@@ -25,11 +25,7 @@ fn hand_out(term: &[u8], output: &mut [u8])
     requires { length term.now ≤ length output.old }
     ensures { output.new ≡ term.now ++ drop (length term.now) output.old }
 {
-    let mut i = 0;
-    while i < term.len() {
-        output[i] = term[i];
-        i += 1;
-    }
+    output[..term.len()].copy_from_slice(term);
 }
 
 // What a run left is its term: it is charged, if the run finished, and handed out.
@@ -42,12 +38,11 @@ fn settle_run(
     output: &mut [u8],
     parts: &mut [i64; 16],
 ) -> Settled
-    requires { (length term.now ≤ length output.old) × (length parts.old ≡ 16) }
+    requires { length term.now ≤ length output.old }
     ensures { C.RunSettled run term.now (X.charged (ending run.ending) term.now rates.now amount shares.now)
         output.old output.new parts.old parts.new result }
 {
-    let ending = run.ending;
-    if run::ending_number(ending) != 0 {
+    if run.ending != Ending::Finished {
         hand_out(term, output);
         return Settled::Ended(run);
     }
@@ -75,7 +70,6 @@ pub fn settle(
     output: &mut [u8],
     parts: &mut [i64; 16],
 ) -> Settled
-    requires { length parts.old ≡ 16 }
     ensures { X.SettledBy (reader form) book.now line.now units budget day schedule.now rates.now amount
         shares.now output.old parts.old output.new parts.new result }
 {

@@ -5,14 +5,16 @@ use mathlib.Core.Bool.{Bool, true, false}
 use mathlib.Core.List.{List, [], ◌∷◌, map}
 use mathlib.Core.Logic.{inl, inr}
 use mathlib.Core.Option.{none, some}
+use Rattle.std.proofs.Common.{Option, Some, None, MatchOption, nat_le, cond, count_by, take, drop}
+use Rattle.std.proofs.lemmas.List.Sums.{sum_by-cons, count_by-le-length}
 use Prim.Native.Nat.{ℕ, zero, suc, ◌+◌, ◌*◌, ◌-◌, ◌/◌, ◌%◌, ◌≤◌, ◌<◌}
 use native.Mathlib.Omega.{arith}
 use native.Mathlib.Decide.{ℕ_discrete}
 use native.Mathlib.Numerals.{add-one}
 use lib.Dec.{ltb}
-use lib.ListN.{length, get_or, set, length-set, length-map, get_or-map, get_or-eq_default}
-use lib.Seq.{get_or-set_same, get_or-set_other}
-use borrow.Author.Tests.{eq-eqb, ne_eqb, ltb-true, ltb-false}
+use lib.ListN.{length, get_or, set, length-set, length-map, length-take, get_or-map, get_or-eq_default}
+use lib.Seq.{get_or-set_same, get_or-set_other, drop-cons}
+use borrow.Author.Tests.{eq-eqb, ne_eqb, lt-leb, le-leb, ltb-true, ltb-false}
 use Rattle.paper.specs.Machine.{numbers_from}
 use Rattle.flat.specs.Machine.{Frame, FlatUnit, flat_unit, asleep, idle_count, first_from, first_idle, shift_frame, shift_unit, start_units}
 use Rattle.units.specs.Stacks.{height, base, stack_of, cell, rank_in, end_in, height_in, units_from, units_of, Store, store, unit_in}
@@ -27,6 +29,10 @@ use Rattle.units.specs.Promises.{
   topped,
   at,
   Changed,
+  answer,
+  OneOf,
+  FirstIdle,
+  IdleCount,
   UnitsShifted,
   AsleepBelow,
   Started,
@@ -41,36 +47,63 @@ module _ (w c : List ℕ) where
   units_all u n e = let z : n - 0 ≡ n = omega arith in rw (e, z)
 
   -- the search for the first of the queue: what is left of it at unit u with m units to go
-  pub first_start : (n : ℕ) → first_idle (units_of w c n) ≡ first_from 0 (units_from w c 0 (n - 0))
+  first_start : (n : ℕ) → first_idle (units_of w c n) ≡ first_from 0 (units_from w c 0 (n - 0))
   unfolding first_idle
   first_start n = ap (first_from 0) (units_all 0 n refl)
 
-  pub first_next : (u v m k : ℕ) → (rank_in c u ≡ 1 → ⊥) → v ≡ u + 1 → m ≡ k + 1 → first_from u (units_from w c u m) ≡ first_from v (units_from w c v k)
+  first_next : (u v m k : ℕ) → (rank_in c u ≡ 1 → ⊥) → v ≡ u + 1 → m ≡ k + 1 → first_from u (units_from w c u m) ≡ first_from v (units_from w c v k)
   unfolding first_from units_from
   first_next u v m k e f g = rw (f, g, add-one u, add-one k) (rw (ne_eqb (rank_in c u) 1 e, first_from))
 
-  pub first_here : (u m : ℕ) → rank_in c u ≡ 1 → 0 < m → first_from u (units_from w c u m) ≡ some u
+  first_here : (u m : ℕ) → rank_in c u ≡ 1 → 0 < m → first_from u (units_from w c u m) ≡ some u
   unfolding first_from units_from
   first_here u zero n l = absurd (omega arith)
   first_here u (suc m) n l = rw (eq-eqb (rank_in c u) 1 n, first_from)
 
-  pub first_none : (u m : ℕ) → m ≡ 0 → first_from u (units_from w c u m) ≡ none
+  first_none : (u m : ℕ) → m ≡ 0 → first_from u (units_from w c u m) ≡ none
   unfolding first_from units_from
   first_none u m e = rw e
 
-  -- how many are idle of m units from u up: none of none; one more or as many with the unit before
-  pub count_none : (u m : ℕ) → m ≡ 0 → idle_count (units_from w c u m) ≡ 0
-  unfolding idle_count units_from
-  count_none u m e = rw e
+  -- the search, where the numbers are known that it passes, and the one that it gives
+  first_reached : (n v : ℕ) → v ≤ n → ((k : ℕ) → k < v → rank_in c k ≡ 1 → ⊥) → first_idle (units_of w c n) ≡ first_from v (units_from w c v (n - v))
+  first_reached n zero l h = first_start n
+  first_reached n (suc v) l h =
+      first_reached n v (omega arith) (λ k b. h k (omega arith)) ∙ first_next v (suc v) (n - v) (n - suc v) (h v (omega arith)) (sym (add-one v)) (omega arith)
 
-  pub count_idle : (u v m k : ℕ) → 65536 ≤ get_or c u 0 → v ≡ u + 1 → k ≡ m + 1 → idle_count (units_from w c u k) ≡ idle_count (units_from w c v m) + 1
-  unfolding idle_count units_from
-  count_idle u v m k l f g =
-      rw (f, g, add-one u, add-one m, add-one (idle_count (units_from w c (suc u) m))) (rw (ne_eqb (rank_in c u) 0 (λ e. omega arith), idle_count))
+  first_answer : (n : ℕ) (r : Option ℕ) →
+      MatchOption r ((k : ℕ) → 0 ≤ k → k < n → rank_in c k ≡ 1 → ⊥) (λ i. (0 ≤ i) × (i < n) × (rank_in c i ≡ 1) × ((k : ℕ) → 0 ≤ k → k < i → rank_in c k ≡ 1 → ⊥)) →
+      first_idle (units_of w c n) ≡ answer r
+  first_answer n None h = first_reached n n (omega arith) (λ k b. h k (omega arith) b) ∙ first_none n (n - n) (omega arith)
+  first_answer n (Some i) h = first_reached n i (omega arith) (λ k b. h.3 k (omega arith) b) ∙ first_here i (n - i) h.2 (omega arith)
 
-  pub count_busy : (u v m k : ℕ) → get_or c u 0 < 65536 → v ≡ u + 1 → k ≡ m + 1 → idle_count (units_from w c u k) ≡ idle_count (units_from w c v m)
+  -- how many of m units from u up are idle: so many of their cells have a rank above 0
+  idle_cells : (u m : ℕ) → u + m ≤ length c → idle_count (units_from w c u m) ≡ count_by (nat_le 65536) (take m (drop u c))
   unfolding idle_count units_from
-  count_busy u v m k l f g = rw (f, g, add-one u, add-one m) (rw (eq-eqb (rank_in c u) 0 (omega arith), idle_count))
+  idle_cells u zero l = refl
+  idle_cells u (suc m) l =
+      rw (drop-cons c u 0 (omega arith), sum_by-cons (λ (x : ℕ). cond (nat_le 65536 x) 1 0) (get_or c u 0) (take m (drop (suc u) c)))
+      (go (ltb (get_or c u 0) 65536) refl (idle_cells (suc u) m (omega arith)))
+    where
+      go : (t : Bool) → ltb (get_or c u 0) 65536 ≡ t → idle_count (units_from w c (suc u) m) ≡ count_by (nat_le 65536) (take m (drop (suc u) c)) →
+          idle_count (units_from w c u (suc m))
+          ≡ cond (nat_le 65536 (get_or c u 0)) 1 0 + count_by (nat_le 65536) (take m (drop (suc u) c))
+      go true e r = let h : get_or c u 0 < 65536 = ltb-true _ _ e in rw (lt-leb 65536 (get_or c u 0) h, eq-eqb (rank_in c u) 0 (omega arith), idle_count) (omega (arith, r))
+      go false e r =
+          let h : 65536 ≤ get_or c u 0 = ltb-false _ _ e in rw (le-leb 65536 (get_or c u 0) h, ne_eqb (rank_in c u) 0 (λ z. omega arith), idle_count) (omega (arith, r))
+
+pub first_idle_is : {c : List ℕ} {n : ℕ} {r : Option ℕ} →
+    MatchOption r ((k : ℕ) → 0 ≤ k → k < n → rank_in c k ≡ 1 → ⊥) (λ i. (0 ≤ i) × (i < n) × (rank_in c i ≡ 1) × ((k : ℕ) → 0 ≤ k → k < i → rank_in c k ≡ 1 → ⊥)) →
+    FirstIdle c n r
+first_idle_is {c} {n} {r} h = record { units = λ w. first_answer w c n r h; one = below r h }
+  where
+    below : (r : Option ℕ) →
+        MatchOption r ((k : ℕ) → 0 ≤ k → k < n → rank_in c k ≡ 1 → ⊥) (λ i. (0 ≤ i) × (i < n) × (rank_in c i ≡ 1) × ((k : ℕ) → 0 ≤ k → k < i → rank_in c k ≡ 1 → ⊥)) → OneOf n r
+    below None h = tt
+    below (Some i) h = h.1
+
+pub idle_count_is : {c : List ℕ} {n r : ℕ} → n ≤ length c → r ≡ count_by (nat_le 65536) (take n c) → IdleCount c n r
+idle_count_is {c} {n} {r} l e =
+    record { units = λ w. idle_cells w c 0 n (omega arith) ∙ sym e; few = omega (arith, e, count_by-le-length (nat_le 65536) (take n c), length-take n c) }
 
 -- the offsets of the jobs of units 0 to u - 1 have gone along
 pub record ShiftedBelow (u a e k : ℕ) (s : Store) (w' : List ℕ) : Type 0 where

@@ -1,13 +1,17 @@
 -- What the functions on frames, stacks and units ask and ensure. Assumes nothing.
-use Rattle.std.specs.Prelude.{◌≡◌, List, ◌∷◌, map, ◌⊎◌, ℕ, suc, ◌+◌, ◌*◌, ◌-◌, ◌/◌, ◌≤◌, ◌<◌, length, get_or, drop, set as put}
-use Rattle.std.proofs.Math.Option.{Option, none, some}
+use Rattle.std.specs.Prelude.{◌≡◌, List, ◌∷◌, map, Option, Some, None, ◌⊎◌, ℕ, suc, ◌+◌, ◌*◌, ◌-◌, ◌/◌, ◌≤◌, ◌<◌, length, get_or, drop, set as put}
+use Rattle.std.proofs.Math.Option as M
 use Rattle.flat.specs.Machine.{Frame, FlatUnit, flat_unit, unit, asleep, idle_count, first_idle, leave, arrive, shift_frame, shift_unit, start_units}
 use Rattle.units.specs.Frames.{frame_at, InThreeBytes}
 use Rattle.units.specs.Stacks.{height, base, stack_of, Offsets, rank_in, end_in, height_in, units_of, Store, store, units_in, unit_in}
 use Rattle.units.specs.declared.Unit as S
-use Rattle.units.specs.declared.Idle as I
+use Rattle.units.specs.declared.frames.Job as J
 
 -- FRAMES OF A WORK AREA
+
+-- the job of a term that is to be visited
+abbrev pub fresh_job : ℕ → J.Job
+fresh_job a = record { offset = a; next = 0; count = 0 }
 
 -- the bytes outside those from one place to another are as they were
 pub record SameOutside (from end : ℕ) (w w' : List ℕ) : Type 0 where
@@ -110,15 +114,15 @@ pub record TopIs (u : ℕ) (f : Frame) (s : Store) : Type 0 where
   pub fits : InThreeBytes f
 
 -- an answer of the search for an idle unit, as the machine on lists has it, and that it is one of the n
-abbrev pub answer : I.Idle → Option ℕ
-answer (I.TheVariants.Unit u) = some u
-answer I.TheVariants.None = none
+abbrev pub answer : Option ℕ → M.Option ℕ
+answer (Some u) = M.some u
+answer None = M.none
 
-abbrev pub OneOf : ℕ → I.Idle → Type 0
-OneOf n (I.TheVariants.Unit u) = u < n
-OneOf n I.TheVariants.None = Unit {0}
+abbrev pub OneOf : ℕ → Option ℕ → Type 0
+OneOf n (Some u) = u < n
+OneOf n None = Unit {0}
 
-pub record FirstIdle (c : List ℕ) (n : ℕ) (r : I.Idle) : Type 0 where
+pub record FirstIdle (c : List ℕ) (n : ℕ) (r : Option ℕ) : Type 0 where
   pub units : (w : List ℕ) → first_idle (units_of w c n) ≡ answer r
   pub one : OneOf n r
 

@@ -11,21 +11,34 @@ pub const HEIGHT: usize = 1026;
 
 // A term in work: its offset; its next order, 0 if that is its VISIT and otherwise one more than the order's index in its operator's steps; the count
 // of its next JOIN.
-#[derive(Clone, Copy)]
+#[derive(Clone, Copy, Debug, PartialEq, Eq)]
 pub struct Job {
     pub offset: u16,
     pub next: u8,
     pub count: u8,
 }
 
+impl Job {
+    // A term that is to be visited.
+    pub fn new(offset: u16) -> Job
+        ensures { result ≡ U.fresh_job offset }
+    {
+        Job {
+            offset,
+            next: 0,
+            count: 0,
+        }
+    }
+}
+
 // An EXIT: the unit of its JOIN, and the index of its JOIN's job on that unit's stack.
-#[derive(Clone, Copy)]
+#[derive(Clone, Copy, Debug, PartialEq, Eq)]
 pub struct Exit {
     pub unit: u8,
     pub index: u16,
 }
 
-#[derive(Clone, Copy)]
+#[derive(Clone, Copy, Debug, PartialEq, Eq)]
 pub enum Frame {
     Job(Job),
     Exit(Exit),
@@ -41,19 +54,13 @@ pub fn base_of(u: usize) -> usize
     3 * (u * HEIGHT)
 }
 
-fn wide(x: u8) -> u16
-    ensures { (result ≡ x) × (result < 256) }
-{
-    x as u16
-}
-
 // A frame's low byte and its high one go together as a word, here and in put_word: the compiler then makes one load and one store of them, and a
 // frame that has just been put is read without waiting for two stores.
 fn word_at(work: &[u8], at: usize) -> u16
     requires { at + 3 ≤ length work.now }
     ensures { (result % 256 ≡ get_or work.now (at + 1) 0) × (result / 256 ≡ get_or work.now (at + 2) 0) }
 {
-    wide(work[at + 1]) + wide(work[at + 2]) * 256
+    u16::from(work[at + 1]) + u16::from(work[at + 2]) * 256
 }
 
 fn put_word(work: &mut [u8], at: usize, kind: u8, word: u16)
@@ -70,23 +77,19 @@ fn put_word(work: &mut [u8], at: usize, kind: u8, word: u16)
 fn frame_of(kind: u8, word: u16) -> Frame
     ensures { (flat result ≡ decode kind (word % 256) (word / 256)) × InThreeBytes (flat result) }
 {
-    if kind < 32 {
-        return Frame::Job(Job {
+    match kind {
+        0..=31 => Frame::Job(Job {
             offset: word % 1024,
             next: kind,
             count: (word / 1024) as u8,
-        });
-    }
-    if kind < 40 {
-        return Frame::Exit(Exit {
+        }),
+        32..=39 => Frame::Exit(Exit {
             unit: kind - 32,
             index: word,
-        });
+        }),
+        40 => Frame::Sleep,
+        _ => Frame::Bingo,
     }
-    if kind == 40 {
-        return Frame::Sleep;
-    }
-    Frame::Bingo
 }
 
 pub fn frame_at(work: &[u8], at: usize) -> Frame
@@ -101,18 +104,10 @@ pub fn put_frame(work: &mut [u8], at: usize, f: Frame)
     ensures { U.FramePut at (flat f) work.old work.new }
 {
     match f {
-        Frame::Job(job) => {
-            put_word(work, at, job.next, job.offset + wide(job.count) * 1024);
-        }
-        Frame::Exit(exit) => {
-            put_word(work, at, exit.unit + 32, exit.index);
-        }
-        Frame::Sleep => {
-            put_word(work, at, 40, 0);
-        }
-        Frame::Bingo => {
-            put_word(work, at, 41, 0);
-        }
+        Frame::Job(job) => put_word(work, at, job.next, job.offset + u16::from(job.count) * 1024),
+        Frame::Exit(exit) => put_word(work, at, exit.unit + 32, exit.index),
+        Frame::Sleep => put_word(work, at, 40, 0),
+        Frame::Bingo => put_word(work, at, 41, 0),
     }
 }
 
@@ -120,10 +115,8 @@ pub fn put_frame(work: &mut [u8], at: usize, f: Frame)
 fn lowered(kind: u8, word: u16) -> u16
     ensures { decode kind (result % 256) (result / 256) ≡ lower (decode kind (word % 256) (word / 256)) }
 {
-    if kind < 32 {
-        if 1024 <= word {
-            return word - 1024;
-        }
+    if kind < 32 && 1024 <= word {
+        return word - 1024;
     }
     word
 }
@@ -141,10 +134,7 @@ pub fn lower_at(work: &mut [u8], at: usize)
 fn zero_count(kind: u8, high: u8) -> bool
     ensures { (low : ℕ) → is_zero (decode kind low high) ≡ result }
 {
-    if kind < 32 {
-        return high < 4;
-    }
-    false
+    kind < 32 && high < 4
 }
 
 // Is the frame a job with count 0?
@@ -161,10 +151,8 @@ fn moved(kind: u8, word: u16, a: usize, e: usize, n: usize) -> u16
     ensures { decode kind (result % 256) (result / 256) ≡ shift_frame a e n (decode kind (word % 256) (word / 256)) }
 {
     let x = (word % 1024) as usize;
-    if kind < 32 {
-        if e <= x {
-            return (a + n + (x - e)) as u16 + word / 1024 * 1024;
-        }
+    if kind < 32 && e <= x {
+        return (a + n + (x - e)) as u16 + word / 1024 * 1024;
     }
     word
 }
@@ -180,6 +168,7 @@ fn shift_at(work: &mut [u8], at: usize, a: usize, e: usize, n: usize)
 
 // The symbols from offset a to offset e give way to n others: the offset of each job of the stack from one place to another goes along. From its top
 // down, since the compiler would take two frames at a time upwards, and divide by three to know whether one is left over.
+// Kept: a loop that counts by hand, since `step_by(3).rev()` divides by three at each step.
 pub fn shift_stack(work: &mut [u8], from: usize, end: usize, a: usize, e: usize, n: usize)
     requires end_value { (end ≡ from + 3 * U.frames from end) × (end ≤ length work.old) }
     requires offsets { Offsets 1024 (map (shift_frame a e n) (stack_of work.old from (U.frames from end))) }

@@ -14,7 +14,7 @@ ghost use Rattle.units.specs.Promises as U;
 pub use frames::{Exit, Frame, Job};
 
 // The state of one unit, by value: its rank, and the place where its frames end.
-#[derive(Drop)]
+#[derive(Clone, Copy, Debug, PartialEq, Eq)]
 pub struct Unit {
     pub rank: usize,
     pub end: usize,
@@ -54,7 +54,7 @@ impl Unit {
             return self.wake();
         }
         if rank < self.rank {
-            self.rank = self.rank - 1;
+            self.rank -= 1;
         }
         self
     }
@@ -64,13 +64,13 @@ fn cell_of(rank: usize, end: usize) -> u32
     requires { (rank < 65536) × (end < 65536) }
     ensures { result ≡ K.cell rank end }
 {
-    casts::word(rank * 65536 + end)
+    (rank * 65536 + end) as u32
 }
 
 fn rank_of(cell: u32) -> usize
     ensures { (result ≡ cell / 65536) × (result < 65536) }
 {
-    casts::position(cell / 65536)
+    (cell / 65536) as usize
 }
 
 pub fn load(units: &[u32; 8], u: usize) -> Unit
@@ -80,7 +80,7 @@ pub fn load(units: &[u32; 8], u: usize) -> Unit
     let x = units[u];
     Unit {
         rank: rank_of(x),
-        end: casts::position(x % 65536),
+        end: (x % 65536) as usize,
     }
 }
 
@@ -104,10 +104,8 @@ pub fn leave(units: &mut [u32; 8], rank: usize)
     requires { 0 < rank }
     ensures { U.CellsLeft rank units.old units.new }
 {
-    let mut u = 0;
-    while u < 8 {
+    for u in 0..8 {
         store(units, u, load(units, u).move_up(rank));
-        u += 1;
     }
 }
 
@@ -127,15 +125,7 @@ fn idle_count(units: &[u32; 8], count: usize) -> usize
     requires { count ≤ 8 }
     ensures { U.IdleCount units.now count result }
 {
-    let mut n = 0;
-    let mut v = count;
-    while 0 < v {
-        v -= 1;
-        if 65536 <= units[v] {
-            n += 1;
-        }
-    }
-    n
+    units[..count].iter().filter(|&&cell| 65536 <= cell).count()
 }
 
 // Unit u, of count units, joins the idle queue.
@@ -156,24 +146,11 @@ pub fn sleep_unit(units: &mut [u32; 8], count: usize, u: usize)
 }
 
 // The first of the idle queue, of count units.
-#[derive(Drop)]
-pub enum Idle {
-    Unit(usize),
-    None,
-}
-
-pub fn first_idle(units: &[u32; 8], count: usize) -> Idle
+pub fn first_idle(units: &[u32; 8], count: usize) -> Option<usize>
     requires { count ≤ 8 }
     ensures { U.FirstIdle units.now count result }
 {
-    let mut v = 0;
-    while v < count {
-        if rank_of(units[v]) == 1 {
-            return Idle::Unit(v);
-        }
-        v += 1;
-    }
-    Idle::None
+    (0..count).find(|&v| rank_of(units[v]) == 1)
 }
 
 // The place where unit u's frames end: its top frame stands before it.
@@ -181,7 +158,7 @@ fn end_of(units: &[u32; 8], u: usize) -> usize
     requires { u < 8 }
     ensures { (result ≡ K.end_in units.now u) × (result < 65536) }
 {
-    casts::position(units[u] % 65536)
+    (units[u] % 65536) as usize
 }
 
 // The stack index of unit u's top frame.
@@ -189,7 +166,7 @@ pub fn top_index(units: &[u32; 8], u: usize) -> u16
     requires { (u < 8) × (0 < K.height_in units.now u) }
     ensures { result ≡ K.height_in units.now u - 1 }
 {
-    casts::short(end_of(units, u) / 3 - u * frames::HEIGHT - 1)
+    (end_of(units, u) / 3 - u * frames::HEIGHT - 1) as u16
 }
 
 // The first frame of unit u's stack.
@@ -211,7 +188,7 @@ pub fn drop_top(units: &mut [u32; 8], u: usize)
     requires { (u < 8) × (0 < K.height_in units.old u) }
     ensures { U.CellChanged u U.dropped units.old units.new }
 {
-    units[u] = units[u] - 3;
+    units[u] -= 3;
 }
 
 // A cell whose frames are one more.
@@ -247,10 +224,8 @@ pub fn shift_units(work: &mut [u8], units: &[u32; 8], count: usize, a: usize, e:
     requires { let s : K.Store = K.store work.old units.now in U.Shiftable count a e k s }
     ensures { let s : K.Store = K.store work.old units.now in U.UnitsShifted count a e k s (K.store work.new s.cells) }
 {
-    let mut u = 0;
-    while u < count {
+    for u in 0..count {
         frames::shift_stack(work, frames::base_of(u), end_of(units, u), a, e, k);
-        u += 1;
     }
 }
 
@@ -259,8 +234,7 @@ fn sleep_all(work: &mut [u8], units: &mut [u32; 8])
     requires { U.EightRegions (K.store work.old units.old) }
     ensures { U.AsleepBelow 8 (K.store work.new units.new) }
 {
-    let mut u = 0;
-    while u < 8 {
+    for u in 0..8 {
         let base = frames::base_of(u);
         frames::put_frame(work, base, Frame::Sleep);
         store(
@@ -271,7 +245,6 @@ fn sleep_all(work: &mut [u8], units: &mut [u32; 8])
                 end: base + 3,
             },
         );
-        u += 1;
     }
 }
 
@@ -282,14 +255,5 @@ pub fn start(work: &mut [u8], units: &mut [u32; 8])
 {
     sleep_all(work, units);
     set_top(work, units, 0, Frame::Bingo);
-    push(
-        work,
-        units,
-        0,
-        Frame::Job(Job {
-            offset: 0,
-            next: 0,
-            count: 0,
-        }),
-    );
+    push(work, units, 0, Frame::Job(Job::new(0)));
 }

@@ -1,5 +1,6 @@
 -- `entry::carry_out` meets its contract: order 0 of a job is its VISIT, any other a step. Assumes nothing.
 use native.Mathlib.Omega.{arith}
+use borrow.Author.Rules.{rules}
 use Rattle.entry.proofs.Orders.{visit_asks, visited}
 use Rattle.entry.proofs.carry_out.Goals as goal
 
@@ -15,7 +16,7 @@ returns-then-task-eq0 c =
     let q = c.requires in
     let t = q.running in
     let r = visited q.arrays t.0 t.1 t.2 c.if-task-eq0.true c.visit.ensures in
-    record { l_after = r.0; arrays_2 = r.1 }
+    record { l_after = r.0; arrays_2 = r.1; over = search rules }
 
 pub step-requires : goal.step-requires
 step-requires c =

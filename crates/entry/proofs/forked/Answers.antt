@@ -5,11 +5,11 @@ use Rattle.entry.proofs.forked.Goals as goal
 
 pub place-requires : goal.place-requires
 place-requires c =
-    rw c.in-Unit.is at c.requires.1.room
+    rw c.in-Some.is at c.requires.1.room
 
-pub returns-in-Unit : goal.returns-in-Unit
-returns-in-Unit c =
-    rw (add-one, c.in-Unit.is) (refl, record { fits = c.place.ensures.fits; is = c.place.ensures.is })
+pub returns-in-Some : goal.returns-in-Some
+returns-in-Some c =
+    rw (add-one, c.in-Some.is) (refl, record { fits = c.place.ensures.fits; is = c.place.ensures.is })
 
 pub returns-in-None : goal.returns-in-None
 returns-in-None c =

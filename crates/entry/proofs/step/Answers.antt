@@ -67,7 +67,7 @@ returns-in-Visit c =
     let t = q.running in
     let e = rw (c.in-Visit.is, t.3) at c.step_at.ensures in
     let r = visited_argument q.arrays t.0 t.1 t.2 q.le_next e c.visit_argument.ensures in
-    record { l_after = r.0; arrays_2 = r.1 }
+    record { l_after = r.0; arrays_2 = r.1; over = search rules }
 
 pub returns-in-Fork : goal.returns-in-Fork
 returns-in-Fork c =
@@ -75,7 +75,7 @@ returns-in-Fork c =
     let t = q.running in
     let e = rw (c.in-Fork.is, t.3) at c.step_at.ensures in
     let r = fork_entered q.arrays t.0 t.1 t.2 q.le_next e c.argument-b.ensures.0 c.fork-got.ensures _ c.forked.ensures in
-    record { l_after = r.0; arrays_2 = r.1 }
+    record { l_after = r.0; arrays_2 = r.1; over = search rules }
 
 pub returns-in-Join : goal.returns-in-Join
 returns-in-Join c =
@@ -83,4 +83,4 @@ returns-in-Join c =
     let t = q.running in
     let r = joined q.arrays t.0 t.1 t.2 q.le_next (rw (c.in-Join.is, t.3) at c.step_at.ensures)
     (rw t.3 at c.join.ensures) in
-    record { l_after = r.0; arrays_2 = r.1 }
+    record { l_after = r.0; arrays_2 = r.1; over = search rules }

@@ -9,23 +9,23 @@ pub argument-b-requires : goal.argument-b-requires
 argument-b-requires c = argument_asks c.requires.0.place
 
 pub is_marked_at-requires : goal.is_marked_at-requires
-is_marked_at-requires c = omega (arith, c.offset-at.ensures.0, c.argument-b.ensures.1)
+is_marked_at-requires c = omega (arith, c.from-at.ensures, c.argument-b.ensures.1)
 
 pub returns-then-is_marked_at : goal.returns-then-is_marked_at
 returns-then-is_marked_at c =
-    argument_dropped c.requires.0.place c.argument-b.ensures.0 c.offset-at.ensures.0
+    argument_dropped c.requires.0.place c.argument-b.ensures.0 c.from-at.ensures
     (sym c.is_marked_at.ensures ∙ c.if-is_marked_at.true) c.advance.ensures
 
 pub operator_at-p-requires : goal.operator_at-p-requires
 operator_at-p-requires c =
-    omega (arith, c.offset-at.ensures.0, c.argument-b.ensures.1)
+    omega (arith, c.from-at.ensures, c.argument-b.ensures.1)
 
 pub visit_argument-requires : goal.visit_argument-requires
 visit_argument-requires c =
     let q = c.requires in
     let p = q.0.place in
     let eb = c.argument-b.ensures in
-    let ek = c.offset-at.ensures.0 in
+    let ek = c.from-at.ensures in
     let e = c.operator_at-p.ensures in (
       argument_row p eb.0 ek e q.0.rowed,
       eb.1,
@@ -37,10 +37,10 @@ mark_last-requires c =
     let q = c.requires in
     let p = q.0.place in
     let eb = c.argument-b.ensures in
-    let ek = c.offset-at.ensures.0 in
+    let ek = c.from-at.ensures in
     (omega arith, argument_row p eb.0 ek c.operator_at-p.ensures q.0.rowed, argument_there p eb.0 ek, p.sized.most)
 
 pub returns : goal.returns
 returns c =
-    argument_entered c.requires.0.place c.argument-b.ensures.0 c.offset-at.ensures.0
+    argument_entered c.requires.0.place c.argument-b.ensures.0 c.from-at.ensures
     (sym c.is_marked_at.ensures ∙ c.if-is_marked_at.false) c.operator_at-p.ensures c.visit_argument.ensures c.mark_last.ensures

@@ -4,8 +4,8 @@ use Rattle.orders.proofs.exit.Goals as goal
 
 pub arrive-requires : goal.arrive-requires
 arrive-requires c =
-    exit_join c.requires (c.drop_top.ensures.change _ c.requires.top.fit) _ _ c.index.ensures.0 c.offset.ensures.0
+    exit_join c.requires (c.drop_top.ensures.change _ c.requires.top.fit) _ _ c.from.ensures c.from-2.ensures
 
 pub returns : goal.returns
 returns c =
-    exited (c.drop_top.ensures.change _ c.requires.top.fit) c.index.ensures.0 c.offset.ensures.0 c.arrive.ensures
+    exited (c.drop_top.ensures.change _ c.requires.top.fit) c.from.ensures c.from-2.ensures c.arrive.ensures

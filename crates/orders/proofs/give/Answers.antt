@@ -9,4 +9,4 @@ push-requires-2 c =
 
 pub returns : goal.returns
 returns c =
-    gave c.push.ensures c.push-2.ensures c.leave.ensures
+    gave c.push.ensures (rw c.new.ensures at c.push-2.ensures) c.leave.ensures

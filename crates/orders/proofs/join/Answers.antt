@@ -6,11 +6,11 @@ use Rattle.orders.proofs.join.Goals as goal
 pub advance-requires : goal.advance-requires
 advance-requires c =
     let q = c.requires.1 in
-    record { top = q.top; offset = q.offset; next = q.next; count = omega (arith, c.next_count-c.ensures.few) }
+    record { top = q.top; offset = q.offset; next = q.next; count = omega (arith, c.next_count-count.ensures.few) }
 
 pub returns-then-job-eq0 : goal.returns-then-job-eq0
 returns-then-job-eq0 c =
-    join_passes c.if-job-eq0.true c.next_count-c.ensures c.advance.ensures
+    join_passes c.if-job-eq0.true c.next_count-count.ensures c.advance.ensures
 
 pub returns-else-job-eq0 : goal.returns-else-job-eq0
 returns-else-job-eq0 c =

@@ -7,12 +7,12 @@ use Rattle.orders.proofs.keep.Goals as goal
 pub advance-requires : goal.advance-requires
 advance-requires c =
     let q = c.requires.job in
-    record { top = q.top; offset = q.offset; next = q.next; count = omega (arith, q.count, c.lower-c.ensures.1) }
+    record { top = q.top; offset = q.offset; next = q.next; count = omega (arith, q.count, c.saturating_sub-count.ensures) }
 
 pub push-requires : goal.push-requires
 push-requires c =
-    (keep_room c.args.job c.lower-c.ensures.0 c.advance.ensures c.requires, search rules)
+    (keep_room c.args.job c.saturating_sub-count.ensures c.advance.ensures c.requires, search rules)
 
 pub returns : goal.returns
 returns c =
-    argument_kept c.args.job c.lower-c.ensures.0 c.advance.ensures c.push.ensures
+    argument_kept c.args.job c.saturating_sub-count.ensures c.advance.ensures (rw c.new.ensures at c.push.ensures)

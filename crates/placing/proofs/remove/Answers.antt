@@ -1,18 +1,10 @@
--- Answers of `remove`. Assumes nothing.
-use Rattle.placing.proofs.Order.{moved_start, moved_more, removed}
-use mathlib.Core.Path.{refl}
+-- `placing::remove` meets its contract: the parts behind part i have moved down by one. Assumes nothing.
 use native.Mathlib.Omega.{arith}
-use lib.ListN.{length-set}
+use Rattle.placing.proofs.Order.{moved_down, removed}
 use Rattle.placing.proofs.remove.Goals as goal
-
-pub loop-k-init : goal.loop-k-init
-loop-k-init c = (omega arith, omega (arith, c.pending-n.ensures.0), c.requires.0.long, moved_start refl)
-
-pub loop-k-preserved : goal.loop-k-preserved
-loop-k-preserved c =
-    let v = c.loop-k.invariant in
-    (omega (arith, v.0), omega arith, simp length-set v.2, moved_more v.0 (omega (arith, v.3.size)) v.3 refl refl)
 
 pub returns : goal.returns
 returns c =
-    removed _ _ _ _ _ c.requires.0 c.requires.1 c.loop-k.invariant.0 (omega (arith, c.pending-n.ensures.0)) c.loop-k.invariant.3 (omega (arith, c.short.ensures))
+    let copied = c.copy_within.ensures in
+    let n = c.pending-n.ensures in
+    removed _ _ _ c.pending-n.result _ c.requires.0 c.requires.1 (omega (arith, n)) n.0 (moved_down _ copied.len (omega arith) (omega arith) copied.by_index (omega (arith, n))) (omega (arith, n))

@@ -1,9 +1,11 @@
 -- `placing::take_out` meets its contract: the latest part of the unit, if it has one, is removed. Assumes nothing.
+use mathlib.Core.Path.{refl}
+use Rattle.std.proofs.Common.{unwrap_or}
 use Rattle.placing.proofs.Order.{taken_out, none_taken_out}
 use Rattle.placing.proofs.take_out.Goals as goal
 
-pub returns-then-i-ne0 : goal.returns-then-i-ne0
-returns-then-i-ne0 c = taken_out c.latest-i.ensures c.remove.ensures
+pub returns-in-Some : goal.returns-in-Some
+returns-in-Some c = taken_out c.in-Some.ensures.latest c.remove.ensures
 
-pub returns-else-i-ne0 : goal.returns-else-i-ne0
-returns-else-i-ne0 c = none_taken_out c.requires c.latest-i.ensures c.if-i-ne0.false
+pub returns-in_default : goal.returns-in_default
+returns-in_default c = none_taken_out c.requires c.in_default.ensures.latest refl

@@ -1,7 +1,6 @@
 -- `run::run_schedule` meets its contract. The loop's invariant: after i entries the answer, and what is parked, are those of the run over the rest of the schedule from
--- the state that is now kept. The measure is how many entries are left. Assumes nothing.
+-- the state that is now kept. Assumes nothing.
 use mathlib.Core.Path.{◌≡◌}
-use Prim.Native.Nat.{◌-◌}
 use lib.ListN as L
 use Rattle.entry.specs.State.{state}
 use Rattle.run.specs.Promises.{begun}
@@ -12,6 +11,3 @@ abbrev pub invariant-loop-i : goal.invariant-loop-i
 invariant-loop-i l =
     Along l.book l.operators l.net l.l l.schedule (state l.initial.symbols l.initial.work l.initial.units l.initial.order (begun l.rewrites) l.l) l.symbols l.scratch l.work l.units l.order l.p l.i
     × (L.length l.work ≡ L.length l.initial.work)
-
-abbrev pub decreases-loop-i : goal.decreases-loop-i
-decreases-loop-i l = L.length l.schedule - l.i

@@ -33,7 +33,7 @@ pub settle_run-requires : goal.settle_run-requires
 settle_run-requires c =
     let f = run_fits c.reduce_form.ensures c.in-Ran.run' c.in-Ran.is in
     let l = (frame_of (sym c.frame_fault-fault.ensures ∙ c.if-fault-ne0.false)).output_long in
-    (omega (arith, f, l, length-take c.in-Ran.run'.length c.reduce_form.new.output), c.requires)
+    omega (arith, f, l, length-take c.in-Ran.run'.length c.reduce_form.new.output)
 
 pub returns-in-Refused : goal.returns-in-Refused
 returns-in-Refused c =

@@ -7,7 +7,7 @@ use Rattle.units.proofs.Changes.{left_start, left_more, left_all}
 use Rattle.units.proofs.leave.Goals as goal
 
 pub loop-u-init : goal.loop-u-init
-loop-u-init c = (omega arith, left_start)
+loop-u-init c = left_start
 
 pub store-requires : goal.store-requires
 store-requires c =
@@ -19,8 +19,7 @@ pub loop-u-preserved : goal.loop-u-preserved
 loop-u-preserved c =
     let m = c.move_up.ensures in
     let l = c.load.ensures in
-    let i = c.loop-u.invariant in
-    (omega arith, left_more _ _ i.1 (m.0 ∙ ap (left _) l.rank) (m.2 ∙ l.end) c.store.ensures)
+    left_more _ _ c.loop-u.invariant (m.0 ∙ ap (left _) l.rank) (m.2 ∙ l.end) c.store.ensures
 
 pub returns : goal.returns
-returns c = left_all c.requires (omega (arith, c.loop-u.invariant.0)) c.loop-u.invariant.1
+returns c = left_all c.requires (omega arith) c.loop-u.invariant

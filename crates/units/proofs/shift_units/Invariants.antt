@@ -1,11 +1,7 @@
 -- `units::shift_units` meets its contract: the loop's invariant: the offsets of units 0 to u - 1 have moved. Assumes nothing.
-use Prim.Native.Nat.{◌-◌, ◌≤◌}
 use Rattle.units.specs.Stacks.{store}
 use Rattle.units.proofs.Loops.{ShiftedBelow}
 use Rattle.units.proofs.shift_units.Given as goal
 
 abbrev pub invariant-loop-u : goal.invariant-loop-u
-invariant-loop-u l = (l.u ≤ l.count) × ShiftedBelow l.u l.a l.e l.k (store l.initial.work l.units) l.work
-
-abbrev pub decreases-loop-u : goal.decreases-loop-u
-decreases-loop-u l = l.count - l.u
+invariant-loop-u l = ShiftedBelow l.u l.a l.e l.k (store l.initial.work l.units) l.work

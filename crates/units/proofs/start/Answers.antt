@@ -16,4 +16,4 @@ push-requires c =
 
 pub returns : goal.returns
 returns c =
-    started c.sleep_all.ensures c.set_top.ensures c.push.ensures
+    started c.sleep_all.ensures c.set_top.ensures (rw c.new.ensures at c.push.ensures)

@@ -1,4 +1,5 @@
 -- `units::frames::moved` meets its contract: a job behind the symbols that give way, a job before them, another frame. Assumes nothing.
+use mathlib.Core.Logic.{inl, inr}
 use native.Mathlib.Omega.{arith}
 use Rattle.units.proofs.Bytes.{moved_other, moved_before, moved_room, moved_behind}
 use Rattle.units.proofs.frames.moved.Goals as goal
@@ -18,8 +19,9 @@ overflow_add-result-then-e-x-2 c = omega (arith, moved_room _ _ _ _ _ c.if-kind-
 pub returns-then-e-x : goal.returns-then-e-x
 returns-then-e-x c = moved_behind _ _ _ _ _ c.if-kind-lt32.true (omega arith) c.requires
 
-pub returns-else-e-x : goal.returns-else-e-x
-returns-else-e-x c = moved_before _ _ _ _ _ c.if-kind-lt32.true c.if-e-x.false
-
-pub returns-else-kind-lt32 : goal.returns-else-kind-lt32
-returns-else-kind-lt32 c = moved_other _ _ _ _ _ c.if-kind-lt32.false
+pub returns : goal.returns
+returns c =
+    elim c.else-kind-lt32.either [
+      | inl h ↦ moved_before _ _ _ _ _ h.0 h.1
+      | inr h ↦ moved_other _ _ _ _ _ h
+    ]

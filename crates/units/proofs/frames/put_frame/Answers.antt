@@ -10,8 +10,8 @@ use Rattle.units.proofs.frames.put_frame.Goals as goal
 fits : {f g : Frame} → f ≡ g → InThreeBytes (flat f) → InThreeBytes (flat g)
 fits e h = subst (λ (g : Frame). InThreeBytes (flat g)) e h
 
-pub overflow_mul-wide : goal.overflow_mul-wide
-overflow_mul-wide c =
+pub overflow_mul-from : goal.overflow_mul-from
+overflow_mul-from c =
     let h = fits c.in-Job.is c.requires.1 in omega (arith, h)
 
 pub overflow_add-job : goal.overflow_add-job
@@ -25,7 +25,7 @@ overflow_add-exit c =
 pub returns-in-Job : goal.returns-in-Job
 returns-in-Job c =
     let h = fits c.in-Job.is c.requires.1 in
-    rw (c.in-Job.is, ← job_bytes _ _ _ h.0 h.1, ← c.wide.ensures.0) c.put_word.ensures
+    rw (c.in-Job.is, ← job_bytes _ _ _ h.0 h.1, ← c.from.ensures) c.put_word.ensures
 
 pub returns-in-Exit : goal.returns-in-Exit
 returns-in-Exit c =
