@@ -13,5 +13,3 @@ EqualBefore xs a b i = take i (drop a xs) ≡ take i (drop b xs)
 abbrev pub invariant-loop-i : goal.invariant-loop-i
 invariant-loop-i l = (l.i ≤ l.n) × EqualBefore (operators (take l.len l.symbols)) l.a l.b l.i
 
-abbrev pub decreases-loop-i : goal.decreases-loop-i
-decreases-loop-i l = l.n - l.i
