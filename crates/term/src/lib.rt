@@ -65,13 +65,10 @@ pub fn same(symbols: &[u32; 1024], len: usize, a: usize, b: usize, n: usize) -> 
     if len - b < n {
         return false;
     }
-    // All symbols before the one compared are equal.
-    for i in 0..n {
-        if symbol::operator(symbols[a + i]) != symbol::operator(symbols[b + i]) {
-            return false;
-        }
-    }
-    true
+    symbols[a..a + n]
+        .iter()
+        .zip(&symbols[b..b + n])
+        .all(|(x, y)| symbol::operator(*x) == symbol::operator(*y))
 }
 
 // The n symbols of part from offset `from` on, into symbols at offset at.
