@@ -74,7 +74,7 @@ pub extern "C" fn bench_rule_rewrite(
         units,
         Place {
             unit: 0,
-            offset: offset,
+            offset,
             operator: term::operator_at(symbols, offset),
         },
         Progress {
@@ -88,8 +88,6 @@ pub extern "C" fn bench_rule_rewrite(
         },
     ) {
         Whole::Rewrote => term::length(symbols),
-        Whole::Missed => 0,
-        Whole::Spent => 0,
-        Whole::Full => 0,
+        Whole::Missed | Whole::Spent | Whole::Full => 0,
     }
 }

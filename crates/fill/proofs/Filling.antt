@@ -18,7 +18,7 @@ use Rattle.tables.specs.Layout.{arity_in}
 use Rattle.rule.specs.Packed.{SideAt, BoundTerm}
 use Rattle.fill.specs.Sides.{code, symbol}
 use Rattle.fill.specs.Promises.{Fillable, Decoded, last_symbols, SizedEnd, Ready, Filled, SymbolFilled, SideFilled}
-use Rattle.fill.specs.declared.Size as Z
+use Rattle.std.specs.Prelude.{Some, None}
 use Rattle.fill.proofs.Sides.{symbol_code, fill_cons, fill_suffix, behind_spells}
 
 -- the symbols ss filled, and s in front of them
@@ -88,7 +88,7 @@ module _ {bytes operators : List ℕ} {at n : ℕ} {codes_read : List ℕ} (d : 
           behind = rw q' h;
         })
 
-    pub filling_went : {limit k' : ℕ} {scratch' : List ℕ} → SymbolFilled operators xs ms b (symbol (get_or codes_read j 0)) limit k scratch scratch' (Z.Size.Fits k') →
+    pub filling_went : {limit k' : ℕ} {scratch' : List ℕ} → SymbolFilled operators xs ms b (symbol (get_or codes_read j 0)) limit k scratch scratch' (Some k') →
         Filling bytes at operators xs ms b j k' scratch'
     filling_went h =
         let (zs, placed, filled, sized, l) = h.is in
@@ -98,8 +98,8 @@ module _ {bytes operators : List ℕ} {at n : ℕ} {codes_read : List ℕ} (d : 
         }
 
     -- what is filled of a part is at most the whole
-    pub filling_stopped : {limit : ℕ} {scratch' : List ℕ} → SymbolFilled operators xs ms b (symbol (get_or codes_read j 0)) limit k scratch scratch' Z.Size.Over →
-        SideFilled bytes at operators xs ms b limit scratch' Z.Size.Over
+    pub filling_stopped : {limit : ℕ} {scratch' : List ℕ} → SymbolFilled operators xs ms b (symbol (get_or codes_read j 0)) limit k scratch scratch' None →
+        SideFilled bytes at operators xs ms b limit scratch' None
     filling_stopped h =
         record {
           is = λ side w.
@@ -122,5 +122,5 @@ module _ {bytes operators : List ℕ} {at n : ℕ} {codes_read : List ℕ} (d : 
         }
 
 pub filling_ended : {bytes operators xs : List ℕ} {ms : List Bool} {at i k limit : ℕ} {b : Binding} {scratch : List ℕ} → Filling bytes at operators xs ms b i k scratch →
-    i ≡ 0 → k ≤ limit → SideFilled bytes at operators xs ms b limit scratch (Z.Size.Fits k)
+    i ≡ 0 → k ≤ limit → SideFilled bytes at operators xs ms b limit scratch (Some k)
 filling_ended f e l = record { is = (λ side w. rw e at (f.is side w).1, f.sized.true_sizes, l); long = f.sized.long }

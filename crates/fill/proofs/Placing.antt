@@ -22,7 +22,7 @@ use Rattle.term.specs.Present.{length_in, present, operators_in, marks_in, Sized
 use Rattle.term.specs.Promises.{Pasted, PutSized}
 use Rattle.term.proofs.Sized.{operators_length}
 use Rattle.fill.specs.Promises.{last_symbols, Ready, Filled, SymbolFilled}
-use Rattle.fill.specs.declared.Size as Z
+use Rattle.std.specs.Prelude.{Some, None}
 
 -- LISTS
 
@@ -72,7 +72,7 @@ module _ {operators xs : List ℕ} {b : Binding} {s : Symbol} {k : ℕ} {scratch
   -- the records zs, which s gives, and with sizes
   joined : {ms : List Bool} {limit n : ℕ} {scratch' : List ℕ} (zs : List ℕ) → last_symbols n scratch' ≡ zs ++ last_symbols k scratch → Filled (s ∷ []) b xs ms zs →
       R.sizes zs ++ sizes ar ys ≡ sizes ar (fill (s ∷ []) b xs ++ ys) → n ≤ limit → limit ≤ 1024 → length scratch' ≡ 1024 →
-      SymbolFilled operators xs ms b s limit k scratch scratch' (Z.Size.Fits n)
+      SymbolFilled operators xs ms b s limit k scratch scratch' (Some n)
   joined {n = n} {scratch'} zs d h z l m long =
       let q : R.operators (last_symbols n scratch') ≡ fill (s ∷ []) b xs ++ ys =
       ap R.operators d ∙ map-append R.operator zs (last_symbols k scratch) ∙ ap (λ (w : List ℕ). w ++ ys) h.operators_are in
@@ -83,7 +83,7 @@ module _ {operators xs : List ℕ} {b : Binding} {s : Symbol} {k : ℕ} {scratch
   -- AN OPERATOR
 
   module _ {o : ℕ} (e : s ≡ Symbol.operator o) where
-    pub over_operator : {ms : List Bool} {limit : ℕ} → limit ≤ k → SymbolFilled operators xs ms b s limit k scratch scratch Z.Size.Over
+    pub over_operator : {ms : List Bool} {limit : ℕ} → limit ≤ k → SymbolFilled operators xs ms b s limit k scratch scratch None
     unfolding fill_over
     over_operator l = record { is = rw e (omega arith); long = r.sized.long }
 
@@ -111,7 +111,7 @@ module _ {operators xs : List ℕ} {b : Binding} {s : Symbol} {k : ℕ} {scratch
         rw (a, q) (drop_set scratch (1023 - k) x (omega arith) ∙ ap (λ (i : ℕ). x ∷ drop i scratch) c)
 
     pub filled_operator : {ms : List Bool} {limit : ℕ} {scratch' : List ℕ} → k < limit → limit ≤ 1024 → PutSized (ar o) (1023 - k) o scratch scratch' →
-        SymbolFilled operators xs ms b s limit k scratch scratch' (Z.Size.Fits (k + 1))
+        SymbolFilled operators xs ms b s limit k scratch scratch' (Some (k + 1))
     unfolding fill_over sizes skip
     filled_operator l m p =
         let (x, q, n, z, u) = p.is in
@@ -149,7 +149,7 @@ module _ {operators symbols : List ℕ} {b : Binding} {s : Symbol} {k : ℕ} {sc
   gives : fill (s ∷ []) b ops ≡ part
   gives = gives_part (λ o. o) ops
 
-  pub over_variable : {ms : List Bool} {limit : ℕ} → limit < k + size → SymbolFilled operators ops ms b s limit k scratch scratch Z.Size.Over
+  pub over_variable : {ms : List Bool} {limit : ℕ} → limit < k + size → SymbolFilled operators ops ms b s limit k scratch scratch None
   over_variable l =
       let m = part_there in
       let n = operators_length (arity_in operators) symbols w in
@@ -179,7 +179,7 @@ module _ {operators symbols : List ℕ} {b : Binding} {s : Symbol} {k : ℕ} {sc
       ∙ rw q (sym (part_sizes (arity_in operators) ops start w.term l))
 
   pub filled_variable : {limit : ℕ} {scratch' : List ℕ} → k + size ≤ limit → limit ≤ 1024 → Pasted scratch (1024 - k - size) symbols start size scratch' →
-      SymbolFilled operators ops (marks_in symbols) b s limit k scratch scratch' (Z.Size.Fits (k + size))
+      SymbolFilled operators ops (marks_in symbols) b s limit k scratch scratch' (Some (k + size))
   filled_variable l m p =
       let (i, q) = term_there in
       let t : spells (arity_in operators) 1 part ≡ true = rw q (spells_part (arity_in operators) ops start w.term i) in

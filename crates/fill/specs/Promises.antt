@@ -1,5 +1,5 @@
 -- What filling a right side asks and ensures, by the definitions on lists of symbols. Assumes nothing.
-use Rattle.std.specs.Prelude.{Bool, true, List, [], ◌∷◌, ◌++◌, ◌≡◌, ℕ, ◌+◌, ◌-◌, ◌^◌, ◌≤◌, ◌<◌, length, take, drop}
+use Rattle.std.specs.Prelude.{Bool, true, Option, Some, None, List, [], ◌∷◌, ◌++◌, ◌≡◌, ℕ, ◌+◌, ◌-◌, ◌^◌, ◌≤◌, ◌<◌, length, take, drop}
 use Rattle.paper.specs.Tree.{preorder}
 use Rattle.paper.specs.Book.{Symbol, Side}
 use Rattle.paper.specs.Sound.{All}
@@ -12,7 +12,6 @@ use Rattle.side.specs.Promises.{NumberFits}
 use Rattle.tables.specs.Layout.{arity_in}
 use Rattle.rule.specs.Packed.{arity_of_symbol, SideAt, Goes, BoundTerm}
 use Rattle.fill.specs.Sides.{codes}
-use Rattle.fill.specs.declared.Size as Z
 use Rattle.fill.specs.declared.Coded as C
 
 -- a right side stands at a position, and each of its variables is bound to a term of the symbols xs
@@ -60,23 +59,23 @@ pub record Filled (ss : List Symbol) (b : Binding) (xs : List ℕ) (ms : List Bo
   pub operators_are : R.operators zs ≡ flat.fill ss b xs
   pub marks_are : R.marks zs ≡ flat.fill_marks ss b ms
 
-abbrev pub SymbolIs : List ℕ → List ℕ → List Bool → Binding → Symbol → ℕ → ℕ → List ℕ → List ℕ → Z.Size → Type 0
-SymbolIs operators xs ms b s limit k scratch scratch' (Z.Size.Fits n) =
+abbrev pub SymbolIs : List ℕ → List ℕ → List Bool → Binding → Symbol → ℕ → ℕ → List ℕ → List ℕ → Option ℕ → Type 0
+SymbolIs operators xs ms b s limit k scratch scratch' (Some n) =
     (zs : List ℕ) × (last_symbols n scratch' ≡ zs ++ last_symbols k scratch) × Filled (s ∷ []) b xs ms zs × SizedEnd (arity_in operators) n scratch' × (n ≤ limit)
-SymbolIs operators xs ms b s limit k scratch scratch' Z.Size.Over = limit < length (flat.fill (s ∷ []) b xs) + k
+SymbolIs operators xs ms b s limit k scratch scratch' None = limit < length (flat.fill (s ∷ []) b xs) + k
 
 -- the symbol s is filled in front of the last k symbols; or they would be more than the limit
-pub record SymbolFilled (operators xs : List ℕ) (ms : List Bool) (b : Binding) (s : Symbol) (limit k : ℕ) (scratch scratch' : List ℕ) (r : Z.Size) : Type 0 where
+pub record SymbolFilled (operators xs : List ℕ) (ms : List Bool) (b : Binding) (s : Symbol) (limit k : ℕ) (scratch scratch' : List ℕ) (r : Option ℕ) : Type 0 where
   pub is : SymbolIs operators xs ms b s limit k scratch scratch' r
   pub long : length scratch' ≡ 1024
 
 -- the filled side is the last k symbols of scratch, with their sizes; or has more symbols than the limit
-abbrev pub SideIs : List ℕ → ℕ → List ℕ → List ℕ → List Bool → Binding → ℕ → List ℕ → Z.Size → Type 0
-SideIs bytes at operators xs ms b limit scratch (Z.Size.Fits k) =
+abbrev pub SideIs : List ℕ → ℕ → List ℕ → List ℕ → List Bool → Binding → ℕ → List ℕ → Option ℕ → Type 0
+SideIs bytes at operators xs ms b limit scratch (Some k) =
     ((side : Side) → SideAt bytes at operators side → Filled (preorder side) b xs ms (drop (1024 - k) scratch))
     × (R.sizes (drop (1024 - k) scratch) ≡ sizes.sizes (arity_in operators) (R.operators (drop (1024 - k) scratch))) × (k ≤ limit)
-SideIs bytes at operators xs ms b limit scratch Z.Size.Over = (side : Side) → SideAt bytes at operators side → limit < length (flat.fill (preorder side) b xs)
+SideIs bytes at operators xs ms b limit scratch None = (side : Side) → SideAt bytes at operators side → limit < length (flat.fill (preorder side) b xs)
 
-pub record SideFilled (bytes : List ℕ) (at : ℕ) (operators xs : List ℕ) (ms : List Bool) (b : Binding) (limit : ℕ) (scratch : List ℕ) (r : Z.Size) : Type 0 where
+pub record SideFilled (bytes : List ℕ) (at : ℕ) (operators xs : List ℕ) (ms : List Bool) (b : Binding) (limit : ℕ) (scratch : List ℕ) (r : Option ℕ) : Type 0 where
   pub is : SideIs bytes at operators xs ms b limit scratch r
   pub long : length scratch ≡ 1024

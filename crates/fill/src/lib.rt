@@ -11,15 +11,8 @@ ghost use Rattle.fill.specs.Promises as F;
 
 use side::Standing;
 
-// How many symbols a filled right side has, or that they are more than the limit.
-#[derive(Drop)]
-pub enum Size {
-    Fits(usize),
-    Over,
-}
-
 // A symbol of a side, decoded: its code, its arity and the position behind it.
-#[derive(Drop)]
+#[derive(Clone, Copy)]
 struct Coded {
     code: u16,
     arity: usize,
@@ -33,14 +26,14 @@ fn decode_one(book: &[u8], at: usize, operators: &[u8; 4352]) -> Coded
 {
     match side::symbol_at(book, at) {
         Standing::Operator(o, next) => Coded {
-            code: casts::short(casts::index(o)),
+            code: u16::from(o),
             arity: tables::arity(operators, o),
-            next: next,
+            next,
         },
         Standing::Variable(v, next) => Coded {
-            code: casts::short(256 + casts::index(v)),
+            code: 256 + u16::from(v),
             arity: 0,
-            next: next,
+            next,
         },
     }
 }
@@ -52,18 +45,20 @@ fn decode(book: &[u8], at: usize, operators: &[u8; 4352], codes: &mut [u16; 64])
 {
     let mut p = at;
     let mut due = 1;
-    let mut n: usize = 0;
-    while 0 < due && n < 64 {
+    for n in 0..64 {
+        if due == 0 {
+            return n;
+        }
         let coded = decode_one(book, p, operators);
         codes[n] = coded.code;
         due = due - 1 + coded.arity;
         p = coded.next;
-        n += 1;
     }
-    n
+    64
 }
 
-// What the symbol of a code gives, in front of the last k symbols of scratch; how many they are then. An operator's arguments are among the k.
+// What the symbol of a code gives, in front of the last k symbols of scratch; how many they are then, unless they are more than the limit. An operator's
+// arguments are among the k.
 fn fill_one(
     code: u16,
     operators: &[u8; 4352],
@@ -72,30 +67,30 @@ fn fill_one(
     bound: &[u16; 32],
     scratch: &mut [u32; 1024],
     k: usize,
-) -> Size
+) -> Option<usize>
     requires { F.Ready operators.now (operators_in symbols.now) (binding bound.now) (symbol code) k scratch.old × Sized (arity_in operators.now) symbols.now × (k ≤ limit) × (limit ≤ 1024) }
     ensures { F.SymbolFilled operators.now (operators_in symbols.now) (marks_in symbols.now) (binding bound.now) (symbol code) limit k scratch.old scratch.new result }
 {
     if code < 256 {
         if k == limit {
-            return Size::Over;
+            return None;
         }
-        term::put_sized(scratch, operators, 1023 - k, casts::low_byte(code));
-        return Size::Fits(k + 1);
+        term::put_sized(scratch, operators, 1023 - k, code as u8);
+        return Some(k + 1);
     }
     // Variable v's start stands at 2 * v, its size behind it.
-    let i = 2 * (casts::offset(code) - 256);
-    let size = casts::offset(bound[i + 1]);
+    let i = 2 * (usize::from(code) - 256);
+    let size = usize::from(bound[i + 1]);
     if limit - k < size {
-        return Size::Over;
+        return None;
     }
-    let start = casts::offset(bound[i]);
+    let start = usize::from(bound[i]);
     term::copy(scratch, 1024 - k - size, symbols, start, size);
-    Size::Fits(k + size)
+    Some(k + size)
 }
 
-// The filled right side at position at of the book, at the end of scratch, unless it has more symbols than the limit. It is filled from its last symbol
-// to its first, so that an operator's arguments stand there when its size is counted.
+// The filled right side at position at of the book, at the end of scratch, and how many symbols it has, unless they are more than the limit. It is filled
+// from its last symbol to its first, so that an operator's arguments stand there when its size is counted.
 pub fn fill(
     book: &[u8],
     at: usize,
@@ -104,19 +99,15 @@ pub fn fill(
     limit: usize,
     bound: &[u16; 32],
     scratch: &mut [u32; 1024],
-) -> Size
+) -> Option<usize>
     requires { F.Fillable book.now at operators.now (operators_in symbols.now) (binding bound.now) × Sized (arity_in operators.now) symbols.now × (length scratch.old ≡ 1024) × (limit ≤ 1024) }
     ensures { F.SideFilled book.now at operators.now (operators_in symbols.now) (marks_in symbols.now) (binding bound.now) limit scratch.new result }
 {
     let mut codes: [u16; 64] = [0; 64];
-    let mut i = decode(book, at, operators, &mut codes);
+    let n = decode(book, at, operators, &mut codes);
     let mut k = 0;
-    while 0 < i {
-        i -= 1;
-        let Size::Fits(n) = fill_one(codes[i], operators, symbols, limit, bound, scratch, k) else {
-            return Size::Over;
-        };
-        k = n;
+    for i in (0..n).rev() {
+        k = fill_one(codes[i], operators, symbols, limit, bound, scratch, k)?;
     }
-    Size::Fits(k)
+    Some(k)
 }

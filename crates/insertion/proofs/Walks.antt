@@ -22,7 +22,7 @@ use Rattle.net.specs.Layout.{root_in, same_in, left_of, way_in}
 use Rattle.net.specs.Net.{part, key, path, Same}
 use Rattle.net.specs.Promises.{CellPut, WayPut}
 use Rattle.net.proofs.Leading.{agree_less, agree_at}
-use Rattle.net.proofs.Growing.{Gone, gone_first, gone_along, gone_over, grow_root, grow_same, grow_way, same_snoc}
+use Rattle.net.proofs.Growing.{Gone, gone_first, gone_along, gone_over, grow_root, grow_same, grow_way}
 use Rattle.insertion.specs.Promises.{SymbolRead, Keyed, Ready, branch, chosen, Appended, PlaceIs, Inserted}
 use Rattle.insertion.specs.declared.Symbol as D
 use Rattle.insertion.specs.declared.Parting as Pa
@@ -119,12 +119,9 @@ module _ {bytes operators net : List ℕ} {rs : List Rule} {m : ℕ} (R : Ready 
 
 -- RULES WITH ONE PATH
 
-pub same_on : {net : List ℕ} {i s next : ℕ} → Same net i s → next ≡ same_in net s → 0 < next → Same net i (next - 1)
-same_on r e l = same_snoc r (omega arith)
-
-pub appended : {net net' : List ℕ} {i s next m v : ℕ} → Same net i s → next ≡ same_in net s → next ≡ 0 → v ≡ suc m → CellPut net 3 s v net' → Appended net i m net'
-appended {net = net} {net' = net'} {s = s} r e z q p =
-    record { after = s; same = r; last = omega arith; put = subst (λ (x : ℕ). CellPut net 3 s x net') q p }
+pub appended : {net net' : List ℕ} {i s m v : ℕ} → Same net i s → same_in net s ≡ 0 → v ≡ suc m → CellPut net 3 s v net' → Appended net i m net'
+appended {net = net} {net' = net'} {s = s} r e q p =
+    record { after = s; same = r; last = e; put = subst (λ (x : ℕ). CellPut net 3 s x net') q p }
 
 -- PLACES
 

@@ -12,7 +12,7 @@ ghost use Rattle.insertion.specs.Promises as I;
 use side::Standing;
 
 // A symbol of a left side: its key, how many bits it takes, how many arguments it has.
-#[derive(Drop)]
+#[derive(Clone, Copy)]
 struct Symbol {
     key: u8,
     width: usize,
@@ -20,7 +20,7 @@ struct Symbol {
 }
 
 // Where a rule leaves the path of another: at which depth, by which key; and whether one of the two goes on by a variable there.
-#[derive(Drop)]
+#[derive(Clone, Copy)]
 struct Parting {
     rule: usize,
     depth: usize,
@@ -29,7 +29,7 @@ struct Parting {
 }
 
 // The place of a rule: behind the rules with the path of another, or off it.
-#[derive(Drop)]
+#[derive(Clone, Copy)]
 enum Place {
     Behind(usize),
     Off(Parting),
@@ -59,19 +59,16 @@ fn read(book: &[u8], operators: &[u8; 4352], at: usize) -> Symbol
 fn chosen(own: u8, new: u8) -> bool
     ensures { result ≡ I.chosen own new }
 {
-    if own == net::PART {
-        return true;
-    }
-    new == net::PART
+    own == net::PART || new == net::PART
 }
 
-// The number of the rule by which the node at a depth of rule i's path goes on with the key `new`, where its own is `own`.
-fn follow(net: &[u8], i: usize, depth: usize, own: u8, new: u8) -> usize
+// The rule by which the node at a depth of rule i's path goes on with the key `new`, where its own is `own`.
+fn follow(net: &[u8], i: usize, depth: usize, own: u8, new: u8) -> Option<usize>
     requires { (L.published ≤ length net.now) × (i < 255) × (depth < 256) × L.Chained net.now }
-    ensures { (result ≡ I.branch net.now i depth own new) × (result < 256) }
+    ensures { (L.number result ≡ I.branch net.now i depth own new) × (L.number result < 256) }
 {
     if own == new {
-        return i + 1;
+        return Some(i);
     }
     net::way(net, i, depth, new)
 }
@@ -96,16 +93,15 @@ fn walk(
     while 0 < due {
         let own = read(book, operators, net::left_side(net, rule) + at);
         let new = read(book, operators, left + at);
-        let next = follow(net, rule, depth, own.key, new.key);
-        if next == 0 {
+        let Some(next) = follow(net, rule, depth, own.key, new.key) else {
             return Place::Off(Parting {
                 rule,
                 depth,
                 key: new.key,
                 choice: chosen(own.key, new.key),
             });
-        }
-        rule = next - 1;
+        };
+        rule = next;
         depth += 1;
         at += new.width;
         due = due - 1 + new.arity;
@@ -119,10 +115,8 @@ fn append(net: &mut [u8], i: usize, j: usize)
     ensures { I.Appended net.old i j net.new }
 {
     let mut s = i;
-    let mut next = net::same(net, s);
-    while 0 < next {
-        s = next - 1;
-        next = net::same(net, s);
+    while let Some(next) = net::same(net, s) {
+        s = next;
     }
     net::put_same(net, s, j);
 }
@@ -133,12 +127,11 @@ fn insert(book: &[u8], operators: &[u8; 4352], net: &mut [u8], j: usize)
     ensures { I.Inserted net.old (path (book_by book.now net.old).rules) j net.new }
 {
     let root = read(book, operators, net::left_side(net, j));
-    let first = net::root(net, root.key);
-    if first == 0 {
+    let Some(first) = net::root(net, root.key) else {
         net::put_root(net, root.key, j);
         return;
-    }
-    match walk(book, operators, net, j, root, first - 1) {
+    };
+    match walk(book, operators, net, j, root, first) {
         Place::Behind(i) => append(net, i, j),
         Place::Off(p) => net::put_way(net, p.rule, p.depth, p.key, j, p.choice),
     }
@@ -151,9 +144,7 @@ pub fn build(book: &[u8], operators: &[u8; 4352], rules: &[u32; 512], net: &mut 
 {
     net::start(net);
     net::put_day(net, tables::day(rules));
-    let m = tables::count(rules);
-    let mut j = 0;
-    while j < m {
+    for j in 0..tables::count(rules) {
         net::put_sides(
             net,
             j,
@@ -161,6 +152,5 @@ pub fn build(book: &[u8], operators: &[u8; 4352], rules: &[u32; 512], net: &mut 
             tables::right_side(rules, j),
         );
         insert(book, operators, net, j);
-        j += 1;
     }
 }

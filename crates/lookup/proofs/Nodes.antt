@@ -34,7 +34,7 @@ use Rattle.net.proofs.Leading.{least, Next, next, agrees, ended}
 use Rattle.lookup.specs.Walk.{wide, width, symbol_in, size_in, takes, behind, Bears, Agree}
 use Rattle.lookup.specs.Promises.{rules_by, path_by, Ready, KeyAt, branch_in, Small, Stepped, BySymbol, ByPart, OneWay, end, Led, Node, Fit, Descended, Packable}
 use Rattle.lookup.specs.declared.Spot.{Spot}
-use Rattle.lookup.specs.declared.Next as Ne
+use Rattle.std.specs.Prelude.{Option, Some, None}
 use Rattle.lookup.specs.declared.Descent as De
 use Rattle.lookup.proofs.Walks.{wide_part, wide_operator, width_most, width_more, takes_part, takes_operator, behind_more, behind_least, agree_more, agree_at, behind_most}
 use Rattle.lookup.proofs.Agreeing.{Plain, Due, whole_end}
@@ -58,13 +58,9 @@ pub branch_way : (net : List ℕ) (i d own k : ℕ) → (own ≡ k → ⊥) → 
 unfolding branch_in
 branch_way net i d own k z = rw (ne_eqb own k z)
 
--- the number of a branch, found
-module _ (net : List ℕ) (i d own x k r : ℕ) (b : r ≡ branch_in net i d own x) (z : x ≡ k) where
-  pub branch_none : r ≡ 0 → branch_in net i d own k ≡ 0
-  branch_none y = ap (branch_in net i d own) (sym z) ∙ sym b ∙ y
-
-  pub branch_some : (r ≡ 0 → ⊥) → branch_in net i d own k ≡ suc (r - 1)
-  branch_some y = ap (branch_in net i d own) (sym z) ∙ sym b ∙ omega arith
+-- the number of a branch, by its key
+pub branch_by : (net : List ℕ) (i d own x k r : ℕ) → r ≡ branch_in net i d own x → x ≡ k → branch_in net i d own k ≡ r
+branch_by net i d own x k r b z = ap (branch_in net i d own) (sym z) ∙ sym b
 
 -- KEYS
 
@@ -278,9 +274,9 @@ module _ {bytes net symbols : List ℕ} {a : ℕ} (R : Ready bytes net symbols a
   By s own k j = (r : ℕ) × (branch_in net s.rule s.depth own k ≡ suc r) × Leads net r (suc s.depth) j
 
   -- r answers for the branch of key k
-  abbrev pub Branched : Spot → ℕ → ℕ → Ne.Next → Type 0
-  Branched s own k Ne.Next.None = (j : ℕ) → By s own k j → ⊥
-  Branched s own k (Ne.Next.At t) = Node bytes net symbols a t × (t.depth ≡ s.depth + 1) × ((j : ℕ) → By s own k j → Led net t j)
+  abbrev pub Branched : Spot → ℕ → ℕ → Option Spot → Type 0
+  Branched s own k None = (j : ℕ) → By s own k j → ⊥
+  Branched s own k (Some t) = Node bytes net symbols a t × (t.depth ≡ s.depth + 1) × ((j : ℕ) → By s own k j → Led net t j)
 
   module _ {s : Spot} (n : Node bytes net symbols a s) (o : s.offset < e) {own : ℕ} (own_is : own ≡ get_or (P s.rule) s.depth 0) where
     abbrev d : ℕ
@@ -309,9 +305,9 @@ module _ {bytes net symbols : List ℕ} {a : ℕ} (R : Ready bytes net symbols a
           at_is = rw f (at_is ∙ ap (λ (x : ℕ). x + wide k) n.at_is ∙ sym (width_more (take d (P i)) k));
         }
 
-    branched : (k w m : ℕ) (r : Ne.Next) → Bears symbols k s.offset → w ≡ wide k → m ≡ takes symbols k s.offset → Stepped net s own k w m r → Branched s own k r
-    branched k w m Ne.Next.None b p q z = λ j h. let y = h.1 in omega arith
-    branched k w m (Ne.Next.At t) b p q z =
+    branched : (k w m : ℕ) (r : Option Spot) → Bears symbols k s.offset → w ≡ wide k → m ≡ takes symbols k s.offset → Stepped net s own k w m r → Branched s own k r
+    branched k w m None b p q z = λ j h. let y = h.1 in omega arith
+    branched k w m (Some t) b p q z =
         let (y, depth_is, at_is, offset_is) = z in (
           node_behind k t b y depth_is (omega arith) (omega arith),
           depth_is,
@@ -324,10 +320,10 @@ module _ {bytes net symbols : List ℕ} {a : ℕ} (R : Ready bytes net symbols a
     x_plain : symbol_in symbols s.offset ≡ part → ⊥
     x_plain z = omega (arith, symbol_below s.offset (omega (arith, end_inside)))
 
-    pub by_symbol : (r : Ne.Next) → BySymbol net symbols s own r → Branched s own (symbol_in symbols s.offset) r
+    pub by_symbol : (r : Option Spot) → BySymbol net symbols s own r → Branched s own (symbol_in symbols s.offset) r
     by_symbol r h = branched (symbol_in symbols s.offset) 9 1 r (inr refl) (sym (wide_operator _ x_plain)) (sym (takes_operator symbols _ s.offset x_plain)) h
 
-    pub by_part : (r : Ne.Next) → ByPart net symbols s own r → Branched s own part r
+    pub by_part : (r : Option Spot) → ByPart net symbols s own r → Branched s own part r
     by_part r h = branched part 5 (size_in symbols s.offset) r (inl refl) (sym wide_part) (sym (takes_part symbols s.offset)) h
 
     -- RULES THAT FIT
@@ -372,15 +368,15 @@ module _ {bytes net symbols : List ℕ} {a : ℕ} (R : Ready bytes net symbols a
       only_symbol z (r, b, w) = let v = (R.is.ways i d part r (sym (branch_way net i d own part z) ∙ b)).choice (inl refl) in omega arith
 
       -- r answers for the branch
-      abbrev pub Onward : Ne.Next → Type 0
-      Onward Ne.Next.None = (j : ℕ) → Fit bytes net symbols a j → Led net s j → ⊥
-      Onward (Ne.Next.At t) = Node bytes net symbols a t × (t.depth ≡ d + 1) × ((j : ℕ) → Fit bytes net symbols a j → Led net s j → Led net t j)
+      abbrev pub Onward : Option Spot → Type 0
+      Onward None = (j : ℕ) → Fit bytes net symbols a j → Led net s j → ⊥
+      Onward (Some t) = Node bytes net symbols a t × (t.depth ≡ d + 1) × ((j : ℕ) → Fit bytes net symbols a j → Led net s j → Led net t j)
 
-      onward : (k : ℕ) (r : Ne.Next) → Branched s own k r → ((j : ℕ) → Fit bytes net symbols a j → Led net s j → By s own k j) → Onward r
-      onward k Ne.Next.None b g = λ j f l. b j (g j f l)
-      onward k (Ne.Next.At t) b g = (b.0, b.1, λ j f l. b.2 j (g j f l))
+      onward : (k : ℕ) (r : Option Spot) → Branched s own k r → ((j : ℕ) → Fit bytes net symbols a j → Led net s j → By s own k j) → Onward r
+      onward k None b g = λ j f l. b j (g j f l)
+      onward k (Some t) b g = (b.0, b.1, λ j f l. b.2 j (g j f l))
 
-      pub one_way : (r : Ne.Next) → OneWay net symbols s own r → Onward r
+      pub one_way : (r : Option Spot) → OneWay net symbols s own r → Onward r
       one_way r (inl (z, h)) = onward part r (by_part r h) (λ j f l. elim (step f l) [ inl b ↦ absurd (only_part z b) | inr b ↦ b ])
       one_way r (inr (z, h)) =
           onward (symbol_in symbols s.offset) r (by_symbol r h) (λ j f l. elim (step f l) [ inl b ↦ b | inr b ↦ absurd (only_symbol z b) ])
@@ -401,12 +397,12 @@ module _ {bytes net symbols : List ℕ} {a : ℕ} (R : Ready bytes net symbols a
     down_choice best = (w.node, o, w.deeper, w.leads)
 
     module _ (own : ℕ) (key : KeyAt bytes (left_of net s.rule + s.at) own) (narrow : choice_in net s.rule ≤ s.depth) where
-      pub down_lost : (best : ℕ) → OneWay net symbols s own Ne.Next.None → Descended bytes net symbols a s₀ best De.Descent.Lost
-      down_lost best h = λ j f l. absurd (one_way w.node o (key_is w.node o own key) narrow Ne.Next.None h j f (w.leads j f l))
+      pub down_lost : (best : ℕ) → OneWay net symbols s own None → Descended bytes net symbols a s₀ best De.Descent.Lost
+      down_lost best h = λ j f l. absurd (one_way w.node o (key_is w.node o own key) narrow None h j f (w.leads j f l))
 
-      pub down_on : (t : Spot) → OneWay net symbols s own (Ne.Next.At t) → Down bytes net symbols a s₀ t × (64 - t.depth < 64 - s.depth)
+      pub down_on : (t : Spot) → OneWay net symbols s own (Some t) → Down bytes net symbols a s₀ t × (64 - t.depth < 64 - s.depth)
       down_on t h =
-          let (n, z, g) = one_way w.node o (key_is w.node o own key) narrow (Ne.Next.At t) h in
+          let (n, z, g) = one_way w.node o (key_is w.node o own key) narrow (Some t) h in
           let m = w.deeper in
           let d = (small w.node o).depth in
           (record { node = n; deeper = omega arith; leads = λ j f l. g j f (w.leads j f l) }, omega arith)

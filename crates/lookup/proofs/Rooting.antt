@@ -1,7 +1,7 @@
 -- The term's root: where the net has no first rule of it, no rule matches; where it has one, the search begins there. Assumes nothing.
 use mathlib.Core.List.{List, map}
 use mathlib.Core.Path.{◌≡◌, refl, sym, ap, ◌∙◌}
-use Prim.Native.Nat.{ℕ, suc, ◌-◌, ◌<◌}
+use Prim.Native.Nat.{ℕ, ◌<◌}
 use native.Mathlib.Omega.{arith}
 use lib.ListN.{length, get_or}
 use Rattle.paper.specs.Tree.{node, label, preorder}
@@ -47,13 +47,9 @@ module _ {bytes operators net symbols : List ℕ} {a : ℕ} (h : Present bytes o
       let inside : a < length xs = omega (arith, h.inside, operators_length (arity_in operators) symbols h.sized) in
       none_found t xs a h.known (λ i l. root_differs t xs a inside i l (other none i l))
 
-  -- the operator o stands at the offset, and first is the number of the first rule of that root
-  module _ {o first : ℕ} (stands : o ≡ operator (get_or symbols a 0)) (is : first ≡ root_in net o) where
-    root_is : root_in net (get_or xs a 0) ≡ first
-    root_is = sym (is ∙ ap (root_in net) (stands ∙ operator_is (arity_in operators) symbols h.sized a h.inside))
+  -- the operator o stands at the offset, and n is the number of the first rule of that root
+  pub root_found : {o n : ℕ} → o ≡ operator (get_or symbols a 0) → n ≡ root_in net o → root_in net (get_or xs a 0) ≡ n
+  root_found stands is = sym (is ∙ ap (root_in net) (stands ∙ operator_is (arity_in operators) symbols h.sized a h.inside))
 
-    pub root_missed : first ≡ 0 → NoneFound B operators a xs
-    root_missed e = no_root (root_is ∙ e)
-
-    pub root_found : (first ≡ 0 → ⊥) → root_in net (get_or xs a 0) ≡ suc (first - 1)
-    root_found some = let e : first ≡ suc (first - 1) = omega arith in root_is ∙ e
+  pub root_missed : {o : ℕ} → o ≡ operator (get_or symbols a 0) → 0 ≡ root_in net o → NoneFound B operators a xs
+  root_missed stands is = no_root (root_found stands is)

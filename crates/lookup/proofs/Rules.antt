@@ -2,7 +2,7 @@
 use mathlib.Core.List.{List}
 use mathlib.Core.Logic.{◌⊎◌, inl, inr}
 use mathlib.Core.Path.{◌≡◌, refl, sym, ap, ◌∙◌, subst}
-use Prim.Native.Nat.{ℕ, zero, suc, ◌+◌, ◌-◌, ◌≤◌, ◌<◌}
+use Prim.Native.Nat.{ℕ, zero, suc, ◌-◌, ◌≤◌, ◌<◌}
 use native.Mathlib.Omega.{arith}
 use lib.ListN.{length, get_or}
 use Rattle.paper.specs.Tree.{preorder}
@@ -17,7 +17,7 @@ use Rattle.term.proofs.Sized.{operators_length, sized_same}
 use Rattle.term.proofs.Skipping.{known_arities}
 use Rattle.rule.specs.Packed.{arity_of_symbol}
 use Rattle.rule.specs.Promises.{LeftTried, NoneFound, RuleFound}
-use Rattle.rule.specs.declared.Found as F
+use Rattle.std.specs.Prelude.{Option, Some, None}
 use Rattle.rule.proofs.Tables.{lefts_stand}
 use Rattle.rule.proofs.Choices.{tried_differs, tried_agrees, none_found, rule_found}
 use Rattle.net.specs.Layout.{left_of, same_in}
@@ -86,22 +86,22 @@ module _ {bytes operators net symbols : List ℕ} {a : ℕ} (p : Present bytes o
   -- ANSWERS
 
   module _ (i : ℕ) (l : i < length rs) (root : get_or (P i) 0 0 ≡ symbol_in symbols a) (b : Binding) where
-    abbrev Tried : F.Found → Type 0
+    abbrev Tried : Option ℕ → Type 0
     Tried r = LeftTried bytes (left_of net i) operators xs a (length_in symbols) b r
 
-    at_left : (r : F.Found) → Tried r → LeftTried bytes (left_in p.netted.rules i) operators xs a (length_in symbols) b r
+    at_left : (r : Option ℕ) → Tried r → LeftTried bytes (left_in p.netted.rules i) operators xs a (length_in symbols) b r
     at_left r t = rw (lefts_are p.netted i l) at t
 
-    pub answers_differs : Tried F.Found.Differs → try i ≡ flat.Match.differs
-    answers_differs t = tried_differs T xs a i (length_in symbols) b l (root_of ready i l root) (at_left F.Found.Differs t)
+    pub answers_differs : Tried None → try i ≡ flat.Match.differs
+    answers_differs t = tried_differs T xs a i (length_in symbols) b l (root_of ready i l root) (at_left None t)
 
-    pub answers_agrees : (e : ℕ) → Tried (F.Found.Agrees e) → try i ≡ flat.Match.agrees b e
-    answers_agrees e t = tried_agrees T xs a i e (length_in symbols) b l (root_of ready i l root) (at_left (F.Found.Agrees e) t)
+    pub answers_agrees : (e : ℕ) → Tried (Some e) → try i ≡ flat.Match.agrees b e
+    answers_agrees e t = tried_agrees T xs a i e (length_in symbols) b l (root_of ready i l root) (at_left (Some e) t)
 
-    pub answers_first : (e : ℕ) → Tried (F.Found.Agrees e) → ((j : ℕ) → j < i → try j ≡ flat.Match.differs) →
+    pub answers_first : (e : ℕ) → Tried (Some e) → ((j : ℕ) → j < i → try j ≡ flat.Match.differs) →
         RuleFound B operators a xs (length_in symbols) b (record { rule = i; end = e })
     answers_first e t h =
-        rule_found T xs a p.known inside p.sized.term i e (length_in symbols) b l (root_of ready i l root) h (at_left (F.Found.Agrees e) t)
+        rule_found T xs a p.known inside p.sized.term i e (length_in symbols) b l (root_of ready i l root) h (at_left (Some e) t)
 
   pub answers_none : ((j : ℕ) → j < length rs → try j ≡ flat.Match.differs) → NoneFound B operators a xs
   answers_none h = none_found T xs a p.known h
@@ -137,13 +137,10 @@ module _ {bytes operators net symbols : List ℕ} {a : ℕ} (p : Present bytes o
   abbrev Now : ℕ → Type 0
   Now c = Reached bytes operators net symbols a i c
 
-  pub reached_first : (c : ℕ) → c ≡ i + 1 → Now c
-  reached_first c z = subst Now (let y : suc i ≡ c = omega arith in y) (record { numbers = (l, Same.self i); left = λ j s. inr s })
+  pub reached_first : Now (suc i)
+  reached_first = record { numbers = (l, Same.self i); left = λ j s. inr s }
 
-  module _ (c k : ℕ) (some : 0 < c) (is : k ≡ c - 1) (h : Now c) where
-    here : Now (suc k)
-    here = subst Now (let y : c ≡ suc k = omega arith in y) h
-
+  module _ (k : ℕ) (here : Now (suc k)) where
     pub reached_known : k < length (rules_by bytes net)
     reached_known = here.numbers.0
 
@@ -154,8 +151,8 @@ module _ {bytes operators net symbols : List ℕ} {a : ℕ} (p : Present bytes o
     root_there = ap (λ (ks : List ℕ). get_or ks 0 0) (same_path (ready p).is (few p) l here.numbers.1) ∙ root
 
     module _ (left : ℕ) (b : Binding) (at : left ≡ left_of net k) where
-      pub reached_found : (best e : ℕ) → c < best →
-          LeftTried bytes left operators (operators_in symbols) a (length_in symbols) b (F.Found.Agrees e) →
+      pub reached_found : (best e : ℕ) → suc k < best →
+          LeftTried bytes left operators (operators_in symbols) a (length_in symbols) b (Some e) →
           FirstOf bytes operators net symbols a i best b (record { rule = k; end = e })
       reached_found best e m t =
           record {
@@ -165,8 +162,8 @@ module _ {bytes operators net symbols : List ℕ} {a : ℕ} (p : Present bytes o
             passed = λ j s. elim (here.left j s) [ inl z ↦ inl z | inr w ↦ inr (let y = same_least (ready p).is (few p) reached_known w in omega arith) ];
           }
 
-      pub reached_next : (r : ℕ) → LeftTried bytes left operators (operators_in symbols) a (length_in symbols) b F.Found.Differs → r ≡ same_in net k →
-          Now r × (ahead r < ahead c)
+      pub reached_next : (r : ℕ) → LeftTried bytes left operators (operators_in symbols) a (length_in symbols) b None → r ≡ same_in net k →
+          Now r × (ahead r < ahead (suc k))
       unfolding ahead
       reached_next r t e = go r (sym e)
         where
@@ -176,11 +173,11 @@ module _ {bytes operators net symbols : List ℕ} {a : ℕ} (p : Present bytes o
           left_of_these : (r : ℕ) → same_in net k ≡ r → (j : ℕ) → Same net i j → (tried bytes operators net symbols a j ≡ flat.Match.differs) ⊎ Along net r j
           left_of_these r e j s = elim (here.left j s) [ inl z ↦ inl z | inr w ↦ later (λ j. tried bytes operators net symbols a j ≡ flat.Match.differs) r differs e w ]
 
-          go : (r : ℕ) → same_in net k ≡ r → Now r × (ahead r < ahead c)
-          go zero e = (record { numbers = tt; left = left_of_these zero e }, let y : c ≡ suc k = omega arith in rw y (omega (arith, reached_below)))
+          go : (r : ℕ) → same_in net k ≡ r → Now r × (ahead r < ahead (suc k))
+          go zero e = (record { numbers = tt; left = left_of_these zero e }, omega (arith, reached_below))
           go (suc s) e =
               let (m, n, q) = (ready p).is.sames k s reached_below e in
-              (record { numbers = (n, same_more s here.numbers.1 e); left = left_of_these (suc s) e }, let y : c ≡ suc k = omega arith in rw y (omega (arith, reached_below)))
+              (record { numbers = (n, same_more s here.numbers.1 e); left = left_of_these (suc s) e }, omega (arith, reached_below))
 
   pub reached_end : (c best : ℕ) → Now c → (c ≡ 0) ⊎ (best ≤ c) → (j : ℕ) → Same net i j → Beaten bytes operators net symbols a best j
   reached_end c best h (inl z) j s = elim (h.left j s) [ inl y ↦ inl y | inr w ↦ absurd (rw z at w) ]

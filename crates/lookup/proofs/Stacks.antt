@@ -10,10 +10,13 @@ use Rattle.paper.proofs.Tests.{eqb_cases}
 use Rattle.net.specs.Layout.{left_of}
 use Rattle.net.specs.Net.{part}
 use Rattle.lookup.specs.Walk.{symbol_in, size_in}
-use Rattle.lookup.specs.Promises.{Ready, Small, KeyAt, BySymbol, ByPart, Led, Node, Fit, Descended, spot_at, Packable, Puts, Put, Pushed, weigh, load, Pending, Along, Stacked, Tells, Visited, Turned}
+use Rattle.lookup.specs.Promises.{Ready, Small, KeyAt, BySymbol, ByPart, Led, Node, Fit, Descended, spot_at, Packable, Puts, Put, Pushed, weigh, limit_of, load, Pending, Along, Stacked, Tells, Visited, Turned}
 use Rattle.lookup.specs.declared.Spot.{Spot}
-use Rattle.lookup.specs.declared.Next as Ne
+use Rattle.std.specs.Prelude.{Option, Some, None}
+use Rattle.rule.specs.declared.Match as M
+use Rattle.net.specs.Layout.{number}
 use Rattle.lookup.specs.declared.Descent as De
+use Rattle.std.specs.Option.{option_map}
 use Rattle.lookup.specs.declared.Turn.{Turn}
 use Rattle.lookup.proofs.Nodes.{path_short, packable, small, part_inside, key_is, By, Branched, by_symbol, by_part, step}
 
@@ -130,19 +133,19 @@ module _ {bytes net symbols : List ℕ} {a : ℕ} (R : Ready bytes net symbols a
 
   -- a branch may be put on a stack, and is
   module _ (s : Spot) (own k : ℕ) {stack : List ℕ} {h : ℕ} (S : Stacked bytes net symbols a stack h) where
-    puts : (n : Ne.Next) → Branched R s own k n → h < 64 → Puts stack h n
-    puts Ne.Next.None b l = tt
-    puts (Ne.Next.At n) b l = (S.long, l, packable R b.0)
+    puts : (n : Option Spot) → Branched R s own k n → h < 64 → Puts stack h n
+    puts None b l = tt
+    puts (Some n) b l = (S.long, l, packable R b.0)
 
     abbrev Holds : List ℕ → ℕ → Type 0
     Holds stack' r = Grown stack h (weigh (64 - (s.depth + 1))) stack' r × ((j : ℕ) → By R s own k j → Pending net stack' r j)
 
-    grown : (n : Ne.Next) → Branched R s own k n → h ≤ s.depth → (stack' : List ℕ) (r : ℕ) → Pushed stack h n stack' r → Holds stack' r
-    grown Ne.Next.None b l stack' r (e, z) =
+    grown : (n : Option Spot) → Branched R s own k n → h ≤ s.depth → (stack' : List ℕ) (r : ℕ) → Pushed stack h n stack' r → Holds stack' r
+    grown None b l stack' r (e, z) =
         subst (λ (x : List ℕ). Holds x r) (sym e)
         (subst (λ (x : ℕ). Holds stack x) (sym z)
         (record { stacked = S; heavier = omega arith; higher = omega arith; kept = λ j w. w }, λ j w. absurd (b j w)))
-    grown (Ne.Next.At n) (N, d, leads) l stack' r (P, y) =
+    grown (Some n) (N, d, leads) l stack' r (P, y) =
         let deep : h < n.depth = omega arith in
         let z : suc h ≡ r = omega arith in
         subst (λ (x : ℕ). Holds stack' x) z (
@@ -182,9 +185,9 @@ module _ {bytes net symbols : List ℕ} {a : ℕ} (R : Ready bytes net symbols a
           before k h l d = omega arith
 
       -- the node is taken off, and what it leads to is known
-      taken : (n : ℕ) → Tells bytes net symbols a n →
-          ((j : ℕ) → Fit bytes net symbols a j → Led net s j → (best ≤ suc j) ⊎ Along net n j) →
-          Visited bytes net symbols a stack top best stack (record { number = n; limit = best; height = top })
+      taken : (n : Option ℕ) → Tells bytes net symbols a (number n) →
+          ((j : ℕ) → Fit bytes net symbols a j → Led net s j → (best ≤ suc j) ⊎ Along net (number n) j) →
+          Visited bytes net symbols a stack top best stack (record { rule = n; limit = best; height = top })
       taken n t f =
           record {
             stacked = lower;
@@ -194,15 +197,12 @@ module _ {bytes net symbols : List ℕ} {a : ℕ} (R : Ready bytes net symbols a
             covers = λ j g w. elim (split j w) [ inl p ↦ inl p | inr l ↦ inr (f j g l) ];
           }
 
-      pub visit_lost : Descended bytes net symbols a s best De.Descent.Lost → Visited bytes net symbols a stack top best stack (record { number = 0; limit = best; height = top })
-      visit_lost d = taken 0 tt (λ j f l. inl (d j f l))
+      pub visit_lost : Descended bytes net symbols a s best De.Descent.Lost → Visited bytes net symbols a stack top best stack (record { rule = None; limit = best; height = top })
+      visit_lost d = taken None tt (λ j f l. inl (d j f l))
 
       pub visit_leaf : (i : ℕ) → Descended bytes net symbols a s best (De.Descent.Leaf i) →
-          Visited bytes net symbols a stack top best stack (record { number = i + 1; limit = best; height = top })
-      visit_leaf i (l, r, d) =
-          let z : suc i ≡ i + 1 = omega arith in
-          subst (λ (n : ℕ). Visited bytes net symbols a stack top best stack (record { number = n; limit = best; height = top })) z
-          (taken (suc i) (l, r) (λ j f w. inr (d j f w)))
+          Visited bytes net symbols a stack top best stack (record { rule = Some i; limit = best; height = top })
+      visit_leaf i (l, r, d) = taken (Some i) (l, r) (λ j f w. inr (d j f w))
 
       module _ {c : Spot} (d : Descended bytes net symbols a s best (De.Descent.Choice c)) where
         pub choice_small : Small net c
@@ -211,7 +211,7 @@ module _ {bytes net symbols : List ℕ} {a : ℕ} (R : Ready bytes net symbols a
         pub choice_part : c.offset + size_in symbols c.offset ≤ 1024
         choice_part = part_inside R d.0 d.1
 
-        module _ {own : ℕ} (key : KeyAt bytes (left_of net c.rule + c.at) own) (n : Ne.Next) (p : ByPart net symbols c own n) where
+        module _ {own : ℕ} (key : KeyAt bytes (left_of net c.rule + c.at) own) (n : Option Spot) (p : ByPart net symbols c own n) where
           part_branched : Branched R c own part n
           part_branched = by_part R d.0 d.1 (key_is R d.0 d.1 own key) n p
 
@@ -228,7 +228,7 @@ module _ {bytes net symbols : List ℕ} {a : ℕ} (R : Ready bytes net symbols a
             higher : h ≤ c.depth
             higher = let w = d.2 in omega (arith, first_put.0.higher, top_deep)
 
-            module _ (n₂ : Ne.Next) (p₂ : BySymbol net symbols c own n₂) where
+            module _ (n₂ : Option Spot) (p₂ : BySymbol net symbols c own n₂) where
               symbol_branched : Branched R c own (symbol_in symbols c.offset) n₂
               symbol_branched = by_symbol R d.0 d.1 (key_is R d.0 d.1 own key) n₂ p₂
 
@@ -236,7 +236,7 @@ module _ {bytes net symbols : List ℕ} {a : ℕ} (R : Ready bytes net symbols a
               choice_puts_again = puts c own (symbol_in symbols c.offset) first_put.0.stacked n₂ symbol_branched (omega (arith, higher, choice_small.depth))
 
               pub visit_choice : (stack₂ : List ℕ) (h₂ : ℕ) → Pushed stack₁ h n₂ stack₂ h₂ →
-                  Visited bytes net symbols a stack top best stack₂ (record { number = 0; limit = best; height = h₂ })
+                  Visited bytes net symbols a stack top best stack₂ (record { rule = None; limit = best; height = h₂ })
               visit_choice stack₂ h₂ u₂ =
                   let (g, to) = grown c own (symbol_in symbols c.offset) first_put.0.stacked n₂ symbol_branched higher stack₂ h₂ u₂ in
                   record {
@@ -260,16 +260,16 @@ module _ {bytes net symbols : List ℕ} {a : ℕ} (R : Ready bytes net symbols a
 -- TURNS
 
 module _ {bytes net symbols : List ℕ} {a : ℕ} (R : Ready bytes net symbols a) where
-  pub turn_empty : (stack : List ℕ) (h best : ℕ) → h ≡ 0 →
-      Turned bytes net symbols a stack h best stack (record { number = best; limit = best + 1; height = 0 })
-  turn_empty stack zero best z = (refl, refl, refl, refl)
-  turn_empty stack (suc h) best z = absurd (omega arith)
+  pub turn_empty : (stack : List ℕ) (h : ℕ) (best : Option M.Match) (r : Turn) → h ≡ 0 → r.rule ≡ option_map (λ m. m.rule) best →
+      r.limit ≡ limit_of best + 1 → r.height ≡ 0 → Turned bytes net symbols a stack h best stack r
+  turn_empty stack zero best r z e l u = (refl, e, l, u)
+  turn_empty stack (suc h) best r z e l u = absurd (omega arith)
 
   pub turn_stacked : (stack : List ℕ) (h : ℕ) → (h ≡ 0 → ⊥) → Stacked bytes net symbols a stack h → Stacked bytes net symbols a stack (suc (h - 1))
   turn_stacked stack h n s = let z : h ≡ suc (h - 1) = omega arith in subst (λ (x : ℕ). Stacked bytes net symbols a stack x) z s
 
-  pub turn_visit : (stack : List ℕ) (h best : ℕ) (stack' : List ℕ) (r : Turn) → (h ≡ 0 → ⊥) → Visited bytes net symbols a stack (h - 1) best stack' r →
-      Turned bytes net symbols a stack h best stack' r
-  turn_visit stack zero best stack' r n v = absurd (n refl)
-  turn_visit stack (suc h) best stack' r n v =
-      let z : suc h - 1 ≡ h = omega arith in subst (λ (x : ℕ). Visited bytes net symbols a stack x best stack' r) z v
+  pub turn_visit : (stack : List ℕ) (h : ℕ) (best : Option M.Match) (limit : ℕ) (stack' : List ℕ) (r : Turn) → (h ≡ 0 → ⊥) → limit ≡ limit_of best →
+      Visited bytes net symbols a stack (h - 1) limit stack' r → Turned bytes net symbols a stack h best stack' r
+  turn_visit stack zero best limit stack' r n e v = absurd (n refl)
+  turn_visit stack (suc h) best limit stack' r n e v =
+      let z : suc h - 1 ≡ h = omega arith in rw (z, e) at v

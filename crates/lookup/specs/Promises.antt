@@ -1,5 +1,6 @@
 -- What the search of a net asks and ensures: its answer is that of trying the rules in book order (rule/specs/Promises, SearchAnswers). Assumes nothing.
-use Rattle.std.specs.Prelude.{true, List, ◌++◌, ◌⊎◌, ◌≡◌, ℕ, zero, suc, ◌+◌, ◌-◌, ◌*◌, ◌/◌, ◌%◌, ◌^◌, ◌≤◌, ◌<◌, eqb, length, get_or, take}
+use Rattle.std.specs.Prelude.{true, Option, Some, None, List, ◌++◌, ◌⊎◌, ◌≡◌, ℕ, zero, suc, ◌+◌, ◌-◌, ◌*◌, ◌/◌, ◌%◌, ◌^◌, ◌≤◌, ◌<◌, eqb, length, get_or, take}
+use Rattle.std.specs.Option.{is_none, option_map}
 use Rattle.paper.specs.Tree.{preorder}
 use Rattle.paper.specs.Book.{Symbol, Rule, arity}
 use Rattle.paper.specs.Result.{if}
@@ -14,14 +15,11 @@ use Rattle.tables.specs.Tables.{Stand, rule_at}
 use Rattle.term.specs.Present.{length_in, operators_in, Sized}
 use Rattle.rule.specs.Promises.{LeftTried, tries}
 use Rattle.rule.specs.Packed.{binding}
-use Rattle.rule.specs.declared.Found as F
-use Rattle.rule.specs.declared.Hit as H
 use Rattle.rule.specs.declared.Match as M
-use Rattle.net.specs.Layout.{published, left_of, way_in, Chained}
+use Rattle.net.specs.Layout.{published, number, left_of, way_in, Chained}
 use Rattle.net.specs.Net.{key, part, path, Same, Leads, Net, book_by, NetOf}
 use Rattle.lookup.specs.Walk.{width, symbol_in, size_in, behind, Agree}
 use Rattle.lookup.specs.declared.Spot.{Spot}
-use Rattle.lookup.specs.declared.Next as Ne
 use Rattle.lookup.specs.declared.Descent as De
 use Rattle.lookup.specs.declared.Turn.{Turn}
 use Rattle.lookup.specs.declared.Best as Be
@@ -73,19 +71,19 @@ pub record Small (net : List ℕ) (s : Spot) : Type 0 where
   pub offset : s.offset < 1024
 
 -- r answers for the branch of key k, whose symbol has w bits and takes n symbols of the term
-abbrev pub Stepped : List ℕ → Spot → ℕ → ℕ → ℕ → ℕ → Ne.Next → Type 0
-Stepped net s own k w n Ne.Next.None = branch_in net s.rule s.depth own k ≡ 0
-Stepped net s own k w n (Ne.Next.At t) =
+abbrev pub Stepped : List ℕ → Spot → ℕ → ℕ → ℕ → ℕ → Option Spot → Type 0
+Stepped net s own k w n None = branch_in net s.rule s.depth own k ≡ 0
+Stepped net s own k w n (Some t) =
     (branch_in net s.rule s.depth own k ≡ suc t.rule) × (t.depth ≡ s.depth + 1) × (t.at ≡ s.at + w) × (t.offset ≡ s.offset + n)
 
-abbrev pub BySymbol : List ℕ → List ℕ → Spot → ℕ → Ne.Next → Type 0
+abbrev pub BySymbol : List ℕ → List ℕ → Spot → ℕ → Option Spot → Type 0
 BySymbol net symbols s own r = Stepped net s own (symbol_in symbols s.offset) 9 1 r
 
-abbrev pub ByPart : List ℕ → List ℕ → Spot → ℕ → Ne.Next → Type 0
+abbrev pub ByPart : List ℕ → List ℕ → Spot → ℕ → Option Spot → Type 0
 ByPart net symbols s own r = Stepped net s own part 5 (size_in symbols s.offset) r
 
 -- by the part where the node's rule has a variable, and otherwise by the symbol
-abbrev pub OneWay : List ℕ → List ℕ → Spot → ℕ → Ne.Next → Type 0
+abbrev pub OneWay : List ℕ → List ℕ → Spot → ℕ → Option Spot → Type 0
 OneWay net symbols s own r = ((own ≡ part) × ByPart net symbols s own r) ⊎ ((own ≡ part → ⊥) × BySymbol net symbols s own r)
 
 -- the offset behind the term at offset a
@@ -132,12 +130,17 @@ module _ (bytes operators net symbols : List ℕ) (a : ℕ) where
   pub record FirstOf (i best : ℕ) (b : Binding) (m : M.Match) : Type 0 where
     pub below : suc m.rule < best
     pub same : Same net i m.rule
-    pub agrees : LeftTried bytes (left_of net m.rule) operators (operators_in symbols) a (length_in symbols) b (F.Found.Agrees m.end)
+    pub agrees : LeftTried bytes (left_of net m.rule) operators (operators_in symbols) a (length_in symbols) b (Some m.end)
     pub passed : (j : ℕ) → Same net i j → Beaten (suc m.rule) j
 
-  abbrev pub RulesTried : ℕ → ℕ → Binding → H.Hit → Type 0
-  RulesTried i best b (H.Hit.Rule m) = FirstOf i best b m
-  RulesTried i best b H.Hit.None = (j : ℕ) → Same net i j → Beaten best j
+  abbrev pub RulesTried : ℕ → ℕ → Binding → Option M.Match → Type 0
+  RulesTried i best b (Some m) = FirstOf i best b m
+  RulesTried i best b None = (j : ℕ) → Same net i j → Beaten best j
+
+-- the number of a rule that was found; 256 where none was
+abbrev pub limit_of : Option M.Match → ℕ
+limit_of None = 256
+limit_of (Some m) = suc m.rule
 
 -- THE STACK
 
@@ -158,9 +161,9 @@ pub record Packable (s : Spot) : Type 0 where
   pub offset : s.offset < 65536
 
 -- a branch's node may be put at a height
-abbrev pub Puts : List ℕ → ℕ → Ne.Next → Type 0
-Puts stack h Ne.Next.None = Unit {0}
-Puts stack h (Ne.Next.At n) = (length stack ≡ 1024) × (h < 64) × Packable n
+abbrev pub Puts : List ℕ → ℕ → Option Spot → Type 0
+Puts stack h None = Unit {0}
+Puts stack h (Some n) = (length stack ≡ 1024) × (h < 64) × Packable n
 
 -- the node was put there, those below are as before
 pub record Put (stack : List ℕ) (h : ℕ) (n : Spot) (stack' : List ℕ) : Type 0 where
@@ -168,9 +171,9 @@ pub record Put (stack : List ℕ) (h : ℕ) (n : Spot) (stack' : List ℕ) : Typ
   pub below : (k : ℕ) → k < h → spot_at stack' k ≡ spot_at stack k
   pub top : spot_at stack' h ≡ n
 
-abbrev pub Pushed : List ℕ → ℕ → Ne.Next → List ℕ → ℕ → Type 0
-Pushed stack h Ne.Next.None stack' r = (stack' ≡ stack) × (r ≡ h)
-Pushed stack h (Ne.Next.At n) stack' r = Put stack h n stack' × (r ≡ h + 1)
+abbrev pub Pushed : List ℕ → ℕ → Option Spot → List ℕ → ℕ → Type 0
+Pushed stack h None stack' r = (stack' ≡ stack) × (r ≡ h)
+Pushed stack h (Some n) stack' r = Put stack h n stack' × (r ≡ h + 1)
 
 -- how much there may be to do from a depth on, and from all nodes of a stack
 unfoldable pub weigh : ℕ → ℕ
@@ -207,23 +210,23 @@ module _ (bytes net symbols : List ℕ) (a : ℕ) where
     pub stacked : Stacked stack' r.height
     pub lighter : load stack' r.height < load stack (suc top)
     pub limit : r.limit ≡ best
-    pub tells : Tells r.number
-    pub covers : (j : ℕ) → Fit bytes net symbols a j → Pending net stack (suc top) j → Pending net stack' r.height j ⊎ (best ≤ suc j) ⊎ Along net r.number j
+    pub tells : Tells (number r.rule)
+    pub covers : (j : ℕ) → Fit bytes net symbols a j → Pending net stack (suc top) j → Pending net stack' r.height j ⊎ (best ≤ suc j) ⊎ Along net (number r.rule) j
 
   -- the same of a stack of any height: where it is empty, the best is to be tried once more
-  abbrev pub Turned : List ℕ → ℕ → ℕ → List ℕ → Turn → Type 0
-  Turned stack zero best stack' r = (stack' ≡ stack) × (r.number ≡ best) × (r.limit ≡ best + 1) × (r.height ≡ 0)
-  Turned stack (suc top) best stack' r = Visited stack top best stack' r
+  abbrev pub Turned : List ℕ → ℕ → Option M.Match → List ℕ → Turn → Type 0
+  Turned stack zero best stack' r = (stack' ≡ stack) × (r.rule ≡ option_map (λ m. m.rule) best) × (r.limit ≡ limit_of best + 1) × (r.height ≡ 0)
+  Turned stack (suc top) best stack' r = Visited stack top (limit_of best) stack' r
 
 -- the best when the rules of a path were tried
-abbrev pub after : Be.Best → H.Hit → Be.Best
-after best (H.Hit.Rule m) = record { number = suc m.rule; end = m.end; fresh = true }
-after best H.Hit.None = record { number = best.number; end = best.end; fresh = eqb best.number 256 }
+abbrev pub after : Be.Best → Option M.Match → Be.Best
+after best (Some m) = record { found = Some m; fresh = true }
+after best None = record { found = best.found; fresh = is_none best.found }
 
 module _ (bytes operators net symbols : List ℕ) (a : ℕ) where
   abbrev pub Tried : ℕ → ℕ → Be.Best → List ℕ → List ℕ → Be.Best → Type 0
   Tried zero limit best bound bound' r = (bound' ≡ bound) × (r ≡ best)
-  Tried (suc i) limit best bound bound' r = (hit : H.Hit) × RulesTried bytes operators net symbols a i limit (binding bound') hit × (r ≡ after best hit)
+  Tried (suc i) limit best bound bound' r = (hit : Option M.Match) × RulesTried bytes operators net symbols a i limit (binding bound') hit × (r ≡ after best hit)
 
   abbrev pub Attempted : Turn → Be.Best → List ℕ → List ℕ → Be.Best → Type 0
-  Attempted t best bound bound' r = Tried t.number t.limit best bound bound' r
+  Attempted t best bound bound' r = Tried (number t.rule) t.limit best bound bound' r

@@ -2,16 +2,16 @@
 // that were passed, and at the end of a path its rules are matched.
 #![tactic(auto)]
 
-ghost use Rattle.std.specs.Prelude.{◌≡◌, suc, ◌+◌, ◌^◌, ◌≤◌, ◌<◌, length, get_or};
+ghost use Rattle.std.specs.Prelude.{◌≡◌, suc, ◌+◌, ◌^◌, ◌≤◌, ◌<◌, length, get_or, IfSome};
 ghost use Rattle.term.specs.Present.{length_in, operators_in};
 ghost use Rattle.rule.specs.Packed.{binding};
 ghost use Rattle.rule.specs.Promises as R;
-ghost use Rattle.net.specs.Layout.{root_in, left_of};
+ghost use Rattle.net.specs.Layout.{number, root_in, left_of};
 ghost use Rattle.net.specs.Net.{book_by};
 ghost use Rattle.lookup.specs.Walk.{symbol_in, size_in};
 ghost use Rattle.lookup.specs.Promises as L;
 
-use rule::{Found, Hit, Match};
+use rule::Match;
 use side::Standing;
 
 // A node of the net, and the term's offset there: so many symbols of a rule's path, in so many bits.
@@ -23,35 +23,38 @@ struct Spot {
     offset: usize,
 }
 
-// The node behind a branch, if there is one.
-#[derive(Drop)]
-enum Next {
-    At(Spot),
-    None,
-}
-
 // The end of a path, with its first rule; none; or a node from which there may be a choice.
-#[derive(Drop)]
+#[derive(Clone, Copy)]
 enum Descent {
     Leaf(usize),
     Lost,
     Choice(Spot),
 }
 
-// A rule's number whose path's rules are tried next, 0 for none, and the limit of their numbers; and how many nodes are left to go back to.
-#[derive(Drop)]
+// A rule whose path's rules are tried next, if any, and the limit of their numbers; and how many nodes are left to go back to.
+#[derive(Clone, Copy)]
 struct Turn {
-    number: usize,
+    rule: Option<usize>,
     limit: usize,
     height: usize,
 }
 
-// The number of the first rule found by now, 256 if there is none, and where its match ends. It is fresh if its binding is the last one made.
-#[derive(Drop)]
+// The first rule found by now. It is fresh if its binding is the last one made, or if there is none.
+#[derive(Clone, Copy)]
 struct Best {
-    number: usize,
-    end: usize,
+    found: Option<Match>,
     fresh: bool,
+}
+
+// The number of a rule that was found, its index plus 1; 256 where none was. Only rules of lower numbers are before it.
+fn limit(best: Option<Match>) -> usize
+    requires { IfSome best (λ m. m.rule < 256) }
+    ensures { result ≡ L.limit_of best }
+{
+    match best {
+        Some(m) => m.rule + 1,
+        None => 256,
+    }
 }
 
 // The key by which the rule of a node goes on.
@@ -65,54 +68,48 @@ fn key(book: &[u8], net: &[u8], s: Spot) -> u8
     }
 }
 
-// The number of the rule behind the branch of key k at a node whose rule goes on by the key own.
-fn branch(net: &[u8], s: Spot, own: u8, k: u8) -> usize
+// The rule behind the branch of key k at a node whose rule goes on by the key own.
+fn branch(net: &[u8], s: Spot, own: u8, k: u8) -> Option<usize>
     requires { L.Small net.now s }
-    ensures { (result ≡ L.branch_in net.now s.rule s.depth own k) × (result < 256) }
+    ensures { (number result ≡ L.branch_in net.now s.rule s.depth own k) × (number result < 256) }
 {
     if own == k {
-        s.rule + 1
+        Some(s.rule)
     } else {
         net::way(net, s.rule, s.depth, k)
     }
 }
 
-// The branch that bears the term's symbol.
-fn by_symbol(net: &[u8], symbols: &[u32; 1024], s: Spot, own: u8) -> Next
+// The node behind the branch that bears the term's symbol.
+fn by_symbol(net: &[u8], symbols: &[u32; 1024], s: Spot, own: u8) -> Option<Spot>
     requires { L.Small net.now s }
     ensures { L.BySymbol net.now symbols.now s own result }
 {
-    let r = branch(net, s, own, term::operator_at(symbols, s.offset));
-    if r == 0 {
-        return Next::None;
-    }
-    Next::At(Spot {
-        rule: r - 1,
+    let rule = branch(net, s, own, term::operator_at(symbols, s.offset))?;
+    Some(Spot {
+        rule,
         depth: s.depth + 1,
         at: s.at + 9,
         offset: s.offset + 1,
     })
 }
 
-// The branch that bears a variable, by which the part of the term is skipped.
-fn by_part(net: &[u8], symbols: &[u32; 1024], s: Spot, own: u8) -> Next
+// The node behind the branch that bears a variable, by which the part of the term is skipped.
+fn by_part(net: &[u8], symbols: &[u32; 1024], s: Spot, own: u8) -> Option<Spot>
     requires { L.Small net.now s × (s.offset + size_in symbols.now s.offset ≤ 1024) }
     ensures { L.ByPart net.now symbols.now s own result }
 {
-    let r = branch(net, s, own, net::PART);
-    if r == 0 {
-        return Next::None;
-    }
-    Next::At(Spot {
-        rule: r - 1,
+    let rule = branch(net, s, own, net::PART)?;
+    Some(Spot {
+        rule,
         depth: s.depth + 1,
         at: s.at + 5,
         offset: s.offset + term::size_at(symbols, s.offset),
     })
 }
 
-// The branch where there is no choice.
-fn go_on(net: &[u8], symbols: &[u32; 1024], s: Spot, own: u8) -> Next
+// The node behind the branch where there is no choice.
+fn go_on(net: &[u8], symbols: &[u32; 1024], s: Spot, own: u8) -> Option<Spot>
     requires { L.Small net.now s × (s.offset + size_in symbols.now s.offset ≤ 1024) }
     ensures { L.OneWay net.now symbols.now s own result }
 {
@@ -146,7 +143,7 @@ fn descend(
             return Descent::Choice(s);
         }
         let own = key(book, net, s);
-        let Next::At(next) = go_on(net, symbols, s, own) else {
+        let Some(next) = go_on(net, symbols, s, own) else {
             return Descent::Lost;
         };
         s = next;
@@ -154,7 +151,7 @@ fn descend(
     Descent::Leaf(s.rule)
 }
 
-// The first of the rules with the path of rule i that matches, if its number is below best.
+// The first of the rules with the path of rule i that matches, if its number is below the limit.
 fn try_rules(
     book: &[u8],
     operators: &[u8; 4352],
@@ -162,23 +159,24 @@ fn try_rules(
     symbols: &[u32; 1024],
     offset: usize,
     i: usize,
-    best: usize,
+    limit: usize,
     bound: &mut [u16; 32],
-) -> Hit
+) -> Option<Match>
     requires { L.Present book.now operators.now net.now symbols.now offset × (i < length (L.rules_by book.now net.now)) × (get_or (L.path_by book.now net.now i) 0 0 ≡ symbol_in symbols.now offset) }
-    ensures { L.RulesTried book.now operators.now net.now symbols.now offset i best (binding bound.new) result }
+    ensures { L.RulesTried book.now operators.now net.now symbols.now offset i limit (binding bound.new) result }
 {
-    let mut c = i + 1;
-    while 0 < c && c < best {
-        let left = net::left_side(net, c - 1);
-        if let Found::Agrees(end) = rule::match_left(
-            book, left, operators, symbols, offset, bound,
-        ) {
-            return Hit::Rule(Match { rule: c - 1, end });
+    let mut next = Some(i);
+    while let Some(rule) = next {
+        if limit <= rule + 1 {
+            return None;
         }
-        c = net::same(net, c - 1);
+        let left = net::left_side(net, rule);
+        if let Some(end) = rule::match_left(book, left, operators, symbols, offset, bound) {
+            return Some(Match { rule, end });
+        }
+        next = net::same(net, rule);
     }
-    Hit::None
+    None
 }
 
 // A node is put on the stack at a height.
@@ -186,18 +184,18 @@ fn put(stack: &mut [u32; 1024], height: usize, s: Spot)
     requires { (length stack.old ≡ 1024) × (height < 64) × L.Packable s }
     ensures { L.Put stack.old height s stack.new }
 {
-    stack[2 * height] = casts::word(s.rule + 256 * s.depth + 65536 * s.at);
-    stack[2 * height + 1] = casts::word(s.offset);
+    stack[2 * height] = (s.rule + 256 * s.depth + 65536 * s.at) as u32;
+    stack[2 * height + 1] = s.offset as u32;
 }
 
 // The node behind a branch is put on the stack, if there is one; the new height.
-fn push(stack: &mut [u32; 1024], height: usize, next: Next) -> usize
+fn push(stack: &mut [u32; 1024], height: usize, next: Option<Spot>) -> usize
     requires { L.Puts stack.old height next }
     ensures { L.Pushed stack.old height next stack.new result }
 {
     match next {
-        Next::None => height,
-        Next::At(s) => {
+        None => height,
+        Some(s) => {
             put(stack, height, s);
             height + 1
         }
@@ -209,12 +207,12 @@ fn popped(stack: &[u32; 1024], h: usize) -> Spot
     requires { h < 64 }
     ensures { result ≡ L.spot_at stack.now h }
 {
-    let w = casts::position(stack[2 * h]);
+    let w = stack[2 * h] as usize;
     Spot {
         rule: w % 256,
         depth: w / 256 % 256,
         at: w / 65536,
-        offset: casts::position(stack[2 * h + 1]),
+        offset: stack[2 * h + 1] as usize,
     }
 }
 
@@ -227,29 +225,28 @@ fn visit(
     offset: usize,
     stack: &mut [u32; 1024],
     top: usize,
-    best: usize,
+    limit: usize,
 ) -> Turn
     requires { L.Ready book.now net.now symbols.now offset × L.Stacked book.now net.now symbols.now offset stack.old (suc top) }
-    ensures { L.Visited book.now net.now symbols.now offset stack.old top best stack.new result }
+    ensures { L.Visited book.now net.now symbols.now offset stack.old top limit stack.new result }
 {
-    let none = Turn {
-        number: 0,
-        limit: best,
-        height: top,
-    };
-    match descend(book, net, symbols, offset, popped(stack, top), best) {
-        Descent::Lost => none,
+    match descend(book, net, symbols, offset, popped(stack, top), limit) {
+        Descent::Lost => Turn {
+            rule: None,
+            limit,
+            height: top,
+        },
         Descent::Leaf(i) => Turn {
-            number: i + 1,
-            limit: best,
+            rule: Some(i),
+            limit,
             height: top,
         },
         Descent::Choice(c) => {
             let own = key(book, net, c);
             let h = push(stack, top, by_part(net, symbols, c, own));
             Turn {
-                number: 0,
-                limit: best,
+                rule: None,
+                limit,
                 height: push(stack, h, by_symbol(net, symbols, c, own)),
             }
         }
@@ -264,19 +261,19 @@ fn next_turn(
     offset: usize,
     stack: &mut [u32; 1024],
     height: usize,
-    best: usize,
+    best: Option<Match>,
 ) -> Turn
-    requires { L.Ready book.now net.now symbols.now offset × L.Stacked book.now net.now symbols.now offset stack.old height × (best ≤ 256) }
+    requires { L.Ready book.now net.now symbols.now offset × L.Stacked book.now net.now symbols.now offset stack.old height × IfSome best (λ m. m.rule < 256) }
     ensures { L.Turned book.now net.now symbols.now offset stack.old height best stack.new result }
 {
     if height == 0 {
         return Turn {
-            number: best,
-            limit: best + 1,
+            rule: best.map(|m| m.rule),
+            limit: limit(best) + 1,
             height: 0,
         };
     }
-    visit(book, net, symbols, offset, stack, height - 1, best)
+    visit(book, net, symbols, offset, stack, height - 1, limit(best))
 }
 
 // The rules of a turn are tried.
@@ -290,31 +287,20 @@ fn attempt(
     best: Best,
     bound: &mut [u16; 32],
 ) -> Best
-    requires { L.Present book.now operators.now net.now symbols.now offset × L.Tells book.now net.now symbols.now offset t.number }
+    requires { L.Present book.now operators.now net.now symbols.now offset × L.Tells book.now net.now symbols.now offset (number t.rule) }
     ensures { L.Attempted book.now operators.now net.now symbols.now offset t best bound.old bound.new result }
 {
-    if t.number == 0 {
+    let Some(rule) = t.rule else {
         return best;
-    }
-    match try_rules(
-        book,
-        operators,
-        net,
-        symbols,
-        offset,
-        t.number - 1,
-        t.limit,
-        bound,
-    ) {
-        Hit::Rule(m) => Best {
-            number: m.rule + 1,
-            end: m.end,
+    };
+    match try_rules(book, operators, net, symbols, offset, rule, t.limit, bound) {
+        Some(m) => Best {
+            found: Some(m),
             fresh: true,
         },
-        Hit::None => Best {
-            number: best.number,
-            end: best.end,
-            fresh: best.number == 256,
+        None => Best {
+            found: best.found,
+            fresh: best.found.is_none(),
         },
     }
 }
@@ -330,7 +316,7 @@ pub fn find(
     first: usize,
     stack: &mut [u32; 1024],
     bound: &mut [u16; 32],
-) -> Hit
+) -> Option<Match>
     requires { L.Present book.now operators.now net.now symbols.now offset × (root_in net.now (get_or (operators_in symbols.now) offset 0) ≡ suc first) × (length stack.old ≡ 1024) }
     ensures { R.SearchAnswers (book_by book.now net.now) operators.now offset (operators_in symbols.now) (length_in symbols.now) (binding bound.new) result × (length stack.new ≡ 1024) }
 {
@@ -346,20 +332,13 @@ pub fn find(
     put(stack, 0, start);
     let mut height = 1;
     let mut best = Best {
-        number: 256,
-        end: 0,
+        found: None,
         fresh: true,
     };
     while 0 < height || !best.fresh {
-        let t = next_turn(book, net, symbols, offset, stack, height, best.number);
+        let t = next_turn(book, net, symbols, offset, stack, height, best.found);
         height = t.height;
         best = attempt(book, operators, net, symbols, offset, t, best, bound);
     }
-    if best.number == 256 {
-        return Hit::None;
-    }
-    Hit::Rule(Match {
-        rule: best.number - 1,
-        end: best.end,
-    })
+    best.found
 }

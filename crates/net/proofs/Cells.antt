@@ -1,12 +1,11 @@
 -- Cells of a net's area: one is put and the others stay, three hold a position, and an area is cleared from its start on. Assumes nothing.
-use mathlib.Core.List.{List}
-use mathlib.Core.Path.{◌≡◌, refl, sym, ◌∙◌, subst}
+use mathlib.Core.List.{List, ◌++◌}
+use mathlib.Core.Path.{◌≡◌, refl, sym, ap, ◌∙◌, subst}
 use Prim.Native.Nat.{ℕ, ◌+◌, ◌*◌, ◌/◌, ◌%◌, ◌^◌, ◌≤◌, ◌<◌}
 use native.Mathlib.Omega.{arith}
-use lib.ListN.{length, get_or, set, length-set}
+use lib.ListN.{length, get_or, drop, replicate, length-set, length-append, length-drop, length-replicate, get_or-append, get_or-replicate}
 use lib.Seq.{get_or-set_same, get_or-set_other}
 use borrow.Author.Tests.{lt-ltb, le-ltb}
-use borrow.Author.Count.{below_more}
 use Rattle.net.specs.Layout.{published, cell, with_cell}
 use Rattle.net.specs.Promises.{larger, Empty, CellPut, PositionPut}
 use Rattle.net.proofs.Ways.{front_ways}
@@ -67,12 +66,13 @@ module _ (net n1 n2 n3 : List ℕ) (c i p : ℕ) (b : c < 13) (l : i < 256) (v :
 
 -- AN EMPTY AREA
 
-pub clear_more : (net : List ℕ) (n : ℕ) → n < length net → ((x : ℕ) → x < n → get_or net x 0 ≡ 0) →
-    (x : ℕ) → x < n + 1 → get_or (set net n 0) x 0 ≡ 0
-clear_more net n l h =
-    below_more (λ x. get_or (set net n 0) x 0 ≡ 0) n
-    (λ x p. get_or-set_other net n x 0 0 (λ (e : x ≡ n). omega arith) ∙ h x p)
-    (get_or-set_same net n 0 0 l)
-
-pub emptied : (net net' : List ℕ) → length net' ≡ length net → ((x : ℕ) → x < 1536 → get_or net' x 0 ≡ 0) → Empty net net'
-emptied net net' e h = record { long = e; zero = λ c i b l. h (256 * c + i) (omega arith) }
+pub emptied : (net cleared : List ℕ) → 1536 ≤ length net → cleared ≡ replicate 1536 0 → Empty net (cleared ++ drop 1536 net)
+emptied net cleared l e =
+    let z : length cleared ≡ 1536 = ap length e ∙ length-replicate {A = ℕ} 1536 0 in
+    record {
+      long = simp (length-append, length-drop) (omega arith);
+      zero = λ c i b m.
+          get_or-append cleared (drop 1536 net) 0 (256 * c + i) (omega arith)
+          ∙ ap (λ (xs : List ℕ). get_or xs (256 * c + i) 0) e
+          ∙ get_or-replicate 1536 (256 * c + i) 0 0 (omega arith);
+    }

@@ -1,7 +1,7 @@
 -- The layout of a net's area: 15 columns of 256 bytes, and what each says. A rule's number is its index plus 1; 0 is none. The first rule of a root is
 -- in the net by its root; every other leaves an earlier rule, its host, at a depth (so many symbols in) by a key, or has the path of an earlier one. That
 -- is a way of the net; ways are found by buckets, each with a chain of rules. Assumes nothing.
-use Rattle.std.specs.Prelude.{Bool, true, false, List, ℕ, zero, suc, ◌+◌, ◌*◌, ◌%◌, ◌≤◌, ◌<◌, eqb, get_or, set}
+use Rattle.std.specs.Prelude.{Bool, true, false, Option, Some, None, List, ℕ, zero, suc, ◌+◌, ◌*◌, ◌%◌, ◌≤◌, ◌<◌, eqb, get_or, set}
 use Rattle.paper.specs.Result.{if}
 
 -- the length that an area must have
@@ -15,6 +15,11 @@ cell net c i = get_or net (256 * c + i) 0
 
 abbrev pub with_cell : List ℕ → ℕ → ℕ → ℕ → List ℕ
 with_cell net c i v = set net (256 * c + i) v
+
+-- the number of a rule that is told, or 0
+abbrev pub number : Option ℕ → ℕ
+number None = 0
+number (Some i) = suc i
 
 -- the number of the first rule of root o
 abbrev pub root_in : List ℕ → ℕ → ℕ

@@ -15,7 +15,15 @@ fn cell(net: &[u8], column: usize, i: usize) -> usize
     requires { (L.published ≤ length net.now) × (column < 15) × (i < 256) }
     ensures { (result ≡ L.cell net.now column i) × (result < 256) }
 {
-    casts::index(net[256 * column + i])
+    usize::from(net[256 * column + i])
+}
+
+// The rule that a cell of a column tells: its number is its index plus 1, and 0 is none.
+fn rule(net: &[u8], column: usize, i: usize) -> Option<usize>
+    requires { (L.published ≤ length net.now) × (column < 15) × (i < 256) }
+    ensures { (L.number result ≡ L.cell net.now column i) × (L.number result < 256) }
+{
+    cell(net, column, i).checked_sub(1)
 }
 
 fn put(net: &mut [u8], column: usize, i: usize, v: u8)
@@ -25,12 +33,12 @@ fn put(net: &mut [u8], column: usize, i: usize, v: u8)
     net[256 * column + i] = v;
 }
 
-// The number of the first rule of root o.
-pub fn root(net: &[u8], o: u8) -> usize
+// The first rule of root o.
+pub fn root(net: &[u8], o: u8) -> Option<usize>
     requires { L.published ≤ length net.now }
-    ensures { (result ≡ L.root_in net.now o) × (result < 256) }
+    ensures { (L.number result ≡ L.root_in net.now o) × (L.number result < 256) }
 {
-    cell(net, 0, casts::index(o))
+    rule(net, 0, usize::from(o))
 }
 
 // The depth behind the last one at which rules leave rule i.
@@ -49,12 +57,12 @@ pub fn choice(net: &[u8], i: usize) -> usize
     cell(net, 2, i)
 }
 
-// The number of the next rule with the path of rule i.
-pub fn same(net: &[u8], i: usize) -> usize
+// The next rule with the path of rule i.
+pub fn same(net: &[u8], i: usize) -> Option<usize>
     requires { (L.published ≤ length net.now) × (i < 256) }
-    ensures { (result ≡ L.same_in net.now i) × (result < 256) }
+    ensures { (L.number result ≡ L.same_in net.now i) × (L.number result < 256) }
 {
-    cell(net, 3, i)
+    rule(net, 3, i)
 }
 
 // A bit position in three columns.
@@ -84,7 +92,7 @@ fn bucket(i: usize, d: usize, k: u8) -> usize
     requires { (i < 256) × (d < 256) }
     ensures { (result ≡ L.bucket i d k) × (result < 256) }
 {
-    (37 * i + 11 * d + casts::index(k)) % 256
+    (37 * i + 11 * d + usize::from(k)) % 256
 }
 
 // Does rule j leave rule i at depth d by the key k?
@@ -92,28 +100,22 @@ fn leaves(net: &[u8], j: usize, i: usize, d: usize, k: u8) -> bool
     requires { (L.published ≤ length net.now) × (j < 256) }
     ensures { result ≡ L.leaves net.now j i d k }
 {
-    if cell(net, 6, j) != i {
-        return false;
-    }
-    if cell(net, 7, j) != d {
-        return false;
-    }
-    cell(net, 8, j) == casts::index(k)
+    cell(net, 6, j) == i && cell(net, 7, j) == d && cell(net, 8, j) == usize::from(k)
 }
 
-// The number of the rule that leaves rule i at depth d by the key k.
-pub fn way(net: &[u8], i: usize, d: usize, k: u8) -> usize
+// The rule that leaves rule i at depth d by the key k.
+pub fn way(net: &[u8], i: usize, d: usize, k: u8) -> Option<usize>
     requires { (L.published ≤ length net.now) × (i < 256) × (d < 256) × L.Chained net.now }
-    ensures { (result ≡ L.way_in net.now i d k) × (result < 256) }
+    ensures { (L.number result ≡ L.way_in net.now i d k) × (L.number result < 256) }
 {
-    let mut c = cell(net, 4, bucket(i, d, k));
-    while 0 < c {
-        if leaves(net, c - 1, i, d, k) {
-            return c;
+    let mut next = rule(net, 4, bucket(i, d, k));
+    while let Some(j) = next {
+        if leaves(net, j, i, d, k) {
+            return next;
         }
-        c = cell(net, 5, c - 1);
+        next = rule(net, 5, j);
     }
-    0
+    None
 }
 
 // Nothing is in the net. Columns that are written before they are read are left as they are.
@@ -121,11 +123,7 @@ pub fn start(net: &mut [u8])
     requires { L.published ≤ length net.old }
     ensures { C.Empty net.old net.new }
 {
-    let mut i = 0;
-    while i < 1536 {
-        net[i] = 0;
-        i += 1;
-    }
+    net[..1536].fill(0);
 }
 
 // Rule j is the first of root o.
@@ -133,7 +131,7 @@ pub fn put_root(net: &mut [u8], o: u8, j: usize)
     requires { (L.published ≤ length net.old) × (j < 255) }
     ensures { C.CellPut net.old 0 o (j + 1) net.new }
 {
-    put(net, 0, casts::index(o), casts::byte(j + 1));
+    put(net, 0, usize::from(o), (j + 1) as u8);
 }
 
 // Rule j has the path of rule i, and is told next behind it.
@@ -141,7 +139,7 @@ pub fn put_same(net: &mut [u8], i: usize, j: usize)
     requires { (L.published ≤ length net.old) × (i < 256) × (j < 255) }
     ensures { C.CellPut net.old 3 i (j + 1) net.new }
 {
-    put(net, 3, i, casts::byte(j + 1));
+    put(net, 3, i, (j + 1) as u8);
 }
 
 // A bit position in three columns.
@@ -149,9 +147,9 @@ fn put_position(net: &mut [u8], column: usize, i: usize, position: usize)
     requires { (L.published ≤ length net.old) × (column < 13) × (i < 256) × (position < 2 ^ 24) }
     ensures { C.PositionPut net.old column i position net.new }
 {
-    put(net, column, i, casts::byte(position % 256));
-    put(net, column + 1, i, casts::byte(position / 256 % 256));
-    put(net, column + 2, i, casts::byte(position / 65536));
+    put(net, column, i, (position % 256) as u8);
+    put(net, column + 1, i, (position / 256 % 256) as u8);
+    put(net, column + 2, i, (position / 65536) as u8);
 }
 
 // Where the sides of rule i stand.
@@ -177,7 +175,7 @@ fn raise(net: &mut [u8], column: usize, i: usize, d: usize)
     ensures { C.CellPut net.old column i (C.larger (L.cell net.old column i) d) net.new }
 {
     if cell(net, column, i) < d {
-        put(net, column, i, casts::byte(d));
+        put(net, column, i, d as u8);
     }
 }
 
@@ -187,11 +185,11 @@ fn link(net: &mut [u8], i: usize, d: usize, k: u8, j: usize)
     ensures { C.WayLinked net.old i d k j net.new }
 {
     let b = bucket(i, d, k);
-    put(net, 5, j, casts::byte(cell(net, 4, b)));
-    put(net, 6, j, casts::byte(i));
-    put(net, 7, j, casts::byte(d));
+    put(net, 5, j, cell(net, 4, b) as u8);
+    put(net, 6, j, i as u8);
+    put(net, 7, j, d as u8);
     put(net, 8, j, k);
-    put(net, 4, b, casts::byte(j + 1));
+    put(net, 4, b, (j + 1) as u8);
 }
 
 // Rule j leaves rule i at depth d by the key k; `choice` says whether one of the two goes on by a variable there.

@@ -17,7 +17,7 @@ use Rattle.tables.specs.Tables.{rule_at, Root, Tables}
 use Rattle.term.proofs.Skipping.{known_arities}
 use Rattle.rule.specs.Packed.{Stands, SideAt}
 use Rattle.rule.specs.Promises.{found, AgreesWithin, OtherStands, RestMatched, UnderRoot, LeftTried, tries, Passed, NoneFound, RuleFound}
-use Rattle.rule.specs.declared.Found as F
+use Rattle.std.specs.Prelude.{Option, Some, None}
 use Rattle.rule.proofs.Sides.{under_root}
 use Rattle.rule.proofs.Matches.{match_same, match_other, head_at, other_differs, stopped}
 use Rattle.rule.proofs.Arities.{rewrite_same}
@@ -28,7 +28,7 @@ use Rattle.rule.proofs.Terms.{bound_terms}
 
 module _ {bytes operators xs : List ℕ} {left a x due len : ℕ} {b : Binding} (u : UnderRoot operators xs a x due) where
   -- under a root that agrees, its arguments answer
-  pub tried_rest : {b₀ : Binding} {r : F.Found} → b₀ ≡ blank → RestMatched bytes (left + 9) operators due 63 xs (a + 1) b₀ b r → AgreesWithin len b r →
+  pub tried_rest : {b₀ : Binding} {r : Option ℕ} → b₀ ≡ blank → RestMatched bytes (left + 9) operators due 63 xs (a + 1) b₀ b r → AgreesWithin len b r →
       LeftTried bytes left operators xs a len b r
   unfolding label preorder
   tried_rest {b₀} {r} z k m = record { is = go; within = m }
@@ -42,7 +42,7 @@ module _ {bytes operators xs : List ℕ} {left a x due len : ℕ} {b : Binding} 
           ∙ rw z at (k.is (preorders ts) (under_root bytes operators left o due (preorders ts) w u.arguments)))
 
   -- behind the root stands another operator than in the term
-  pub tried_other : 0 < due → OtherStands bytes (left + 9) x true → LeftTried bytes left operators xs a len b F.Found.Differs
+  pub tried_other : 0 < due → OtherStands bytes (left + 9) x true → LeftTried bytes left operators xs a len b None
   tried_other d h = tried_rest refl (stopped d (other_differs operators xs (a + 1) blank (rw u.second at h))) tt
 
 -- OF A BOOK
@@ -57,17 +57,17 @@ root_other arity (node (Symbol.variable v) ts) a xs b r other l = absurd r
 
 module _ {bytes operators rules : List ℕ} {B : Book} (T : Tables bytes operators rules B) (xs : List ℕ) (a : ℕ) where
   -- what is answered for the left side of a rule of the term's root is answered for the rule
-  tried : (i len : ℕ) (b : Binding) (r : F.Found) → i < length B.rules → Root B.rules (get_or xs a 0) i →
+  tried : (i len : ℕ) (b : Binding) (r : Option ℕ) → i < length B.rules → Root B.rules (get_or xs a 0) i →
       LeftTried bytes (left_in rules i) operators xs a len b r → tries operators B.rules i a xs ≡ found r b
   tried i len b r l root d = d.is (rule_at B.rules i).left ((lefts_stand T).each i l).stands root
 
   pub tried_differs : (i len : ℕ) (b : Binding) → i < length B.rules → Root B.rules (get_or xs a 0) i →
-      LeftTried bytes (left_in rules i) operators xs a len b F.Found.Differs → tries operators B.rules i a xs ≡ flat.Match.differs
-  tried_differs i len b l root d = tried i len b F.Found.Differs l root d
+      LeftTried bytes (left_in rules i) operators xs a len b None → tries operators B.rules i a xs ≡ flat.Match.differs
+  tried_differs i len b l root d = tried i len b None l root d
 
   pub tried_agrees : (i e len : ℕ) (b : Binding) → i < length B.rules → Root B.rules (get_or xs a 0) i →
-      LeftTried bytes (left_in rules i) operators xs a len b (F.Found.Agrees e) → tries operators B.rules i a xs ≡ flat.Match.agrees b e
-  tried_agrees i e len b l root d = tried i len b (F.Found.Agrees e) l root d
+      LeftTried bytes (left_in rules i) operators xs a len b (Some e) → tries operators B.rules i a xs ≡ flat.Match.agrees b e
+  tried_agrees i e len b l root d = tried i len b (Some e) l root d
 
   -- a rule of another root differs
   pub root_differs : a < length xs → (i : ℕ) → i < length B.rules → (Root B.rules (get_or xs a 0) i → ⊥) → tries operators B.rules i a xs ≡ flat.Match.differs
@@ -112,7 +112,7 @@ module _ {bytes operators rules : List ℕ} {B : Book} (T : Tables bytes operato
 
   -- the one is found that agrees, behind those that differ
   pub rule_found : a < length xs → spells (arity_in operators) 1 xs ≡ true → (i e len : ℕ) (b : Binding) → i < length rs → Root rs (get_or xs a 0) i →
-      Passed operators rs i a xs → LeftTried bytes (left_in rules i) operators xs a len b (F.Found.Agrees e) →
+      Passed operators rs i a xs → LeftTried bytes (left_in rules i) operators xs a len b (Some e) →
       RuleFound B operators a xs len b (record { rule = i; end = e })
   rule_found inside w i e len b l root p d =
       let q = tried_agrees T xs a i e len b l root d in

@@ -24,8 +24,7 @@ use Rattle.term.proofs.Comparing.{compared_within}
 use Rattle.rule.specs.Packed.{AllAt, binding, BindsWithin}
 use Rattle.rule.specs.Promises.{HoldsBinding, BoundWithin, head_is, head_or, OtherStands, VariableMet, SymbolAgrees, RestMatched}
 use Rattle.rule.specs.declared.Taken as T
-use Rattle.rule.specs.declared.Found as F
-use Rattle.rule.specs.declared.Meeting as Me
+use Rattle.std.specs.Prelude.{Option, Some, None}
 use Rattle.rule.proofs.Sides.{taken, goes_operator, goes_variable, all_operator, all_variable, none_left}
 use Rattle.rule.proofs.Bindings.{within_bind}
 
@@ -119,7 +118,7 @@ module _ (arity : ℕ → ℕ) (xs : List ℕ) (v a : ℕ) (b : Binding) where
 
 module _ {xs bound : List ℕ} {m v a len : ℕ} (w : BoundWithin bound len) where
   pub met_first : (n k : ℕ) (bound' : List ℕ) → n ≡ get_or bound (2 * v + 1) 0 → n ≡ 0 → k ≡ m → a + m ≤ len →
-      HoldsBinding bound' (bind v (segment a k) (binding bound)) → VariableMet xs m v a len (binding bound) bound' (Me.Meeting.Part k)
+      HoldsBinding bound' (bind v (segment a k) (binding bound)) → VariableMet xs m v a len (binding bound) bound' (Some k)
   met_first n k bound' size z f l g =
       record {
         is = λ arity e. meet_first arity xs v a (binding bound) _ k (sym size ∙ z) (omega arith) ∙ ap (flat.Meeting.part k) (sym g.is);
@@ -133,7 +132,7 @@ module _ {xs bound : List ℕ} {m v a len : ℕ} (w : BoundWithin bound len) whe
       }
 
   module _ {start n : ℕ} (starts : start ≡ get_or bound (2 * v) 0) (size : n ≡ get_or bound (2 * v + 1) 0) (some : n ≡ 0 → ⊥) where
-    pub met_same : length xs ≡ len → a ≤ len → Compared xs start a n true → VariableMet xs m v a len (binding bound) bound (Me.Meeting.Part n)
+    pub met_same : length xs ≡ len → a ≤ len → Compared xs start a n true → VariableMet xs m v a len (binding bound) bound (Some n)
     met_same l h c =
         let k = w.within v in
         record {
@@ -141,7 +140,7 @@ module _ {xs bound : List ℕ} {m v a len : ℕ} (w : BoundWithin bound len) whe
           within = (rw (← l) (compared_within c (omega arith) (omega arith)), w);
         }
 
-    pub met_other : Compared xs start a n false → VariableMet xs m v a len (binding bound) bound Me.Meeting.Other
+    pub met_other : Compared xs start a n false → VariableMet xs m v a len (binding bound) bound None
     met_other c =
         record { is = λ arity e. rw (← size) (meet_again arity xs v a (binding bound) n false some (rw (← starts, ← size) c.is)); within = tt }
 
@@ -161,7 +160,7 @@ module _ {bytes operators xs : List ℕ} {at a len : ℕ} {bound : List ℕ} (w 
 
 module _ {bytes operators xs : List ℕ} {at a len k : ℕ} {bound : List ℕ} (size : k ≡ skip (arity_in operators) 1 (drop a xs)) where
   pub step_variable : (v next : ℕ) {b : Binding} {n : ℕ} → StandingAt bytes at (Sd.Standing.Variable v next) →
-      VariableMet xs k v a len b bound (Me.Meeting.Part n) → SymbolAgrees bytes at operators xs a len b bound (taken 0 next n)
+      VariableMet xs k v a len b bound (Some n) → SymbolAgrees bytes at operators xs a len b bound (taken 0 next n)
   step_variable v next h m =
       record {
         arity = omega arith;
@@ -171,22 +170,22 @@ module _ {bytes operators xs : List ℕ} {at a len k : ℕ} {bound : List ℕ} (
       }
 
   pub apart_at : (v next : ℕ) {b : Binding} → StandingAt bytes at (Sd.Standing.Variable v next) →
-      VariableMet xs k v a len b bound Me.Meeting.Other →
+      VariableMet xs k v a len b bound None →
       AllAt bytes at operators (λ ss. match (arity_in operators) xs ss a (drop a xs) b ≡ flat.Match.differs)
   apart_at v next h m = all_variable bytes operators _ at v next h (λ ss. match_apart (arity_in operators) v ss a xs _ (m.is (arity_in operators) size))
 
 -- THE REST OF A SIDE
 
 module _ {bytes operators xs : List ℕ} {at due room a : ℕ} {b : Binding} where
-  pub ended : (due ≡ 0) ⊎ (room ≡ 0) → RestMatched bytes at operators due room xs a b b (F.Found.Agrees a)
+  pub ended : (due ≡ 0) ⊎ (room ≡ 0) → RestMatched bytes at operators due room xs a b b (Some a)
   unfolding match
   ended e = record { is = λ ss s. rw (none_left bytes operators at due room ss s e) }
 
   pub stopped : {b' : Binding} → 0 < due → AllAt bytes at operators (λ ss. match (arity_in operators) xs ss a (drop a xs) b ≡ flat.Match.differs) →
-      RestMatched bytes at operators due room xs a b b' F.Found.Differs
+      RestMatched bytes at operators due room xs a b b' None
   stopped d h = record { is = λ ss s. h due room ss d s }
 
-  pub went : {bound : List ℕ} {len due' room' : ℕ} {t : T.Taken} {r : F.Found} {b'' : Binding} → 0 < due → SymbolAgrees bytes at operators xs a len b bound t →
+  pub went : {bound : List ℕ} {len due' room' : ℕ} {t : T.Taken} {r : Option ℕ} {b'' : Binding} → 0 < due → SymbolAgrees bytes at operators xs a len b bound t →
       due' ≡ due - 1 + t.arity → room' ≡ room - 1 → RestMatched bytes t.next operators due' room' xs (a + t.size) (binding bound) b'' r →
       RestMatched bytes at operators due room xs a b b'' r
   went {due' = due'} {room' = room'} d h p q g =

@@ -1,5 +1,5 @@
 -- What the functions on packed rules ask and ensure, by the definitions on lists of symbols. Assumes nothing.
-use Rattle.std.specs.Prelude.{Bool, true, false, List, [], ◌∷◌, ◌≡◌, ℕ, ◌+◌, ◌≤◌, ◌<◌, eqb, length, get_or, take, drop}
+use Rattle.std.specs.Prelude.{Bool, true, false, Option, Some, None, List, [], ◌∷◌, ◌≡◌, ℕ, ◌+◌, ◌≤◌, ◌<◌, eqb, length, get_or, take, drop}
 use Rattle.paper.specs.Tree.{label, preorder}
 use Rattle.paper.specs.Book.{Symbol, Side, Rule, Book, arity}
 use Rattle.paper.specs.Sound.{All, IsOperator}
@@ -12,12 +12,8 @@ use Rattle.symbol.specs.Record.{operators, sizes}
 use Rattle.tables.specs.Layout.{arity_in, left_in}
 use Rattle.tables.specs.Tables.{rule_at}
 use Rattle.rule.specs.Packed.{Stands, SideAt, Goes, AllAt, binding, BindsWithin, BoundTerm}
-use Rattle.rule.specs.declared.Found as F
 use Rattle.rule.specs.declared.Match as M
-use Rattle.rule.specs.declared.Hit as H
 use Rattle.rule.specs.declared.Taken as T
-use Rattle.rule.specs.declared.Step as S
-use Rattle.rule.specs.declared.Meeting as Me
 
 -- WHAT IS THERE BEFORE
 
@@ -65,26 +61,26 @@ abbrev pub OtherStands : List ℕ → ℕ → ℕ → Bool → Type 0
 OtherStands bytes at x true = (o : ℕ) × (next : ℕ) × (o < 256) × (o ≡ x → ⊥) × StandingAt bytes at (Sd.Standing.Operator o next)
 OtherStands bytes at x false = Unit {0}
 
-abbrev pub found : F.Found → Binding → flat.Match
-found (F.Found.Agrees e) b = flat.Match.agrees b e
-found F.Found.Differs b = flat.Match.differs
+abbrev pub found : Option ℕ → Binding → flat.Match
+found (Some e) b = flat.Match.agrees b e
+found None b = flat.Match.differs
 
 -- where r agrees, it binds and ends within the first len symbols
-abbrev pub AgreesWithin : ℕ → Binding → F.Found → Type 0
-AgreesWithin len b (F.Found.Agrees e) = BindsWithin b len × (e ≤ len)
-AgreesWithin len b F.Found.Differs = Unit
+abbrev pub AgreesWithin : ℕ → Binding → Option ℕ → Type 0
+AgreesWithin len b (Some e) = BindsWithin b len × (e ≤ len)
+AgreesWithin len b None = Unit
 
-abbrev pub meeting : Me.Meeting → Binding → flat.Meeting
-meeting (Me.Meeting.Part n) b = flat.Meeting.part n b
-meeting Me.Meeting.Other b = flat.Meeting.other
+abbrev pub meeting : Option ℕ → Binding → flat.Meeting
+meeting (Some n) b = flat.Meeting.part n b
+meeting None b = flat.Meeting.other
 
 -- where r is a part at offset a, it ends within the first len symbols, and so does all that is bound
-abbrev pub PartWithin : ℕ → ℕ → List ℕ → Me.Meeting → Type 0
-PartWithin a len bound (Me.Meeting.Part n) = (a + n ≤ len) × BoundWithin bound len
-PartWithin a len bound Me.Meeting.Other = Unit
+abbrev pub PartWithin : ℕ → ℕ → List ℕ → Option ℕ → Type 0
+PartWithin a len bound (Some n) = (a + n ≤ len) × BoundWithin bound len
+PartWithin a len bound None = Unit
 
 -- the variable v against the symbols of xs from offset a on, where a term of n symbols begins, with the binding b so far
-pub record VariableMet (xs : List ℕ) (n v a len : ℕ) (b : Binding) (bound : List ℕ) (r : Me.Meeting) : Type 0 where
+pub record VariableMet (xs : List ℕ) (n v a len : ℕ) (b : Binding) (bound : List ℕ) (r : Option ℕ) : Type 0 where
   pub is : (arity : ℕ → ℕ) → n ≡ skip arity 1 (drop a xs) → meet arity xs (b v).size v a (drop a xs) b ≡ meeting r (binding bound)
   pub within : PartWithin a len bound r
 
@@ -97,13 +93,13 @@ pub record SymbolAgrees (bytes : List ℕ) (at : ℕ) (operators xs : List ℕ) 
       (λ ss ss'. match (arity_in operators) xs ss a (drop a xs) b ≡ match (arity_in operators) xs ss' (a + t.size) (drop (a + t.size) xs) (binding bound))
       t.arity t.next
 
-abbrev pub SymbolMatched : List ℕ → ℕ → List ℕ → List ℕ → ℕ → ℕ → Binding → List ℕ → S.Step → Type 0
-SymbolMatched bytes at operators xs a len b bound (S.Step.Took t) = SymbolAgrees bytes at operators xs a len b bound t
-SymbolMatched bytes at operators xs a len b bound S.Step.Stops =
+abbrev pub SymbolMatched : List ℕ → ℕ → List ℕ → List ℕ → ℕ → ℕ → Binding → List ℕ → Option T.Taken → Type 0
+SymbolMatched bytes at operators xs a len b bound (Some t) = SymbolAgrees bytes at operators xs a len b bound t
+SymbolMatched bytes at operators xs a len b bound None =
     AllAt bytes at operators (λ ss. match (arity_in operators) xs ss a (drop a xs) b ≡ flat.Match.differs)
 
 -- r and the binding b' answer for the symbols at a position, against those of xs from offset a on, with the binding b so far
-pub record RestMatched (bytes : List ℕ) (at : ℕ) (operators : List ℕ) (due room : ℕ) (xs : List ℕ) (a : ℕ) (b b' : Binding) (r : F.Found) : Type 0 where
+pub record RestMatched (bytes : List ℕ) (at : ℕ) (operators : List ℕ) (due room : ℕ) (xs : List ℕ) (a : ℕ) (b b' : Binding) (r : Option ℕ) : Type 0 where
   pub is : (ss : List Symbol) → Stands bytes at operators due room ss → match (arity_in operators) xs ss a (drop a xs) b ≡ found r b'
 
 -- RULES
@@ -126,7 +122,7 @@ pub record UnderRoot (operators xs : List ℕ) (a x due : ℕ) : Type 0 where
   pub few : due < 256
 
 -- r and the binding b answer for a left side at a position, if its root is the term's
-pub record LeftTried (bytes : List ℕ) (at : ℕ) (operators xs : List ℕ) (a len : ℕ) (b : Binding) (r : F.Found) : Type 0 where
+pub record LeftTried (bytes : List ℕ) (at : ℕ) (operators xs : List ℕ) (a len : ℕ) (b : Binding) (r : Option ℕ) : Type 0 where
   pub is : (side : Side) → SideAt bytes at operators side → label side ≡ Symbol.operator (get_or xs a 0) →
       match (arity_in operators) xs (preorder side) a (drop a xs) blank ≡ found r b
   pub within : AgreesWithin len b r
@@ -155,6 +151,6 @@ pub record NoneFound (B : Book) (operators : List ℕ) (a : ℕ) (xs : List ℕ)
   pub passed : Passed operators B.rules (length B.rules) a xs
   pub is : rewrite (arity B) B.rules a xs ≡ flat.Hit.miss
 
-abbrev pub SearchAnswers : Book → List ℕ → ℕ → List ℕ → ℕ → Binding → H.Hit → Type 0
-SearchAnswers B operators a xs len b (H.Hit.Rule m) = RuleFound B operators a xs len b m
-SearchAnswers B operators a xs len b H.Hit.None = NoneFound B operators a xs
+abbrev pub SearchAnswers : Book → List ℕ → ℕ → List ℕ → ℕ → Binding → Option M.Match → Type 0
+SearchAnswers B operators a xs len b (Some m) = RuleFound B operators a xs len b m
+SearchAnswers B operators a xs len b None = NoneFound B operators a xs

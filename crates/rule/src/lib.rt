@@ -2,7 +2,7 @@
 // (document 01, 'Reduction one after the other'; document 02, Change 4).
 #![tactic(auto)]
 
-ghost use Rattle.std.specs.Prelude.{◌≡◌, ◌+◌, ◌*◌, ◌<◌, ◌≤◌, ◌^◌, length, get_or, take, drop};
+ghost use Rattle.std.specs.Prelude.{◌≡◌, ◌+◌, ◌*◌, ◌<◌, ◌≤◌, ◌^◌, length, get_or, take, drop, unwrap_or};
 ghost use Rattle.flat.specs.Symbols as flat;
 ghost use Rattle.symbol.specs.Record as S;
 ghost use Rattle.tables.specs.Layout.{arity_in};
@@ -12,61 +12,37 @@ ghost use Rattle.rule.specs.Promises as R;
 
 use side::Standing;
 
-// The offset behind the term that a left side agrees with.
-#[derive(Drop)]
-pub enum Found {
-    Agrees(usize),
-    Differs,
-}
-
 // A rule that matches, by its index, and the offset behind the term.
-#[derive(Drop)]
+#[derive(Clone, Copy, Debug, PartialEq, Eq)]
 pub struct Match {
     pub rule: usize,
     pub end: usize,
 }
 
-// The first rule that matches.
-#[derive(Drop)]
-pub enum Hit {
-    Rule(Match),
-    None,
-}
-
 // A symbol of a side that goes on: its arity, the position behind it, and how many symbols of the term it takes.
-#[derive(Drop)]
+#[derive(Clone, Copy)]
 struct Taken {
     arity: usize,
     next: usize,
     size: usize,
 }
 
-#[derive(Drop)]
-enum Step {
-    Took(Taken),
-    Stops,
-}
-
-// A variable of a left side, met: the size of its part; or its part is another than the one it is bound to.
-#[derive(Drop)]
-enum Meeting {
-    Part(usize),
-    Other,
-}
+// A side has at most 64 symbols, the first of which is the root.
+const BELOW_ROOT: usize = 63;
 
 // A binding is kept as an array: variable v's start at 2 * v, its size behind it.
 fn start_of(bound: &[u16; 32], v: u8) -> usize
     requires { v < 16 }
     ensures { (result ≡ get_or bound.now (2 * v) 0) × (result < 65536) }
 {
-    casts::offset(bound[2 * casts::index(v)])
+    usize::from(bound[2 * usize::from(v)])
 }
 
 fn size_of(bound: &[u16; 32], v: u8) -> usize
     requires { v < 16 }
     ensures { (result ≡ get_or bound.now (2 * v + 1) 0) × (result < 65536) }
 {
-    casts::offset(bound[2 * casts::index(v) + 1])
+    usize::from(bound[2 * usize::from(v) + 1])
 }
 
 // No variable is bound.
@@ -81,9 +57,9 @@ fn bind(bound: &mut [u16; 32], v: u8, at: usize, n: usize)
     requires { (length bound.old ≡ 32) × (v < 16) × (at + n ≤ 1024) }
     ensures { R.HoldsBinding bound.new (flat.bind v (flat.segment at n) (binding bound.old)) }
 {
-    let i = 2 * casts::index(v);
-    bound[i] = casts::short(at);
-    bound[i + 1] = casts::short(n);
+    let i = 2 * usize::from(v);
+    bound[i] = at as u16;
+    bound[i + 1] = n as u16;
 }
 
 // Is o the symbol at offset at?
@@ -91,11 +67,7 @@ fn stands(symbols: &[u32; 1024], len: usize, at: usize, o: u8) -> bool
     requires { (length symbols.now ≡ 1024) × (len ≤ 1024) }
     ensures { result ≡ R.head_is o (drop at (S.operators (take len symbols.now))) }
 {
-    if at < len {
-        o == term::operator_at(symbols, at)
-    } else {
-        false
-    }
+    at < len && o == term::operator_at(symbols, at)
 }
 
 // How many symbols the term has that begins at an offset; none behind the last symbol.
@@ -111,8 +83,14 @@ fn part_size(symbols: &[u32; 1024], len: usize, offset: usize) -> usize
 }
 
 // The variable v against the term at an offset: met first it is bound to the term, met again as many symbols there must be those it is bound to. A bound
-// variable has at least one.
-fn meet(v: u8, symbols: &[u32; 1024], len: usize, offset: usize, bound: &mut [u16; 32]) -> Meeting
+// variable has at least one. How many symbols the term has; none if they are others.
+fn meet(
+    v: u8,
+    symbols: &[u32; 1024],
+    len: usize,
+    offset: usize,
+    bound: &mut [u16; 32],
+) -> Option<usize>
     requires { (v < 16) × R.PartIn symbols.now len offset × R.BoundWithin bound.old len }
     ensures { R.VariableMet (S.operators (take len symbols.now)) (R.part_size symbols.now len offset) v offset len (binding bound.old) bound.new result }
 {
@@ -120,16 +98,16 @@ fn meet(v: u8, symbols: &[u32; 1024], len: usize, offset: usize, bound: &mut [u1
     if size == 0 {
         let n = part_size(symbols, len, offset);
         bind(bound, v, offset, n);
-        return Meeting::Part(n);
+        return Some(n);
     }
     if term::same(symbols, len, start_of(bound, v), offset, size) {
-        Meeting::Part(size)
+        Some(size)
     } else {
-        Meeting::Other
+        None
     }
 }
 
-// The symbol at position at of a left side, against the term at an offset.
+// The symbol at position at of a left side, against the term at an offset; none where they differ.
 fn match_one(
     book: &[u8],
     at: usize,
@@ -138,35 +116,34 @@ fn match_one(
     len: usize,
     offset: usize,
     bound: &mut [u16; 32],
-) -> Step
+) -> Option<Taken>
     requires { (length book.now ≤ 2 ^ 60) × R.OffsetIn (arity_in operators.now) symbols.now len offset × R.BoundWithin bound.old len }
     ensures { R.SymbolMatched book.now at operators.now (S.operators (take len symbols.now)) offset len (binding bound.old) bound.new result }
 {
     match side::symbol_at(book, at) {
         Standing::Operator(o, next) => {
-            if stands(symbols, len, offset, o) {
-                Step::Took(Taken {
-                    arity: tables::arity(operators, o),
-                    next: next,
-                    size: 1,
-                })
-            } else {
-                Step::Stops
+            if !stands(symbols, len, offset, o) {
+                return None;
             }
+            Some(Taken {
+                arity: tables::arity(operators, o),
+                next,
+                size: 1,
+            })
         }
-        Standing::Variable(v, next) => match meet(v, symbols, len, offset, bound) {
-            Meeting::Part(n) => Step::Took(Taken {
+        Standing::Variable(v, next) => {
+            let size = meet(v, symbols, len, offset, bound)?;
+            Some(Taken {
                 arity: 0,
-                next: next,
-                size: n,
-            }),
-            Meeting::Other => Step::Stops,
-        },
+                next,
+                size,
+            })
+        }
     }
 }
 
 // The rest of a left side, at position at of the book, against the term from an offset on: due terms are to come, in up to 63 symbols, and bindings come
-// on top of those that are there.
+// on top of those that are there. The offset behind what agrees; none where something differs.
 fn match_rest(
     book: &[u8],
     at: usize,
@@ -176,49 +153,48 @@ fn match_rest(
     offset: usize,
     due: usize,
     bound: &mut [u16; 32],
-) -> Found
+) -> Option<usize>
     requires { (length book.now ≤ 2 ^ 60) × R.OffsetIn (arity_in operators.now) symbols.now len offset × R.BoundWithin bound.old len × (due < 256) }
     ensures { R.RestMatched book.now at operators.now due 63 (S.operators (take len symbols.now)) offset (binding bound.old) (binding bound.new) result × R.AgreesWithin len (binding bound.new) result }
 {
     let mut p = at;
     let mut q = offset;
     let mut owed = due;
-    let mut room: usize = 63;
-    while 0 < owed && 0 < room {
-        let Step::Took(taken) = match_one(book, p, operators, symbols, len, q, bound) else {
-            return Found::Differs;
-        };
+    for _ in 0..BELOW_ROOT {
+        if owed == 0 {
+            break;
+        }
+        let taken = match_one(book, p, operators, symbols, len, q, bound)?;
         owed = owed - 1 + taken.arity;
         p = taken.next;
         q += taken.size;
-        room -= 1;
     }
-    Found::Agrees(q)
+    Some(q)
 }
 
-// The symbol at offset at, or 256, which is none.
-fn symbol_or_none(symbols: &[u32; 1024], len: usize, at: usize) -> usize
+// The symbol at offset at, if one stands there.
+fn symbol_at(symbols: &[u32; 1024], len: usize, at: usize) -> Option<u8>
     requires { (length symbols.now ≡ 1024) × (len ≤ 1024) }
-    ensures { result ≡ R.head_or (drop at (S.operators (take len symbols.now))) }
+    ensures { unwrap_or result 256 ≡ R.head_or (drop at (S.operators (take len symbols.now))) }
 {
     if at < len {
-        casts::index(term::operator_at(symbols, at))
+        Some(term::operator_at(symbols, at))
     } else {
-        256
+        None
     }
 }
 
 // Does an operator other than x stand at position at?
-fn other_stands(book: &[u8], at: usize, x: usize) -> bool
+fn other_stands(book: &[u8], at: usize, x: Option<u8>) -> bool
     requires { length book.now ≤ 2 ^ 60 }
-    ensures { R.OtherStands book.now at x result }
+    ensures { R.OtherStands book.now at (unwrap_or x 256) result }
 {
     let w = bits::nine(book, at);
-    if w < 256 { w != x } else { false }
+    w < 256 && Some(w as u8) != x
 }
 
-// The left side at a position, whose root is that of the term at an offset, against that term. Most differ in the symbol behind the root, which is told
-// before anything is bound.
+// The left side at a position, whose root is that of the term at an offset, against that term: the offset behind the term, or none where they differ. Most
+// differ in the symbol behind the root, which is told before anything is bound.
 pub fn match_left(
     book: &[u8],
     left: usize,
@@ -226,17 +202,15 @@ pub fn match_left(
     symbols: &[u32; 1024],
     offset: usize,
     bound: &mut [u16; 32],
-) -> Found
+) -> Option<usize>
     requires { (length book.now ≤ 2 ^ 60) × (left < 2 ^ 32) × Sized (arity_in operators.now) symbols.now × (offset < length_in symbols.now) }
     ensures { R.LeftTried book.now left operators.now (operators_in symbols.now) offset (length_in symbols.now) (binding bound.new) result }
 {
     let len = term::length(symbols);
     let due = tables::arity(operators, term::operator_at(symbols, offset));
     let at = left + 9;
-    if 0 < due {
-        if other_stands(book, at, symbol_or_none(symbols, len, offset + 1)) {
-            return Found::Differs;
-        }
+    if 0 < due && other_stands(book, at, symbol_at(symbols, len, offset + 1)) {
+        return None;
     }
     clear(bound);
     match_rest(book, at, operators, symbols, len, offset + 1, due, bound)

@@ -1,12 +1,10 @@
--- What the cases need: a line's symbols loaded one by one, the present term of a sound line, and the only unit at its start. Assumes nothing.
+-- What the cases need: the present term of a sound line, and the only unit at its start. Assumes nothing.
 use mathlib.Core.Bool.{Bool, true}
-use mathlib.Core.List.{List, [], ◌∷◌, ◌++◌}
+use mathlib.Core.List.{List}
 use mathlib.Core.Path.{◌≡◌, sym, ap, ◌∙◌, subst}
-use Prim.Native.Nat.{ℕ, ◌+◌, ◌≤◌, ◌<◌}
-use native.Mathlib.Numerals.{add-one}
+use Prim.Native.Nat.{ℕ, ◌≤◌, ◌<◌}
 use native.Mathlib.Omega.{arith}
-use lib.ListN.{length, get_or, take, drop, set}
-use lib.Seq.{take-suc, take-suc-set}
+use lib.ListN.{length, drop}
 use Rattle.paper.specs.Book.{Book, arity}
 use Rattle.paper.specs.Sound.{All}
 use Rattle.paper.proofs.Line.{line_correct}
@@ -36,12 +34,6 @@ use Rattle.units.specs.Stacks.{Offsets, Store}
 use Rattle.units.specs.Promises.{Started}
 use Rattle.units.proofs.Units.{height_at}
 use Rattle.whole.specs.Promises.{UnitsDue}
-
--- one symbol more
-pub load_more : (line space : List ℕ) (i : ℕ) → i < length line → i < length space → take i space ≡ take i line →
-    take (i + 1) (set space i (get_or line i 0)) ≡ take (i + 1) line
-load_more line space i l m e =
-    rw (add-one i, take-suc-set space i (get_or line i 0) m, take-suc line i 0 l) (ap (λ (xs : List ℕ). xs ++ (get_or line i 0 ∷ [])) e)
 
 -- a sound line of a book with this net
 module _ {bytes operators net : List ℕ} {n : ℕ} (line : List ℕ) (t : NetOf bytes operators net) (count : n ≡ length (book_by bytes net).operators)

@@ -13,9 +13,7 @@ ghost use Rattle.lookup.specs.Promises.{Present};
 
 use book::Book;
 use cases::{say, say_front, say_number, say_refused};
-use fill::Size;
 use line::Line;
-use rule::Hit;
 use whole::{Limits, Place, Progress, Whole};
 
 fn say_found(i: usize, end: usize) {
@@ -25,19 +23,14 @@ fn say_found(i: usize, end: usize) {
     say_number(end);
 }
 
-// The operators from an offset up to another, in hexadecimal.
-fn say_operators(symbols: &[u32; 1024], from: usize, end: usize)
-    requires { end ≤ 1024 }
-{
-    let mut i = from;
-    while i < end {
-        let o = [term::operator_at(symbols, i)];
-        say_front(&o, 1);
-        i += 1;
+// The operators of symbols, in hexadecimal.
+fn say_operators(symbols: &[u32]) {
+    for x in symbols {
+        say_front(&[symbol::operator(*x)], 1);
     }
 }
 
-// The right side at a position, filled, as the last symbols: says how many, or `over` for more than 1,024, which is told as 0.
+// The right side at a position, filled, as the last symbols: says how many, or `over` for more than 1,024, of which none are told.
 fn try_fill(
     bytes: &[u8],
     right: usize,
@@ -50,29 +43,24 @@ fn try_fill(
     ensures { result ≤ 1024 }
 {
     say(b" size ");
-    match fill::fill(bytes, right, operators, symbols, 1024, bound, filled) {
-        Size::Fits(k) => {
-            say_number(k);
-            k
-        }
-        Size::Over => {
-            say(b"over");
-            0
-        }
-    }
+    let Some(size) = fill::fill(bytes, right, operators, symbols, 1024, bound, filled) else {
+        say(b"over");
+        return 0;
+    };
+    say_number(size);
+    size
 }
 
-// WHOLE of the term at the offset, by the only unit: the right side, filled as the last symbols, size of them, and the new term.
+// WHOLE of the term at the offset, by the only unit: the filled right side, and the new term.
 fn carry_out(
     bytes: &[u8],
     operators: &[u8; 4352],
     net: &[u8],
     symbols: &mut [u32; 1024],
     offset: usize,
-    filled: &[u32; 1024],
-    size: usize,
+    filled: &[u32],
 )
-    requires { Present bytes.now operators.now net.now symbols.old offset × (size ≤ 1024) }
+    requires { Present bytes.now operators.now net.now symbols.old offset }
 {
     let operator = term::operator_at(symbols, offset);
     let mut scratch = [0u32; 1024];
@@ -89,7 +77,7 @@ fn carry_out(
         &units,
         Place {
             unit: 0,
-            offset: offset,
+            offset,
             operator,
         },
         Progress {
@@ -107,9 +95,9 @@ fn carry_out(
         Whole::Full => say(b" full"),
         Whole::Rewrote => {
             say(b" ");
-            say_operators(filled, 1024 - size, 1024);
+            say_operators(filled);
             say(b" ");
-            say_operators(symbols, 0, term::length(symbols));
+            say_operators(&symbols[..term::length(symbols)]);
         }
     }
 }
@@ -124,21 +112,20 @@ fn try_rewrite(
 )
     requires { Present bytes.now operators.now net.now symbols.old offset }
 {
-    let first = net::root(net, term::operator_at(symbols, offset));
-    if first == 0 {
+    let Some(first) = net::root(net, term::operator_at(symbols, offset)) else {
         say(b"none");
         return;
-    }
+    };
     // The search's stack, then the right side.
     let mut filled = [0u32; 1024];
     let mut bound = [0; 32];
-    let Hit::Rule(m) = lookup::find(
+    let Some(m) = lookup::find(
         bytes,
         operators,
         net,
         symbols,
         offset,
-        first - 1,
+        first,
         &mut filled,
         &mut bound,
     ) else {
@@ -148,7 +135,14 @@ fn try_rewrite(
     let right = net::right_side(net, m.rule);
     say_found(m.rule, m.end);
     let size = try_fill(bytes, right, operators, symbols, &bound, &mut filled);
-    carry_out(bytes, operators, net, symbols, offset, &filled, size);
+    carry_out(
+        bytes,
+        operators,
+        net,
+        symbols,
+        offset,
+        &filled[1024 - size..],
+    );
 }
 
 // The line at the front of space; how many bytes.
@@ -156,12 +150,9 @@ fn load(line: &[u8], space: &mut [u8; 1024]) -> usize
     requires { (length line.now ≤ 1024) × (length space.old ≡ 1024) }
     ensures { (result ≡ length line.now) × (take result space.new ≡ line.now) × (length space.new ≡ 1024) }
 {
-    let mut i = 0;
-    while i < line.len() {
-        space[i] = line[i];
-        i += 1;
-    }
-    i
+    let n = line.len();
+    space[..n].copy_from_slice(line);
+    n
 }
 
 // A line against a book of n operators that is read.
@@ -210,10 +201,7 @@ fn try_sizes(size: usize, len: usize, offset: usize) -> bool
 {
     let mut bytes = io::large_buffer();
     let mut line = io::large_buffer();
-    if !cases::read_front(&mut bytes, size) {
-        return false;
-    }
-    if !cases::read_front(&mut line, len) {
+    if !cases::read_front(&mut bytes, size) || !cases::read_front(&mut line, len) {
         return false;
     }
     try_book(&bytes[..size], &line[..len], offset);
@@ -234,10 +222,11 @@ fn try_case() -> bool {
     )
 }
 
-// The turns are counted down from a number that no input uses up, so that the loop ends.
+// The turns are counted to a number that no input uses up, so that the loop ends.
 fn main() {
-    let mut turns = u64::MAX;
-    while turns > 0 && try_case() {
-        turns -= 1;
+    for _ in 0..u64::MAX {
+        if !try_case() {
+            break;
+        }
     }
 }

@@ -26,12 +26,8 @@ fn grow(symbols: &mut [u32; 1024], a: usize, e: usize, n: usize)
     let first = a as u32;
     let less = (e - a) as u32;
     let more = n as u32;
-    let mut at: u32 = 0;
-    let mut i = 0;
-    while i < a {
-        symbols[i] = regrown(symbols[i], at, first, less, more);
-        at += 1;
-        i += 1;
+    for i in 0..a {
+        symbols[i] = regrown(symbols[i], i as u32, first, less, more);
     }
 }
 

@@ -51,10 +51,8 @@ pub fn argument(symbols: &[u32; 1024], at: usize, i: usize) -> usize
     ensures { result ≡ flat.hop (R.sizes symbols.now) i (at + 1) }
 {
     let mut p = at + 1;
-    let mut left = i;
-    while 0 < left {
+    for _ in 0..i {
         p += symbol::size(symbols[p]);
-        left -= 1;
     }
     p
 }
@@ -67,15 +65,10 @@ pub fn same(symbols: &[u32; 1024], len: usize, a: usize, b: usize, n: usize) -> 
     if len - b < n {
         return false;
     }
-    // All symbols before the one compared are equal.
-    let mut i = 0;
-    while i < n {
-        if symbol::operator(symbols[a + i]) != symbol::operator(symbols[b + i]) {
-            return false;
-        }
-        i += 1;
-    }
-    true
+    symbols[a..a + n]
+        .iter()
+        .zip(&symbols[b..b + n])
+        .all(|(x, y)| symbol::operator(*x) == symbol::operator(*y))
 }
 
 // The n symbols of part from offset `from` on, into symbols at offset at.
@@ -83,11 +76,7 @@ pub fn copy(symbols: &mut [u32; 1024], at: usize, part: &[u32; 1024], from: usiz
     requires { (length symbols.old ≡ 1024) × (length part.now ≡ 1024) × (at + n ≤ 1024) × (from + n ≤ 1024) }
     ensures { Pasted symbols.old at part.now from n symbols.new }
 {
-    let mut j = 0;
-    while j < n {
-        symbols[at + j] = part[from + j];
-        j += 1;
-    }
+    symbols[at..at + n].copy_from_slice(&part[from..from + n]);
 }
 
 // Puts the operator o at offset at, without mark, with its size by those of its arguments, which stand behind it.
@@ -123,11 +112,9 @@ pub fn load(symbols: &mut [u32; 1024], operators: &[u8; 4352], line: &[u8; 1024]
     requires { (length symbols.old ≡ 1024) × (length line.now ≡ 1024) × (n ≤ 1024) × (spells (arity_in operators.now) 1 (take n line.now) ≡ true) }
     ensures { Loaded (arity_in operators.now) (take n line.now) (map (λ o. false) (take n line.now)) n symbols.new }
 {
-    let mut i = n;
     // The size of the symbol at i, kept: to load what was just stored is slow.
     let mut behind = 0;
-    while 0 < i {
-        i -= 1;
+    for i in (0..n).rev() {
         behind = size_before(symbols, operators, i, line[i], behind);
         symbols[i] = symbol::make(line[i], behind);
     }

@@ -27,7 +27,7 @@ use Rattle.net.specs.Net.{book_by}
 use Rattle.net.proofs.Laws.{tables_by, rights_are}
 use Rattle.lookup.specs.Promises.{Present}
 use Rattle.fill.specs.Promises.{Fillable, SideFilled}
-use Rattle.fill.specs.declared.Size as Z
+use Rattle.std.specs.Prelude.{Some, None}
 use Rattle.whole.specs.Promises.{spent, over, RuleGives, RightFits}
 use Rattle.whole.specs.declared.Progress as P
 use Rattle.whole.specs.declared.Limits as L
@@ -83,14 +83,14 @@ module _ {bytes operators net symbols : List ℕ} {a : ℕ} (here : Present byte
               fits = omega (arith, around);
             }
 
-        pub fills : {scratch : List ℕ} → SideFilled bytes at operators xs ms b limit scratch Z.Size.Over →
+        pub fills : {scratch : List ℕ} → SideFilled bytes at operators xs ms b limit scratch None →
             RuleGives B a xs (λ ys e. (spent p l ≡ false) × (over a xs ys e ≡ true))
         fills f =
             let g : 1024 < length (fill (preorder right) b xs) + (length xs - (m.end - a)) =
             omega (arith, end_is here h.is, length_is here, h.end, f.is right stands) in
             record { right = _; b = _; e = m.end; hit = h.is; so = (ne_eqb p.rewrites l.budget unspent, lt-ltb 1024 _ g) }
 
-        pub picks : {scratch : List ℕ} {k : ℕ} → SideFilled bytes at operators xs ms b limit scratch (Z.Size.Fits k) →
+        pub picks : {scratch : List ℕ} {k : ℕ} → SideFilled bytes at operators xs ms b limit scratch (Some k) →
             RightFits B a p l symbols scratch (record { size = k; end = m.end })
         picks f =
             let q = f.is.0 right stands in

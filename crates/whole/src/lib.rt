@@ -11,8 +11,6 @@ ghost use Rattle.lookup.specs.Promises.{Present};
 ghost use Rattle.whole.specs.State as S;
 ghost use Rattle.whole.specs.Promises as W;
 
-use fill::Size;
-use rule::Hit;
 use units::{Frame, Job};
 
 // What a run counts: the rewrites, the FORKs granted, and those that were not. How many symbols are present is read from the term's root.
@@ -39,7 +37,7 @@ pub struct Place {
 }
 
 // No rule matches; a rule rewrote the term; the budget is used up; the new term would be too long.
-#[derive(Drop)]
+#[derive(Clone, Copy, Debug, PartialEq, Eq)]
 pub enum Whole {
     Missed,
     Rewrote,
@@ -48,14 +46,14 @@ pub enum Whole {
 }
 
 // A filled right side: how many symbols it has, and the offset behind the term that it stands for.
-#[derive(Drop)]
+#[derive(Clone, Copy)]
 struct Filled {
     size: usize,
     end: usize,
 }
 
 // The answers before the replacement.
-#[derive(Drop)]
+#[derive(Clone, Copy)]
 enum Choice {
     Missed,
     Fits(Filled),
@@ -78,34 +76,23 @@ fn choose(
     requires { Present book.now operators.now net.now symbols.now a × (length scratch.old ≡ 1024) × (o ≡ operator (get_or symbols.now a 0)) }
     ensures { W.Chosen (book_by book.now net.now) a p l symbols.now scratch.new result }
 {
-    let first = net::root(net, o);
     // Most terms have a root without rules.
-    if first == 0 {
+    let Some(first) = net::root(net, o) else {
         return Choice::Missed;
-    }
+    };
     let mut bound = [0; 32];
-    let Hit::Rule(m) = lookup::find(
-        book,
-        operators,
-        net,
-        symbols,
-        a,
-        first - 1,
-        scratch,
-        &mut bound,
-    ) else {
+    let Some(m) = lookup::find(book, operators, net, symbols, a, first, scratch, &mut bound) else {
         return Choice::Missed;
     };
     // A budget that is used up is told before a term that would be too long.
     if p.rewrites == l.budget {
         return Choice::Spent;
     }
-    let end = m.end;
     let at = net::right_side(net, m.rule);
-    let limit = 1024 - (a + (term::length(symbols) - end));
+    let limit = 1024 - (a + (term::length(symbols) - m.end));
     match fill::fill(book, at, operators, symbols, limit, &bound, scratch) {
-        Size::Fits(k) => Choice::Fits(Filled { size: k, end: end }),
-        Size::Over => Choice::Full,
+        Some(size) => Choice::Fits(Filled { size, end: m.end }),
+        None => Choice::Full,
     }
 }
 
@@ -132,7 +119,7 @@ fn apply(
         units,
         place.unit,
         Frame::Job(Job {
-            offset: casts::short(a),
+            offset: a as u16,
             next: 0,
             count: 0,
         }),

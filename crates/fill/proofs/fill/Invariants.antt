@@ -8,6 +8,3 @@ use Rattle.fill.proofs.fill.Given as goal
 abbrev pub invariant-loop-i : goal.invariant-loop-i
 invariant-loop-i l =
     (l.i ≤ 64) × (l.k ≤ l.limit) × Filling l.book l.at l.operators (operators_in l.symbols) (marks_in l.symbols) (binding l.bound) l.i l.k l.scratch
-
-abbrev pub decreases-loop-i : goal.decreases-loop-i
-decreases-loop-i l = l.i

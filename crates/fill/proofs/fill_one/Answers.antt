@@ -10,34 +10,34 @@ returns-then-k-limit c = over_operator c.requires.0 (operator_code c.args.code _
 
 pub put_sized-requires : goal.put_sized-requires
 put_sized-requires c =
-    let p = operator_room c.requires.0 (operator_code c.args.code _ c.low_byte.ensures (omega arith)) (omega arith) in
+    let p = operator_room c.requires.0 (operator_code c.args.code _ refl (omega arith)) (omega arith) in
     (c.requires.0.sized.long, omega arith, p.0, p.1)
 
 pub returns-then-code-lt256 : goal.returns-then-code-lt256
 returns-then-code-lt256 c =
-    filled_operator c.requires.0 (operator_code c.args.code _ c.low_byte.ensures (omega arith)) (omega arith) (omega arith) c.put_sized.ensures
+    filled_operator c.requires.0 (operator_code c.args.code _ refl (omega arith)) (omega arith) (omega arith) c.put_sized.ensures
 
 pub bounds-bound-i : goal.bounds-bound-i
 bounds-bound-i c =
-    let v = rw (variable_code c.args.code _ c.offset.ensures.0 (omega arith)) at c.requires.0.fits in
+    let v = rw (variable_code c.args.code _ c.from.ensures (omega arith)) at c.requires.0.fits in
     omega arith
 
 pub returns-then-limit-k : goal.returns-then-limit-k
 returns-then-limit-k c =
-    over_variable c.requires.0 c.requires.1 (variable_code c.args.code _ c.offset.ensures.0 (omega arith)) c.offset-size.ensures.0 refl (omega arith)
+    over_variable c.requires.0 c.requires.1 (variable_code c.args.code _ c.from.ensures (omega arith)) c.from-size.ensures refl (omega arith)
 
 pub bounds-bound-i-2 : goal.bounds-bound-i-2
 bounds-bound-i-2 c =
-    let v = rw (variable_code c.args.code _ c.offset.ensures.0 (omega arith)) at c.requires.0.fits in
+    let v = rw (variable_code c.args.code _ c.from.ensures (omega arith)) at c.requires.0.fits in
     omega arith
 
 pub copy-requires : goal.copy-requires
 copy-requires c =
     let w = c.requires.1 in
-    let p = part_there c.requires.0 w (variable_code c.args.code _ c.offset.ensures.0 (omega arith)) c.offset-size.ensures.0 c.offset-start.ensures.0 in
+    let p = part_there c.requires.0 w (variable_code c.args.code _ c.from.ensures (omega arith)) c.from-size.ensures c.from-start.ensures in
     (c.requires.0.sized.long, w.long, omega arith, omega (arith, w.most))
 
 pub returns : goal.returns
 returns c =
-    filled_variable c.requires.0 c.requires.1 (variable_code c.args.code _ c.offset.ensures.0 (omega arith)) c.offset-size.ensures.0 c.offset-start.ensures.0
+    filled_variable c.requires.0 c.requires.1 (variable_code c.args.code _ c.from.ensures (omega arith)) c.from-size.ensures c.from-start.ensures
     (omega arith) (omega arith) c.copy.ensures

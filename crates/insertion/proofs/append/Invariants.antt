@@ -1,13 +1,11 @@
--- `insertion::append` meets its contract. The loop's invariant: rule s has the path of rule i, and `next` is the number of the one behind it. Rules are
--- told in their order, so the measure is how many are left. Assumes nothing.
-use mathlib.Core.Path.{◌≡◌}
+-- `insertion::append` meets its contract. The loop's invariant: rule s has the path of rule i. Rules are told in their order, so the measure is how many are
+-- left. Assumes nothing.
 use Prim.Native.Nat.{◌-◌, ◌<◌}
-use Rattle.net.specs.Layout.{same_in}
 use Rattle.net.specs.Net.{Same}
 use Rattle.insertion.proofs.append.Given as goal
 
 abbrev pub invariant-loop-next : goal.invariant-loop-next
-invariant-loop-next l = (l.s < l.j) × (l.next < 256) × (l.next ≡ same_in l.net l.s) × Same l.net l.i l.s
+invariant-loop-next l = (l.s < l.j) × Same l.net l.i l.s
 
 abbrev pub decreases-loop-next : goal.decreases-loop-next
 decreases-loop-next l = l.j - l.s

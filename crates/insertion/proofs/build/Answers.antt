@@ -10,7 +10,7 @@ use Rattle.insertion.proofs.build.Goals.{In-loop-j}
 
 -- the number j is one of a rule
 number : (c : In-loop-j) → c.loop-j.j < length (book_of c.args.book.now c.args.rules.now).rules
-number c = let e = c.requires.0.tables.rules_in.counted in omega (arith, c.loop-j-test.true, c.count-m.ensures.0)
+number c = let e = c.requires.0.tables.rules_in.counted in omega (arith, c.count-j-end.ensures.0)
 
 pub put_day-requires : goal.put_day-requires
 put_day-requires c =
@@ -21,7 +21,7 @@ put_day-requires c =
 pub loop-j-init : goal.loop-j-init
 loop-j-init c =
     let p = c.requires in
-    (omega arith, building_none p.0 _ p.2 c.start.ensures c.day.ensures.0 c.put_day.ensures)
+    building_none p.0 _ p.2 c.start.ensures c.day.ensures.0 c.put_day.ensures
 
 pub left_side-requires : goal.left_side-requires
 left_side-requires c =
@@ -41,14 +41,14 @@ put_sides-requires c =
     let p = c.requires in
     let f = few p.0 in
     let (a, b) = positions p.0 p.1 c.loop-j.j n in
-    (c.loop-j.invariant.1.is.long, omega arith, omega arith, omega arith)
+    (c.loop-j.invariant.is.long, omega arith, omega arith, omega arith)
 
 pub insert-requires : goal.insert-requires
 insert-requires c =
     let n = number (goal.at.insert-requires c).In-loop-j in
     let p = c.requires in
     let h =
-    building_sides p.0 c.loop-j.j _ _ n c.loop-j.invariant.1 c.left_side.ensures.0 c.right_side.ensures.0
+    building_sides p.0 c.loop-j.j _ _ n c.loop-j.invariant c.left_side.ensures.0 c.right_side.ensures.0
     c.put_sides.ensures
     in
     (omega arith, ready p.0 h refl n)
@@ -58,23 +58,22 @@ loop-j-preserved c =
     let n = number (goal.at.loop-j-preserved c).In-loop-j in
     let p = c.requires in
     let h =
-    building_sides p.0 c.loop-j.j _ _ n c.loop-j.invariant.1 c.left_side.ensures.0 c.right_side.ensures.0
+    building_sides p.0 c.loop-j.j _ _ n c.loop-j.invariant c.left_side.ensures.0 c.right_side.ensures.0
     c.put_sides.ensures
     in
-    (omega (arith, c.loop-j-test.true), building_on p.0 h _ refl n refl c.insert.ensures)
+    building_on p.0 h _ refl n refl c.insert.ensures
 
 pub shape_of-net : goal.shape_of-net
 shape_of-net c =
     let a = c.put_day.ensures.long in
     let b = c.start.ensures.long in
-    c.loop-j.invariant.1.long ∙ omega arith
+    c.loop-j.invariant.long ∙ omega arith
 
 pub returns : goal.returns
 returns c =
     let p = c.requires in
     let e = p.0.tables.rules_in.counted in
-    let q = c.count-m.ensures.0 in
-    let t = c.loop-j-test.false in
+    let q = c.count-j-end.ensures.0 in
     let a = c.put_day.ensures.long in
     let b = c.start.ensures.long in
-    built p.0 c.loop-j.invariant.1 _ (omega arith) (omega arith) (omega arith)
+    built p.0 c.loop-j.invariant _ (omega arith) (omega arith) (omega arith)

@@ -1,20 +1,19 @@
 -- `insertion::insert` meets its contract. Assumes nothing.
-use mathlib.Core.Path.{sym, ◌∙◌}
+use mathlib.Core.Path.{sym}
 use native.Mathlib.Omega.{arith}
 use Rattle.insertion.proofs.Walks.{placed_root, read_there, placed_behind, placed_off}
 use Rattle.insertion.proofs.insert.Goals as goal
 
-pub returns-then-first-eq0 : goal.returns-then-first-eq0
-returns-then-first-eq0 c =
+pub returns-in_default : goal.returns-in_default
+returns-in_default c =
     let p = c.requires in
     placed_root p.1 _ (read_there _ c.left_side.ensures.0 c.read-root.ensures) _ _ (omega arith)
-    (sym c.root-first.ensures.0 ∙ c.if-first-eq0.true) c.put_root.ensures
+    (sym c.in_default.ensures.0) c.put_root.ensures
 
 pub walk-requires : goal.walk-requires
 walk-requires c =
     let p = c.requires in
-    let e = c.root-first.ensures.0 in
-    (p.0, p.1, read_there _ c.left_side.ensures.0 c.read-root.ensures, sym e ∙ omega arith)
+    (p.0, p.1, read_there _ c.left_side.ensures.0 c.read-root.ensures, sym c.in-Some.ensures.0)
 
 pub append-requires : goal.append-requires
 append-requires c =

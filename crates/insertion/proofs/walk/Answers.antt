@@ -1,5 +1,5 @@
 -- Answers of `walk`. Assumes nothing.
-use mathlib.Core.Path.{refl, sym, ◌∙◌}
+use mathlib.Core.Path.{refl, sym}
 use native.Mathlib.Omega.{arith}
 use Rattle.insertion.proofs.Walks.{reached_first, behind_is, not_deep, reached_on, off_is}
 use Rattle.insertion.proofs.walk.Goals as goal
@@ -29,8 +29,8 @@ overflow_add-left c = let i = c.loop-due.invariant in let f = i.far in let d = i
 pub read-new-requires : goal.read-new-requires
 read-new-requires c = c.requires.0
 
-pub follow-next-requires : goal.follow-next-requires
-follow-next-requires c =
+pub follow-requires : goal.follow-requires
+follow-requires c =
     let R = c.requires.1 in
     let f = R.few in
     let i = c.loop-due.invariant in
@@ -38,13 +38,13 @@ follow-next-requires c =
     let d = i.depth in
     (R.is.long, omega arith, omega arith, R.is.descends.chains)
 
-pub returns-then-next-eq0 : goal.returns-then-next-eq0
-returns-then-next-eq0 c =
+pub returns-in_default : goal.returns-in_default
+returns-in_default c =
     let p = c.requires in
     let left = c.left_side-left.ensures.0 in
     let own_left = c.left_side.ensures.0 in
     off_is p.1 c.loop-due.invariant c.loop-due-test.true _ _ c.read-own.ensures (omega arith) c.read-new.ensures (omega arith) _
-    (sym c.follow-next.ensures.0 ∙ c.if-next-eq0.true) c.chosen.ensures
+    (sym c.in_default.ensures.0) c.chosen.ensures
 
 pub overflow_add-depth : goal.overflow_add-depth
 overflow_add-depth c = let d = c.loop-due.invariant.depth in omega arith
@@ -78,9 +78,8 @@ loop-due-preserved c =
     let p = c.requires in
     let left = c.left_side-left.ensures.0 in
     let own_left = c.left_side.ensures.0 in
-    let f = c.follow-next.ensures.0 in
     reached_on p.1 c.loop-due.invariant c.loop-due-test.true _ _ c.read-own.ensures (omega arith) c.read-new.ensures
-    (omega arith) _ _ _ _ (sym f ∙ omega arith) refl refl refl
+    (omega arith) _ _ _ _ (sym c.in-Some.ensures.0) refl refl refl
 
 pub returns : goal.returns
 returns c =

@@ -57,13 +57,13 @@ pub loop-s-smaller : goal.loop-s-smaller
 loop-s-smaller c =
     let R = c.requires.0 in
     (down_on R c.loop-s.invariant (before_end _ _ _ _ c.if-s-end.true c.size_at.ensures) _ c.key-own.ensures (omega (arith, c.if-s-choice.false, c.choice.ensures.0)) _
-    (rw c.in-At.is at c.go_on.ensures)).1
+    (rw c.in-Some.is at c.go_on.ensures)).1
 
 pub loop-s-preserved : goal.loop-s-preserved
 loop-s-preserved c =
     let R = c.requires.0 in
     (down_on R c.loop-s.invariant (before_end _ _ _ _ c.if-s-end.true c.size_at.ensures) _ c.key-own.ensures (omega (arith, c.if-s-choice.false, c.choice.ensures.0)) _
-    (rw c.in-At.is at c.go_on.ensures)).0
+    (rw c.in-Some.is at c.go_on.ensures)).0
 
 pub returns-else-s-end : goal.returns-else-s-end
 returns-else-s-end c =

@@ -4,7 +4,7 @@ use mathlib.Core.Path.{refl}
 use native.Mathlib.Omega.{arith}
 use borrow.Author.Tests.{not-true, not-false}
 use Rattle.lookup.proofs.Rules.{ready}
-use Rattle.lookup.proofs.Searching.{first_known, one_path, start_packable, search_start, turn_tells, turned, best_most, found_none, found_some, found_rule}
+use Rattle.lookup.proofs.Searching.{first_known, one_path, start_packable, search_start, turn_tells, turned, best_most, answered}
 use Rattle.lookup.proofs.find.Goals as goal
 use Rattle.lookup.proofs.find.Goals.{then-height-gt0, else-height-gt0+then-not-best}
 
@@ -52,17 +52,7 @@ loop-height-preserved c =
     let p = c.requires.0 in
     (turned p _ _ _ _ _ _ _ _ c.loop-height.invariant (elim c.if-height-gt0.branch [ then-height-gt0 w ↦ inl w.if-height-gt0.true | else-height-gt0+then-not-best w ↦ inr (not-true _ w.if-not-best.true) ]) c.next_turn-t.ensures c.attempt-best.ensures).0
 
-pub returns-then-best-eq256 : goal.returns-then-best-eq256
-returns-then-best-eq256 c =
-    let p = c.requires.0 in
-    (found_none p c.loop-height.invariant c.if-height-gt0.false (not-false _ c.if-not-best.false) c.if-best-eq256.true, c.loop-height.invariant.stacked.long)
-
-pub overflow_sub-result : goal.overflow_sub-result
-overflow_sub-result c =
-    let p = c.requires.0 in
-    found_some p c.loop-height.invariant c.if-height-gt0.false (not-false _ c.if-not-best.false) c.if-best-eq256.false
-
 pub returns : goal.returns
 returns c =
     let p = c.requires.0 in
-    (found_rule p c.loop-height.invariant c.if-height-gt0.false (not-false _ c.if-not-best.false) c.if-best-eq256.false, c.loop-height.invariant.stacked.long)
+    (answered p c.loop-height.invariant c.if-height-gt0.false (not-false _ c.if-not-best.false), c.loop-height.invariant.stacked.long)

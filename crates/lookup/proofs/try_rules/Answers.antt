@@ -2,49 +2,47 @@
 use mathlib.Core.Logic.{inl, inr}
 use mathlib.Core.Path.{refl}
 use native.Mathlib.Omega.{arith}
-use Rattle.lookup.proofs.Rules.{ready, few, reached_first, reached_below, reached_found, reached_next, reached_end}
+use Rattle.lookup.proofs.Rules.{ready, reached_first, reached_below, reached_found, reached_next, reached_end}
 use Rattle.lookup.proofs.try_rules.Goals as goal
 
-pub overflow_add-c : goal.overflow_add-c
-overflow_add-c c = let p = c.requires in omega (arith, p.1, few p.0)
+pub loop-next-init : goal.loop-next-init
+loop-next-init c = let p = c.requires in reached_first p.0 p.1 p.2
 
-pub loop-c-init : goal.loop-c-init
-loop-c-init c = let p = c.requires in reached_first p.0 p.1 p.2 _ refl
+pub returns-then-limit-rule : goal.returns-then-limit-rule
+returns-then-limit-rule c =
+    let p = c.requires in
+    reached_end p.0 p.1 p.2 _ _ (rw c.in-Some.is at c.loop-next.invariant) (inr (omega (arith, c.if-limit-rule.true)))
 
 pub left_side-left-requires : goal.left_side-left-requires
 left_side-left-requires c =
     let p = c.requires in
-    ((ready p.0).is.long, reached_below p.0 p.1 p.2 _ _ c.loop-c-test.true refl c.loop-c.invariant)
+    ((ready p.0).is.long, reached_below p.0 p.1 p.2 _ (rw c.in-Some.is at c.loop-next.invariant))
 
-pub returns-in-Agrees : goal.returns-in-Agrees
-returns-in-Agrees c =
+pub returns-in-Some-match_left : goal.returns-in-Some-match_left
+returns-in-Some-match_left c =
     let p = c.requires in
-    reached_found p.0 p.1 p.2 _ _ c.loop-c-test.true refl c.loop-c.invariant _ _ c.left_side-left.ensures.0 _ _
-    c.if-c-best.true (rw c.in-Agrees.is at c.match_left.ensures)
+    reached_found p.0 p.1 p.2 _ (rw c.in-Some.is at c.loop-next.invariant) _ _ c.left_side-left.ensures.0 _ _
+    (omega (arith, c.if-limit-rule.false)) c.in-Some-match_left.ensures
 
-pub same-c-requires : goal.same-c-requires
-same-c-requires c =
+pub same-next-requires : goal.same-next-requires
+same-next-requires c =
     let p = c.requires in
-    ((ready p.0).is.long, reached_below p.0 p.1 p.2 _ _ c.loop-c-test.true refl c.loop-c.invariant)
+    ((ready p.0).is.long, reached_below p.0 p.1 p.2 _ (rw c.in-Some.is at c.loop-next.invariant))
 
-pub loop-c-smaller : goal.loop-c-smaller
-loop-c-smaller c =
+pub loop-next-smaller : goal.loop-next-smaller
+loop-next-smaller c =
     let p = c.requires in
-    (reached_next p.0 p.1 p.2 _ _ c.loop-c-test.true refl c.loop-c.invariant _ _ c.left_side-left.ensures.0 _
-    (rw c.in_default.is at c.match_left.ensures) c.same-c.ensures.0).1
+    rw c.in-Some.is
+    (reached_next p.0 p.1 p.2 _ (rw c.in-Some.is at c.loop-next.invariant) _ _ c.left_side-left.ensures.0 _
+    c.in_default-match_left.ensures c.same-next.ensures.0).1
 
-pub loop-c-preserved : goal.loop-c-preserved
-loop-c-preserved c =
+pub loop-next-preserved : goal.loop-next-preserved
+loop-next-preserved c =
     let p = c.requires in
-    (reached_next p.0 p.1 p.2 _ _ c.loop-c-test.true refl c.loop-c.invariant _ _ c.left_side-left.ensures.0 _
-    (rw c.in_default.is at c.match_left.ensures) c.same-c.ensures.0).0
+    (reached_next p.0 p.1 p.2 _ (rw c.in-Some.is at c.loop-next.invariant) _ _ c.left_side-left.ensures.0 _
+    c.in_default-match_left.ensures c.same-next.ensures.0).0
 
-pub returns-else-c-best : goal.returns-else-c-best
-returns-else-c-best c =
+pub returns : goal.returns
+returns c =
     let p = c.requires in
-    reached_end p.0 p.1 p.2 _ _ c.loop-c.invariant (inr c.if-c-best.false)
-
-pub returns-after-loop-c : goal.returns-after-loop-c
-returns-after-loop-c c =
-    let p = c.requires in
-    reached_end p.0 p.1 p.2 _ _ c.loop-c.invariant (inl (omega arith))
+    reached_end p.0 p.1 p.2 _ _ (rw c.in_default.is at c.loop-next.invariant) (inl refl)

@@ -1,5 +1,4 @@
 -- `lookup::visit` meets its contract. Assumes nothing.
-use native.Mathlib.Omega.{arith}
 use Rattle.lookup.proofs.Stacks.{top_below, top_node, visit_lost, visit_leaf, choice_small, choice_part, choice_puts, choice_puts_again, visit_choice}
 use Rattle.lookup.proofs.visit.Goals as goal
 
@@ -8,12 +7,6 @@ popped-requires c = let p = c.requires in top_below p.0 p.1
 
 pub descend-requires : goal.descend-requires
 descend-requires c = let p = c.requires in (p.0, top_node p.0 p.1 c.popped.ensures 0)
-
-pub overflow_add-result : goal.overflow_add-result
-overflow_add-result c =
-    let d = rw c.in-Leaf.is at c.descend.ensures in
-    let f = c.requires.0.good.few_rules in
-    omega (arith, d.0)
 
 pub key-own-requires : goal.key-own-requires
 key-own-requires c =

@@ -1,22 +1,16 @@
--- Answers of `start`. Assumes nothing.
-use mathlib.Core.Path.{refl, ◌∙◌}
+-- `net::start` meets its contract: the columns in front are filled with 0. Assumes nothing.
+use mathlib.Core.Path.{◌≡◌, sym, ap, ◌∙◌}
+use Prim.Native.Nat.{ℕ}
 use native.Mathlib.Omega.{arith}
-use lib.ListN.{length-set}
-use Rattle.net.proofs.Cells.{clear_more, emptied}
+use lib.ListN.{length, take, replicate}
+use Rattle.std.proofs.lemmas.List.{length-take-le}
+use Rattle.net.proofs.Cells.{emptied}
 use Rattle.net.proofs.start.Goals as goal
 
-pub loop-i-init : goal.loop-i-init
-loop-i-init c = (refl, λ x l. absurd (omega arith), omega arith)
-
-pub loop-i-preserved : goal.loop-i-preserved
-loop-i-preserved c =
-    let l = c.loop-i in (
-      length-set l.net l.i 0 ∙ l.invariant.0,
-      clear_more l.net l.i (omega (arith, l.invariant.0, c.requires)) l.invariant.1,
-      omega arith,
-    )
+pub slice_bounds-fill-end-2 : goal.slice_bounds-fill-end-2
+slice_bounds-fill-end-2 c = sym (length-take-le 1536 c.args.net.now (omega arith))
 
 pub returns : goal.returns
 returns c =
-    let v = c.loop-i.invariant in
-    emptied _ _ v.0 (λ x l. v.1 x (omega arith))
+    let l : length (take 1536 c.args.net.now) ≡ 1536 = length-take-le 1536 c.args.net.now (omega arith) in
+    emptied c.args.net.now c.fill.new.self (omega arith) (c.fill.ensures.after (λ y e. e) ∙ ap (λ (n : ℕ). replicate n 0) l)

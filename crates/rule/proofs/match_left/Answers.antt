@@ -33,7 +33,7 @@ under n x e =
 
 pub returns-then-other_stands : goal.returns-then-other_stands
 returns-then-other_stands c =
-    tried_other (under (goal.at.returns-then-other_stands c).After-arity-due _ (rw c.length-len.ensures at c.symbol_or_none.ensures)) c.if-due-gt0.true (rw c.if-other_stands.true at c.other_stands.ensures)
+    tried_other (under (goal.at.returns-then-other_stands c).After-arity-due _ (rw c.length-len.ensures at c.symbol_at.ensures)) c.if-due-gt0.true (rw c.if-other_stands.true at c.other_stands.ensures)
 
 pub match_rest-requires : goal.match_rest-requires
 match_rest-requires c =

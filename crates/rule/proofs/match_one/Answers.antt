@@ -9,20 +9,21 @@ pub meet-requires : goal.meet-requires
 meet-requires c =
     (rw c.in-Variable.is at c.symbol_at.ensures.small, part_in c.requires.1, c.requires.2)
 
-pub returns-then-stands : goal.returns-then-stands
-returns-then-stands c =
+pub returns-else-not-stands : goal.returns-else-not-stands
+returns-else-not-stands c =
     let l = operators_length c.args.symbols.now c.args.len (omega arith) in
-    step_same c.requires.2 _ _ _ (rw c.in-Operator.is at c.symbol_at.ensures) (sym c.stands.ensures ∙ c.if-stands.true)
+    step_same c.requires.2 _ _ _ (rw c.in-Operator.is at c.symbol_at.ensures) (sym c.stands.ensures ∙ c.if-not-stands.false)
     c.arity.ensures.0 c.arity.ensures.1 (omega arith)
 
-pub returns-else-stands : goal.returns-else-stands
-returns-else-stands c =
-    differs_at _ _ _ _ _ _ (rw c.in-Operator.is at c.symbol_at.ensures) (sym c.stands.ensures ∙ c.if-stands.false)
+pub returns-then-not-stands : goal.returns-then-not-stands
+returns-then-not-stands c =
+    differs_at _ _ _ _ _ _ (rw c.in-Operator.is at c.symbol_at.ensures) (sym c.stands.ensures ∙ c.if-not-stands.true)
 
-pub returns-in-Part : goal.returns-in-Part
-returns-in-Part c =
-    step_variable (part_true c.requires.1) _ _ (rw c.in-Variable.is at c.symbol_at.ensures) (rw c.in-Part.is at c.meet.ensures)
+pub returns-in_ok-size-in-Variable : goal.returns-in_ok-size-in-Variable
+returns-in_ok-size-in-Variable c =
+    step_variable (part_true c.requires.1) _ _ (rw c.in-Variable.is at c.symbol_at.ensures) c.in_ok-size-in-Variable.ensures
 
-pub returns-in-Other : goal.returns-in-Other
-returns-in-Other c =
-    apart_at (part_true c.requires.1) _ _ (rw c.in-Variable.is at c.symbol_at.ensures) (rw c.in-Other.is at c.meet.ensures)
+pub returns-in_err-size-in-Variable : goal.returns-in_err-size-in-Variable
+returns-in_err-size-in-Variable c =
+    rw c.from_residual.ensures
+    (apart_at (part_true c.requires.1) _ _ (rw c.in-Variable.is at c.symbol_at.ensures) c.in_err-size-in-Variable.ensures)

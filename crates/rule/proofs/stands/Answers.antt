@@ -1,5 +1,6 @@
 -- `rule::stands` meets its contract. Assumes nothing.
 use mathlib.Core.Path.{sym, ◌∙◌}
+use borrow.Author.Tests.{le-ltb}
 use native.Mathlib.Omega.{arith}
 use lib.ListN.{take}
 use Rattle.symbol.specs.Record.{operators}
@@ -19,4 +20,4 @@ returns-else-at-len c =
     let a = c.args in
     let s = a.symbols.now in
     let l = operators_length s a.len (omega arith) in
-    sym (head_end a.at (operators (take a.len s)) a.o (omega arith))
+    le-ltb a.at a.len c.if-at-len.false ∙ sym (head_end a.at (operators (take a.len s)) a.o (omega arith))

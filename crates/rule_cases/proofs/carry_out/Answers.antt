@@ -6,9 +6,4 @@ use Rattle.rule_cases.proofs.carry_out.Goals as goal
 
 pub rewrite-requires : goal.rewrite-requires
 rewrite-requires c =
-    (c.requires.0, search rules, due_at_start _ _ _ c.start.ensures (omega (arith, c.requires.0.inside)), c.operator_at-operator.ensures)
-
-pub say_operators-requires-in-Rewrote : goal.say_operators-requires-in-Rewrote
-say_operators-requires-in-Rewrote c =
-    let w = rw c.in-Rewrote.is at c.rewrite.ensures.0 in
-    omega (arith, c.length.ensures, w.most)
+    (c.requires, search rules, due_at_start _ _ _ c.start.ensures (omega (arith, c.requires.inside)), c.operator_at-operator.ensures)

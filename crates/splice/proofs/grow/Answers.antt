@@ -31,7 +31,7 @@ all_passed : {a e n i : ℕ} {xs ys : List ℕ} → i ≡ a → Passed a e n i x
 all_passed z p = record { before = λ j l. p.before j (omega arith); behind = λ j l. p.behind j (omega arith); long = p.long }
 
 pub loop-i-init : goal.loop-i-init
-loop-i-init c = (omega arith, refl, none_passed refl)
+loop-i-init c = none_passed refl
 
 pub regrown-requires : goal.regrown-requires
 regrown-requires c =
@@ -41,13 +41,13 @@ regrown-requires c =
       omega arith,
       omega arith,
       omega arith,
-      rw (l.invariant.2.behind l.i (omega arith), l.invariant.1, end) (c.requires.nested l.i (omega arith)),
+      rw (l.invariant.behind l.i (omega arith), end) (c.requires.nested l.i (omega arith)),
     )
 
 pub loop-i-preserved : goal.loop-i-preserved
 loop-i-preserved c =
     let l = c.loop-i in
-    (omega arith, omega arith, passed_next (omega arith) l.invariant.2 l.invariant.1 (omega arith) c.regrown.ensures)
+    passed_next (omega arith) l.invariant refl (omega arith) c.regrown.ensures
 
 pub returns : goal.returns
-returns c = all_passed (omega arith) c.loop-i.invariant.2
+returns c = all_passed (omega arith) c.loop-i.invariant

@@ -1,7 +1,7 @@
 -- `splice::grow` meets its contract: one symbol after the other is put right. Assumes nothing.
 use mathlib.Core.List.{List}
 use mathlib.Core.Path.{◌≡◌}
-use Prim.Native.Nat.{ℕ, ◌-◌, ◌≤◌, ◌<◌}
+use Prim.Native.Nat.{ℕ, ◌≤◌, ◌<◌}
 use lib.ListN.{length, get_or}
 use Rattle.splice.specs.Promises.{Regrown}
 use Rattle.splice.proofs.grow.Given as goal
@@ -13,7 +13,4 @@ pub record Passed (a e n i : ℕ) (xs ys : List ℕ) : Type 0 where
   pub long : length ys ≡ length xs
 
 abbrev pub invariant-loop-i : goal.invariant-loop-i
-invariant-loop-i l = (l.i ≤ l.a) × (l.at ≡ l.i) × Passed l.a l.e l.n l.i l.initial.symbols l.symbols
-
-abbrev pub decreases-loop-i : goal.decreases-loop-i
-decreases-loop-i l = l.a - l.i
+invariant-loop-i l = Passed l.a l.e l.n l.i l.initial.symbols l.symbols

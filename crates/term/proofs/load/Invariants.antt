@@ -20,6 +20,3 @@ PutFrom ar line n symbols i = (j : ℕ) → i ≤ j → j < n → Put ar line n 
 abbrev pub invariant-loop-i : goal.invariant-loop-i
 invariant-loop-i l =
     (l.i ≤ l.n) × (length l.symbols ≡ 1024) × PutFrom (arity_in l.operators) l.line l.n l.symbols l.i × (l.i < l.n → l.behind ≡ size (get_or l.symbols l.i 0))
-
-abbrev pub decreases-loop-i : goal.decreases-loop-i
-decreases-loop-i l = l.i

@@ -1,68 +1,47 @@
 -- `whole::choose` meets its contract. Assumes nothing.
 use native.Mathlib.Omega.{arith}
-use borrow.Author.Rules.{rules}
 use Rattle.lookup.proofs.Rooting.{root_missed, root_found}
-use Rattle.whole.proofs.Choosing.{small, spends, around, fillable, fills, picks}
+use Rattle.whole.proofs.Choosing.{around, fillable, fills, picks}
 use Rattle.whole.proofs.choose.Goals as goal
 
-pub returns-then-first-eq0 : goal.returns-then-first-eq0
-returns-then-first-eq0 c =
+pub returns-in_default : goal.returns-in_default
+returns-in_default c =
     let p = c.requires in
-    record { is = (root_missed p.0 p.2 c.root-first.ensures.0 (search rules)).is; long = p.1 }
+    record { is = (root_missed p.0 p.2 c.in_default.ensures.0).is; long = p.1 }
 
 pub find-requires : goal.find-requires
 find-requires c =
     let p = c.requires in
-    (p.0, root_found p.0 p.2 c.root-first.ensures.0 (search rules), p.1)
-
-pub returns-in_default : goal.returns-in_default
-returns-in_default c =
-    let h = rw c.in_default.is at c.find.ensures in
-    record { is = h.0.is; long = h.1 }
-
-pub returns-then-p-l : goal.returns-then-p-l
-returns-then-p-l c =
-    let h = rw c.in-Rule.is at c.find.ensures in
-    record { is = spends c.requires.0 h.0 c.args.p c.args.l (omega arith); long = h.1 }
-
-pub right_side-at-requires : goal.right_side-at-requires
-right_side-at-requires c =
-    let q = c.requires.0 in
-    (q.netted.is.long, small q (rw c.in-Rule.is at c.find.ensures).0)
-
-pub overflow_sub-limit : goal.overflow_sub-limit
-overflow_sub-limit c =
-    let h = rw c.in-Rule.is at c.find.ensures in
-    omega (arith, h.0.end, c.length.ensures)
+    (p.0, root_found p.0 p.2 c.in-Some.ensures.0, p.1)
 
 pub overflow_sub-limit-2 : goal.overflow_sub-limit-2
 overflow_sub-limit-2 c =
-    rw c.length.ensures (around c.requires.0 (rw c.in-Rule.is at c.find.ensures).0)
+    rw c.length.ensures (around c.requires.0 c.in-Some-find.ensures.0)
 
 pub fill-requires : goal.fill-requires
 fill-requires c =
     let q = c.requires.0 in
-    let h = rw c.in-Rule.is at c.find.ensures in (
+    let h = c.in-Some-find.ensures in (
       fillable q h.0 c.right_side-at.ensures.0,
       q.sized,
       h.1,
       omega arith,
     )
 
-pub returns-in-Fits : goal.returns-in-Fits
-returns-in-Fits c =
-    let z = rw c.in-Fits.is at c.fill.ensures in
+pub returns-in-Some-fill : goal.returns-in-Some-fill
+returns-in-Some-fill c =
+    let z = c.in-Some-fill.ensures in
     record {
-      is = picks c.requires.0 (rw c.in-Rule.is at c.find.ensures).0 c.right_side-at.ensures.0 (rw c.length.ensures) c.args.p c.args.l
-          (search rules) z;
+      is = picks c.requires.0 c.in-Some-find.ensures.0 c.right_side-at.ensures.0 (rw c.length.ensures) c.args.p c.args.l
+          c.if-p-l.false z;
       long = z.long;
     }
 
-pub returns-in-Over : goal.returns-in-Over
-returns-in-Over c =
-    let z = rw c.in-Over.is at c.fill.ensures in
+pub returns-in-None : goal.returns-in-None
+returns-in-None c =
+    let z = c.in-None.ensures in
     record {
-      is = fills c.requires.0 (rw c.in-Rule.is at c.find.ensures).0 c.right_side-at.ensures.0 (rw c.length.ensures) c.args.p c.args.l
-          (search rules) z;
+      is = fills c.requires.0 c.in-Some-find.ensures.0 c.right_side-at.ensures.0 (rw c.length.ensures) c.args.p c.args.l
+          c.if-p-l.false z;
       long = z.long;
     }
