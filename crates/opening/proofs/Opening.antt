@@ -18,7 +18,8 @@ use Rattle.book.specs.declared.Book as B
 use Rattle.parking.specs.Form.{read_run, read_fields}
 use Rattle.point.specs.Saved.{Arrays, saved}
 use Rattle.opening.specs.Promises.{Part, read_part, OfBook, RunOpened, book_in, day_of, OpenedAs}
-use Rattle.opening.specs.declared.Opened as D
+use Rattle.opening.specs.declared.Opened.{Opened}
+use Rattle.std.specs.Prelude.{Option, Some, None}
 
 -- the tables that were read
 pub of_book : {bytes operators rules : List ℕ} {d n : ℕ} → BookAt bytes d operators rules (B.Book.Read n) → OfBook operators n (book_of bytes rules)
@@ -60,7 +61,7 @@ module _ (part : List ℕ) (h : 4 ≤ length part) (m : ℕ) (e : m ≡ number 0
       ∙ ap₂ (λ (k : ℕ) (xs : List ℕ). with_book k (day_of part) xs) (sym e) (drop-drop 2 2 part)
 
   -- the bytes end before the book does
-  pub cut_short : {operators rules : List ℕ} {a : Arrays} → length part < 4 + m → OpenedAs part operators rules a D.Opened.Broken
+  pub cut_short : {operators rules : List ℕ} {a : Arrays} → length part < 4 + m → OpenedAs part operators rules a None
   cut_short l = record {
     is = λ y f.
         let (r, g, _) = bind_accepted (read_bytes m) (λ book. with_fields book (day_of part)) (drop 4 part) y (sym front ∙ f) in
@@ -87,7 +88,7 @@ module _ (part : List ℕ) (h : 4 ≤ length part) (m : ℕ) (e : m ≡ number 0
     fields_accepted y f = let (r, g, _) = bind_accepted (read_fields book day) (λ S. return (with_saved book day S)) rest y (sym book_there ∙ f) in (r, g)
 
     -- the bytes are no book
-    pub book_refused : {operators rules : List ℕ} {a : Arrays} {d k : ℕ} → BookAt book d operators rules (B.Book.Refused k) → OpenedAs part operators rules a D.Opened.Broken
+    pub book_refused : {operators rules : List ℕ} {a : Arrays} {d k : ℕ} → BookAt book d operators rules (B.Book.Refused k) → OpenedAs part operators rules a None
     book_refused b = record {
       is = λ y f.
           let (r, g) = fields_accepted y f in
@@ -103,18 +104,18 @@ module _ (part : List ℕ) (h : 4 ≤ length part) (m : ℕ) (e : m ≡ number 0
       fields_are xs = rw b.is.0.read (ap (λ (k : ℕ). read_run (on_day k (any_book book)) xs) (sym (b.is.1 ∙ on)))
 
       -- and the run behind it is opened
-      pub run_behind : {a : Arrays} (r : D.Opened) → RunOpened part operators m n a r → OpenedAs part operators rules a r
-      run_behind {a} (D.Opened.Run x k) q =
+      pub run_behind : {a : Arrays} (r : Option Opened) → RunOpened part operators m n a r → OpenedAs part operators rules a r
+      run_behind {a} (Some o) q =
           let (f, s, g) = q.is (book_of book rules) (of_book b) in
-          subst (λ (i : ℕ). OpenedAs part operators rules a (D.Opened.Run x i)) (sym g) (record {
+          subst (λ (i : ℕ). OpenedAs part operators rules a (Some (record { numbers = o.numbers; book = i }))) (sym g) (record {
             is = record {
               inside = l;
-              is = book_there ∙ bind_return (read_fields book day) (λ S. return (with_saved book day S)) rest [] (saved x a) (fields_are rest ∙ f);
+              is = book_there ∙ bind_return (read_fields book day) (λ S. return (with_saved book day S)) rest [] (saved o.numbers a) (fields_are rest ∙ f);
               tables = b.is.0;
               day_is = b.is.1 ∙ on;
               standing = s;
             };
           })
-      run_behind D.Opened.Broken q = record {
+      run_behind None q = record {
         is = λ y f. let (r, g) = fields_accepted y f in q.is (book_of book rules) (of_book b) r (sym (fields_are rest) ∙ g);
       }

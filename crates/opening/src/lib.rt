@@ -11,11 +11,11 @@ use book::Book;
 use point::Numbers;
 use point_reader::Loaded;
 
-// The run's numbers and the length of its book; or that the bytes break a rule.
-#[derive(Drop)]
-pub enum Opened {
-    Run(Numbers, usize),
-    Broken,
+// A run's numbers and the length of its book.
+#[derive(Clone, Copy)]
+pub struct Opened {
+    pub numbers: Numbers,
+    pub book: usize,
 }
 
 // Are the bits from position at on to the next whole byte 0?
@@ -33,7 +33,7 @@ fn padded(bytes: &[u8], at: usize) -> bool
     }
 }
 
-// The run behind the book, which has m bytes and n operators.
+// The run behind the book, which has m bytes and n operators; none if the bytes break a rule.
 fn open_run(
     part: &[u8],
     m: usize,
@@ -43,27 +43,26 @@ fn open_run(
     work: &mut [u8],
     cells: &mut [u32; 8],
     order: &mut [u16; 1024],
-) -> Opened
+) -> Option<Opened>
     requires { C.Room part.now operators.now symbols.old order.old (store work.old cells.old) × C.BookRead part.now operators.now m n }
     ensures { C.RunOpened part.now operators.now m n
         (arrays symbols.new work.new cells.new order.new) result }
 {
     match point_reader::load(part, (4 + m) * 8, n, operators, symbols, work, cells, order) {
-        Loaded::None => Opened::Broken,
-        Loaded::Saved(x, next) => {
+        Loaded::None => None,
+        Loaded::Saved(numbers, next) => {
             if !padded(part, next) {
-                return Opened::Broken;
+                return None;
             }
-            if point_rules::meets(operators, symbols, work, cells, order, x) {
-                Opened::Run(x, m)
-            } else {
-                Opened::Broken
-            }
+            point_rules::meets(operators, symbols, work, cells, order, numbers).then_some(Opened {
+                numbers,
+                book: m,
+            })
         }
     }
 }
 
-// The part of a slot behind the name: two bytes, the book's length; two bytes, the day; the book; the run's fields.
+// The part of a slot behind the name: two bytes, the book's length; two bytes, the day; the book; the run's fields. None if they break a rule.
 pub fn open(
     part: &[u8],
     operators: &mut [u8; 4352],
@@ -72,19 +71,15 @@ pub fn open(
     work: &mut [u8],
     cells: &mut [u32; 8],
     order: &mut [u16; 1024],
-) -> Opened
+) -> Option<Opened>
     requires { C.Room part.now operators.old symbols.old order.old (store work.old cells.old) }
     ensures { C.OpenedAs part.now operators.new rules.new
         (arrays symbols.new work.new cells.new order.new) result }
 {
     let m = stream::pair(part, 0);
-    let end = 4 + m;
-    if part.len() < end {
-        return Opened::Broken;
-    }
-    let day = casts::short(stream::pair(part, 2));
-    match book::read_book(&part[4..end], day, operators, rules) {
-        Book::Refused(_) => Opened::Broken,
+    let day = stream::pair(part, 2) as u16;
+    match book::read_book(part.get(4..4 + m)?, day, operators, rules) {
+        Book::Refused(_) => None,
         Book::Read(n) => open_run(part, m, n, operators, symbols, work, cells, order),
     }
 }

@@ -1,5 +1,5 @@
 -- `opening::open_run` meets its contract, by the laws of Behind. Assumes nothing.
-use Rattle.opening.proofs.Behind.{none_loaded, of_point, not_padded, not_kept, kept}
+use Rattle.opening.proofs.Behind.{none_loaded, of_point, not_padded, told}
 use Rattle.opening.proofs.open_run.Goals as goal
 
 pub returns-then-not-padded : goal.returns-then-not-padded
@@ -17,18 +17,7 @@ returns-in-None c =
     let b = c.requires.1 in
     record { is = λ B o. none_loaded o _ b.inside (rw c.in-None.is at c.load.ensures) }
 
-pub returns-then-meets : goal.returns-then-meets
-returns-then-meets c =
+pub returns-else-not-padded : goal.returns-else-not-padded
+returns-else-not-padded c =
     let b = c.requires.1 in
-    record {
-      is = λ B o.
-          kept o _ b.inside (rw c.in-Saved.is at c.load.ensures) c.padded.ensures c.meets.ensures c.if-not-padded.false c.if-meets.true;
-    }
-
-pub returns-else-meets : goal.returns-else-meets
-returns-else-meets c =
-    let b = c.requires.1 in
-    record {
-      is = λ B o.
-          not_kept o _ b.inside (rw c.in-Saved.is at c.load.ensures) c.padded.ensures c.meets.ensures c.if-not-padded.false c.if-meets.false;
-    }
+    record { is = λ B o. told o _ b.inside (rw c.in-Saved.is at c.load.ensures) c.padded.ensures c.meets.ensures c.if-not-padded.false _ c.then_some.ensures }

@@ -13,7 +13,7 @@ pub park_term-requires : goal.park_term-requires
 park_term-requires c =
     let is = rw c.in-Read.is at c.read_book.ensures.is in
     let t = rw c.in-Read-read_term.is at (by_tables is.0 is.2 c.read_term.ensures) in record {
-      framed = framed_as c.index.ensures.0 c.requires;
+      framed = framed_as c.from.ensures c.requires;
       loaded = record { tables = is.0; day = omega (arith, is.1, c.ranges); given = t.given };
       budget_bound = (omega (arith, c.ranges), sym is.1);
     }
@@ -32,5 +32,5 @@ pub returns-in-Read-read_term : goal.returns-in-Read-read_term
 returns-in-Read-read_term c =
     let is = rw c.in-Read.is at c.read_book.ensures.is in
     let t = rw c.in-Read-read_term.is at (by_tables is.0 is.2 c.read_term.ensures) in
-    let u = c.index.ensures.0 in
+    let u = c.from.ensures in
     as_asked u is.1 (parked_alike _ _ _ _ (framed_as u c.requires) is.0 t (as_asked refl (sym is.1) c.park_term.ensures))
