@@ -6,6 +6,7 @@ use native.Mathlib.Omega.{arith}
 use lib.ListN.{length, take, drop, length-append, length-drop, drop_of_length-le}
 use lib.Seq.{append_snoc, length-take-le}
 use borrow.Author.Tests.{le-leb, lt-leb, eq-eqb, ne_eqb, lt-ltb, le-ltb}
+use Rattle.std.proofs.Common.{Ok, Err}
 use Rattle.paper.specs.Result.{Result, accepted}
 use Rattle.paper.specs.Sound.{All}
 use Rattle.paper.specs.Page.{LineReader}
@@ -16,7 +17,6 @@ use Rattle.records.specs.Record.{longest}
 use Rattle.batch.specs.Lines.{lines_of, taken, Stop, done, stop_of}
 use Rattle.batch.specs.Spec as B
 use Rattle.batch.specs.Promises.{Open, GoesOn, record_in, RanBy, LineDone, Upto, those, AllDone}
-use Rattle.batch.specs.declared.Next as N
 use Rattle.batch.specs.declared.Stop as S
 use Rattle.stream.proofs.Puts.{put_none, put_as, put_both}
 use Rattle.batch.proofs.Splitting.{lines_empty}
@@ -94,7 +94,7 @@ module _ {read : LineReader} {book net : List ℕ} {l : Limits} {schedule : List
     few = omega (arith, few_lines u.front, u.counted, u.taken_are)
 
     -- by a work area of the same length, whatever it holds
-    pub one_more : {work' : ℕ} {answers' : List ℕ} {next' : ℕ} (end : ℕ) → GoesOn lines at (length answers - next) (N.Next.Line end) → work' ≡ work →
+    pub one_more : {work' : ℕ} {answers' : List ℕ} {next' : ℕ} (end : ℕ) → GoesOn lines at (length answers - next) (Ok end) → work' ≡ work →
         LineDone read book net l schedule work' (take (end - (at + 2)) (drop (at + 2) lines)) answers answers' next next' →
         Upto read book net l schedule work lines answers₀ answers' (count + 1) end next'
     one_more {answers' = answers'} {next' = next'} end g same done' =
@@ -144,7 +144,7 @@ module _ {read : LineReader} {book net : List ℕ} {l : Limits} {schedule : List
           ran = subst (All (RanBy read book net l schedule work)) z u.ran;
         }
 
-    pub stopped : (s : S.Stop) → GoesOn lines at (length answers - next) (N.Next.None s) → Stopped s
+    pub stopped : (s : S.Stop) → GoesOn lines at (length answers - next) (Err s) → Stopped s
     stopped S.Stop.End g =
         let e : lines_of (drop at lines) ≡ [] = ap lines_of (drop_of_length-le lines {i = at} (omega (arith, g))) ∙ lines_empty in
         stopped_with S.Stop.End (ap (done (record_in read book net l schedule work) (length answers₀ - next)) e ∙ done_none _ _)

@@ -1,5 +1,5 @@
 -- What the functions behind the entry points ask of each other. Assumes nothing.
-use Rattle.std.specs.Prelude.{true, List, [], ◌∷◌, ◌++◌, ◌≡◌, ℕ, ◌+◌, ◌-◌, ◌^◌, ◌≤◌, ◌<◌, length, take, drop}
+use Rattle.std.specs.Prelude.{true, List, [], ◌∷◌, ◌++◌, ◌≡◌, ℕ, ◌+◌, ◌-◌, ◌^◌, ◌≤◌, ◌<◌, length, take, drop, Result as Outcome, Ok, Err}
 use Rattle.paper.specs.Result.{Result, accepted}
 use Rattle.paper.specs.Book.{Term}
 use Rattle.paper.specs.Line.{symbol_limit}
@@ -18,7 +18,7 @@ use Rattle.batch.specs.Lines.{lines_of, taken, Stop, done}
 use Rattle.batch.specs.Spec as B
 use Rattle.batch.specs.declared.Batch as D
 use Rattle.batch.specs.declared.Done.{Done}
-use Rattle.batch.specs.declared.Next as N
+use Rattle.batch.specs.declared.Stop as S
 
 -- an open book of n operators, and the frame of a run
 pub record Open (book : List ℕ) (n : ℕ) (operators net : List ℕ) (l : Limits) (work : ℕ) : Type 0 where
@@ -39,11 +39,11 @@ Stops lines at left Stop.cut = (at < length lines) × (lines_of (drop at lines) 
 Stops lines at left Stop.room = (at < length lines) × (left < longest) × (0 < length (lines_of (drop at lines)))
 
 -- at a position, with so many bytes left: the next line's end, where it is whole and the longest record would fit; or why it isn't done
-abbrev pub GoesOn : List ℕ → ℕ → ℕ → N.Next → Type 0
-GoesOn lines at left (N.Next.Line end) =
+abbrev pub GoesOn : List ℕ → ℕ → ℕ → Outcome ℕ S.Stop → Type 0
+GoesOn lines at left (Ok end) =
     (at + 2 ≤ end) × (end ≤ length lines) × (longest ≤ left)
     × (lines_of (drop at lines) ≡ take (end - (at + 2)) (drop (at + 2) lines) ∷ lines_of (drop end lines))
-GoesOn lines at left (N.Next.None s) = Stops lines at left (B.stop s)
+GoesOn lines at left (Err s) = Stops lines at left (B.stop s)
 
 -- by the day of the net
 module _ (read : LineReader) (book net : List ℕ) (l : Limits) (schedule : List ℕ) (work : ℕ) where

@@ -17,15 +17,15 @@ use text::Text;
 use whole::Limits;
 
 // Why no more lines were done: there are none, the next is cut short, or the longest record would not fit.
-#[derive(Drop)]
+#[derive(Clone, Copy, Debug, PartialEq, Eq)]
 pub enum Stop {
-    End,
-    Cut,
-    Room,
+    End = 0,
+    Cut = 1,
+    Room = 2,
 }
 
 // How many lines were done, how many bytes of the lines those are, how many bytes of records they got, and why no more.
-#[derive(Drop)]
+#[derive(Clone, Copy, Debug, PartialEq, Eq)]
 pub struct Done {
     pub lines: usize,
     pub read: usize,
@@ -34,36 +34,27 @@ pub struct Done {
 }
 
 // The refusal's number of frame or book, or what was done.
-#[derive(Drop)]
+#[derive(Clone, Copy, Debug, PartialEq, Eq)]
 pub enum Batch {
     Refused(u8),
     Done(Done),
 }
 
-// The position behind the next line, or why it isn't done.
-#[derive(Drop)]
-enum Next {
-    Line(usize),
-    None(Stop),
-}
-
-// The line at a position, where so many bytes are left for records.
-fn next_line(lines: &[u8], at: usize, left: usize) -> Next
+// The position behind the line at a position, where so many bytes are left for records, or why it isn't done.
+fn next_line(lines: &[u8], at: usize, left: usize) -> Result<usize, Stop>
     requires { at ≤ length lines.now }
     ensures { C.GoesOn lines.now at left result }
 {
     if lines.len() <= at {
-        return Next::None(Stop::End);
+        return Err(Stop::End);
     }
-    match stream::part_end(lines, at) {
-        None => Next::None(Stop::Cut),
-        Some(end) => {
-            if left < records::LONGEST {
-                return Next::None(Stop::Room);
-            }
-            Next::Line(end)
-        }
+    let Some(end) = stream::part_end(lines, at) else {
+        return Err(Stop::Cut);
+    };
+    if left < records::LONGEST {
+        return Err(Stop::Room);
     }
+    Ok(end)
 }
 
 // A line by an open book of n operators, its record at a position; the position behind it. Every entry of the schedule names one of the units, or not.
@@ -131,7 +122,7 @@ fn answer_lines(
     let mut written = 0;
     loop {
         match next_line(lines, read, answers.len() - written) {
-            Next::None(stop) => {
+            Err(stop) => {
                 return Done {
                     lines: count,
                     read,
@@ -139,7 +130,7 @@ fn answer_lines(
                     stop,
                 };
             }
-            Next::Line(end) => {
+            Ok(end) => {
                 let start = read + 2;
                 written = answer_line(
                     form,

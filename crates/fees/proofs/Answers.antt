@@ -1,33 +1,34 @@
 -- The code's answers against the definition's, check by check. Assumes nothing.
-use mathlib.Core.Bool.{true, false, true≢false}
+use mathlib.Core.Bool.{true, false}
 use mathlib.Core.List.{List, ◌++◌}
 use mathlib.Core.Option.{Option, none, some}
-use mathlib.Core.Path.{◌≡◌, refl, sym, ap, ◌∙◌}
+use mathlib.Core.Path.{◌≡◌, refl, ap, ◌∙◌}
 use Prim.Native.Nat.{ℕ, ◌≤◌, ◌<◌}
 use native.Mathlib.Omega.{arith}
-use lib.IntN.{ℤ, pos, negsuc, nat_abs, ◌-ℤ◌}
+use lib.IntN.{ℤ, nat_abs, ◌-ℤ◌}
 use lib.ListN.{length, drop}
-use lib.Signed.{lt_z}
 use mir.Syntax.{w64}
 use mir.Val.{SFits}
 use Rattle.paper.specs.Result.{Result, refused, accepted}
-use Rattle.paper.proofs.Tests.{ltb_true, ltb_false, ltb_less}
+use Rattle.std.specs.Prelude.{Ok, Err}
+use Rattle.refusal.specs.Numbers.{number}
+use Rattle.refusal.specs.declared.Refusal.{Refusal}
+use Rattle.paper.proofs.Tests.{ltb_true, ltb_false}
 use Rattle.fees.specs.Fees.{fee, net_of, part, parts, root_rate, are_shares, Charge, charge_by, charge}
 use Rattle.fees.specs.Spec.{ChargedAs}
 use Rattle.fees.specs.Promises.{InRange, Splits}
-use Rattle.fees.specs.declared.Charged as D
 use Rattle.fees.proofs.Signs.{sign_size}
 use Rattle.fees.proofs.Sizes.{net_is}
-use Rattle.fees.proofs.Laws.{shared, length_listed, ltb_not_less}
+use Rattle.fees.proofs.Laws.{shared, length_listed}
 use Rattle.fees.proofs.Values.{kept, kept_as, fits_size, fee_kept}
 
 -- A REFUSAL, A CHARGE
 
-pub refused_as : {of : Result Charge} {l : List ℤ} {k : ℕ} → of ≡ refused k → ChargedAs of l l (D.Charged.Refused k)
+pub refused_as : {of : Result Charge} {l : List ℤ} {k : Refusal} → of ≡ refused (number k) → ChargedAs of l l (Err k)
 refused_as e = rw e (record { answer = refl; unchanged = λ k h. refl; written = λ C h. let z : ◌≡◌ {A = ℕ} 0 1 = cc in absurd (omega arith) })
 
 pub charged_as : {of : Result Charge} {l l' : List ℤ} {f : ℤ} {C : Charge} → of ≡ accepted C → f ≡ C.fee → l' ≡ C.parts ++ drop (length C.parts) l →
-    ChargedAs of l l' (D.Charged.Fee f)
+    ChargedAs of l l' (Ok f)
 charged_as {l = l} {l' = l'} {C = C} e f w =
     rw e (record {
       answer = ap accepted f;
@@ -80,28 +81,10 @@ module _ (amount : ℤ) (k : ℕ) (r : InRange amount k) where
 
 -- BY THE AMOUNT
 
-low : (amount : ℤ) → lt_z amount (negsuc 999999999999) ≡ true → 1000000000000 < nat_abs amount
-low (pos n) t = absurd (true≢false (sym t))
-low (negsuc n) t = omega (arith, ltb_less 999999999999 n t)
-
-high : (amount : ℤ) → lt_z (pos 1000000000000) amount ≡ true → 1000000000000 < nat_abs amount
-high (pos n) t = ltb_less 1000000000000 n t
-high (negsuc n) t = absurd (true≢false (sym t))
-
-pub within : (amount : ℤ) → lt_z amount (negsuc 999999999999) ≡ false → lt_z (pos 1000000000000) amount ≡ false → nat_abs amount ≤ 1000000000000
-within (pos n) t u = ltb_not_less 1000000000000 n u
-within (negsuc n) t u = omega (arith, ltb_not_less 999999999999 n t)
-
 module _ (term table : List ℕ) (amount : ℤ) (ss : List ℕ) where
-  outside : 1000000000000 < nat_abs amount → charge term table amount ss ≡ refused 22
+  pub outside : 1000000000000 < nat_abs amount → charge term table amount ss ≡ refused 22
   unfolding charge
   outside h = rw (ltb_true 1000000000000 (nat_abs amount) h)
-
-  pub too_low : lt_z amount (negsuc 999999999999) ≡ true → charge term table amount ss ≡ refused 22
-  too_low t = outside (low amount t)
-
-  pub too_high : lt_z (pos 1000000000000) amount ≡ true → charge term table amount ss ≡ refused 22
-  too_high t = outside (high amount t)
 
   pub inside : nat_abs amount ≤ 1000000000000 → charge term table amount ss ≡ charge_by (root_rate term table) amount ss
   unfolding charge

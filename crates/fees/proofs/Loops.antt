@@ -10,9 +10,12 @@ use native.Mathlib.Omega.{arith}
 use lib.Dec.{eqb, ltb}
 use lib.IntN.{ℤ, neg_ℤ, nat_abs, ◌+ℤ◌, ◌-ℤ◌, neg_ℤ-+ℤ, +ℤ_assoc, +ℤ_idr}
 use lib.ListN.{length, get_or, take, drop, set, get_or-append}
+use mir.Facts.{to_z-of_z}
 use mir.Syntax.{w64}
 use mir.Val.{SFits}
 use lib.Seq.{take-suc, take_all, drop-cons, set_at, append_snoc}
+use Rattle.std.specs.List.{sum as sum_of}
+use Rattle.std.proofs.lemmas.Grind.{common_steps}
 use Rattle.paper.specs.Result.{if}
 use Rattle.paper.specs.Page.{number}
 use Rattle.paper.proofs.Tests.{ltb_true, ltb_false}
@@ -26,18 +29,10 @@ use Rattle.fees.proofs.Values.{kept, kept_as, fits_size, cut_back, cents_fit}
 
 -- SHARES
 
-total_append : (xs ys : List ℕ) → total (xs ++ ys) ≡ total xs + total ys
+pub total_sum : (ss : List ℕ) → total ss ≡ sum_of ss
 unfolding total
-total_append [] ys = omega arith
-total_append (x ∷ xs) ys = omega (arith, total_append xs ys)
-
-pub total_next : (ss : List ℕ) (i : ℕ) → i < length ss → total (take (i + 1) ss) ≡ total (take i ss) + get_or ss i 0
-unfolding total
-total_next ss i l = rw (add-one i, take-suc ss i 0 l) (omega (arith, total_append (take i ss) (get_or ss i 0 ∷ [])))
-
-pub total_none : (ss : List ℕ) → 0 ≡ total (take 0 ss)
-unfolding total
-total_none ss = refl
+total_sum [] = refl
+total_sum (s ∷ ss) = grind (arith, common_steps, total_sum ss)
 
 total_front : (ss : List ℕ) (i : ℕ) → total (take i ss) ≤ total ss
 unfolding total
@@ -52,6 +47,10 @@ share_small [] zero = omega arith
 share_small [] (suc i) = omega arith
 share_small (s ∷ ss) zero = omega arith
 share_small (s ∷ ss) (suc i) = omega (arith, share_small ss i)
+
+-- the parameter as it is kept
+pub splits : {n : ℤ} {ss : List ℕ} → SFits w64 n → Splits n ss → Splits (kept n) ss
+splits f s = rw (to_z-of_z f) s
 
 pub in_range : (net : ℤ) (ss : List ℕ) (i : ℕ) → Splits net ss → InRange net (get_or ss i 0)
 in_range net ss i s = record { size = s.size; factor = omega (arith, share_small ss i, s.whole) }

@@ -4,11 +4,11 @@ use mathlib.Core.Path.{◌≡◌, refl, sym, ap, ◌∙◌}
 use Prim.Native.Nat.{ℕ, zero, suc, ◌+◌, ◌*◌, ◌/◌, ◌%◌, ◌^◌, ◌≤◌, ◌<◌}
 use native.Mathlib.Nat.{div-le_self, mod-le}
 use native.Mathlib.Omega.{arith}
-use lib.Dec.{T, le→leb}
+use lib.Dec.{le→leb}
 use lib.IntN.{ℤ, pos, negsuc, neg_ℤ, nat_abs, ◌+ℤ◌, ◌-ℤ◌, ◌*ℤ◌, +ℤ_idl, +ℤ_idr, +ℤ_one, -ℤ_one, neg_ℤ-neg_ℤ, suc_ℤ, pred_ℤ}
-use lib.Signed.{lt_z, non_neg, quot_z, rem_z, ◌≤ℤ◌}
+use lib.Signed.{lt_z, quot_z, rem_z, ◌≤ℤ◌}
 use mir.Syntax.{w64}
-use mir.Val.{SFits, Fits, to_z, of_z}
+use mir.Val.{SFits, to_z, of_z}
 use mir.Facts.{to_z-of_z}
 use Rattle.paper.specs.Result.{if}
 use Rattle.paper.proofs.Tests.{ltb_less}
@@ -40,29 +40,6 @@ module _ {x y : ℤ} (p : y ≡ x) (h : nat_abs x < 2 ^ 63) where
 
   pub turned_kept : kept (pos 0 -ℤ y) ≡ neg_ℤ x
   turned_kept = kept_as (ap (λ (z : ℤ). pos 0 -ℤ z) p ∙ less_zero x) (fits_size (neg_ℤ x) (rw (size_turned x) h))
-
-negative : (x : ℤ) → lt_z x (pos 0) ≡ true → neg_ℤ x ≡ pos (nat_abs x)
-negative (pos n) t = absurd (omega (arith, ltb_less n 0 t))
-negative (negsuc n) t = refl
-
-pub not_negative : (x : ℤ) → lt_z x (pos 0) ≡ false → x ≡ pos (nat_abs x)
-not_negative (pos n) t = refl
-not_negative (negsuc n) t = absurd (true≢false t)
-
-module _ {x y : ℤ} (p : y ≡ x) where
-  pub size_below : lt_z y (pos 0) ≡ true → nat_abs x < 2 ^ 63 → kept (pos 0 -ℤ y) ≡ pos (nat_abs x)
-  size_below t h = turned_kept p h ∙ negative x (rw p at t)
-
-  pub size_above : lt_z y (pos 0) ≡ false → y ≡ pos (nat_abs x)
-  size_above t = p ∙ not_negative x (rw p at t)
-
--- a size as an unsigned number
-module _ {v : ℤ} (n : ℕ) (e : v ≡ pos n) (h : n < 2 ^ 63) where
-  pub size_casts : T (non_neg (kept v)) × Fits w64 (nat_abs (kept v))
-  size_casts = rw (kept_as e (fits_size (pos n) h)) (tt, record { fits = omega arith })
-
-  pub size_cast : nat_abs (kept v) ≡ n
-  size_cast = ap nat_abs (kept_as e (fits_size (pos n) h))
 
 -- PRODUCTS
 

@@ -1,8 +1,7 @@
 -- What the functions behind the entry point ask of each other. Assumes nothing.
-use Rattle.std.specs.Prelude.{List, ◌++◌, ◌≡◌, ℕ, ◌≤◌, ℤ, nat_abs, length, drop}
-use Rattle.std.proofs.Math.Option.{Option, none, some}
+use Rattle.std.specs.Prelude.{List, ◌++◌, ◌≡◌, ℕ, ◌≤◌, ℤ, nat_abs, length, drop, Option, Some, None}
+use Rattle.std.proofs.Math.Option.{Option as Maybe, none, some}
 use Rattle.fees.specs.Fees.{left, rest_of, listed, total}
-use Rattle.fees.specs.declared.Rate as D
 
 -- an amount in its range, with a rate or a share
 pub record InRange (amount : ℤ) (k : ℕ) : Type 0 where
@@ -19,8 +18,7 @@ pub record Splits (net : ℤ) (shares : List ℕ) : Type 0 where
 pub record Remaining (net : ℤ) (shares rests rests' : List ℕ) (r : ℕ) : Type 0 where
   pub cents : r ≡ left net shares
   pub written : rests' ≡ listed (rest_of net shares) (length shares) ++ drop (length shares) rests
-  pub long : length rests' ≡ 16
 
-abbrev pub rate : D.Rate → Option ℕ
-rate D.Rate.Missing = none
-rate (D.Rate.Of n) = some n
+abbrev pub rate : Option ℕ → Maybe ℕ
+rate None = none
+rate (Some n) = some n

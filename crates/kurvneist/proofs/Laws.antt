@@ -1,13 +1,12 @@
--- Arrays that are written whole, and what is handed out of an answer; 6 never is (document 02, Change 4). Assumes nothing.
-use mathlib.Core.List.{List, [], ◌∷◌, ◌++◌, append-nil}
+-- What is handed out of an answer; 6 never is (document 02, Change 4). Assumes nothing.
+use mathlib.Core.List.{List}
 use mathlib.Core.Logic.{inl, inr, ◌≢◌}
 use mathlib.Core.Option.{Option, none, some}
 use mathlib.Core.Path.{◌≡◌, refl, sym, ap, ◌∙◌, subst}
-use Prim.Native.Nat.{ℕ, ◌+◌}
+use Prim.Native.Nat.{ℕ}
 use native.Mathlib.Omega.{arith}
 use lib.IntN.{ℤ}
-use lib.ListN.{length, set, drop_of_length-le}
-use lib.Seq.{sets, sets-eq}
+use lib.ListN.{length}
 use Rattle.paper.specs.Result.{Result, refused, accepted, then}
 use Rattle.paper.specs.Dated.{read_any}
 use Rattle.paper.specs.Line.{read_line}
@@ -24,24 +23,14 @@ use Rattle.batch.specs.Spec.{done_by}
 use Rattle.batch.specs.declared.Batch as D
 use Rattle.bound.specs.Spec as N
 use Rattle.bound.specs.declared.Bound as O
-use Rattle.fees.specs.Spec as F
-use Rattle.fees.specs.declared.Charged as G
 use Rattle.points.specs.Spec as P
 use Rattle.settlement.specs.Spec as S
 use Rattle.settlement.specs.declared.Settled as T
-use Rattle.writer.specs.Spec.{Answers}
 use Rattle.writer.specs.declared.Written as W
 use Rattle.writer.proofs.Laws.{write_not_six}
 use Rattle.settlement.proofs.Laws.{line_not_six, payee_settled_not_six as payee_not_six_settled}
 use Rattle.bound.proofs.Laws.{line_not_six as line_bound_not_six, text_not_six as text_bound_not_six}
 use Rattle.kurvneist.specs.Spec as X
-
--- an array of just as many numbers, stored one after another
-pub whole : {A : Type 0} (l vs : List A) → length l ≡ length vs → sets l 0 vs ≡ vs
-whole l vs h =
-    sets-eq vs l 0 (omega arith)
-    ∙ ap (λ r. vs ++ r) (drop_of_length-le l {i = 0 + length vs} (omega arith))
-    ∙ append-nil vs
 
 -- a run's answer as numbers
 pub reduced : {read : LineReader} {book line : List ℕ} {units budget day : ℕ} {schedule work net output work' net' output' answer' : List ℕ} {n : ℕ}
@@ -83,18 +72,6 @@ pub bound_told : {read : LineReader} {book line : List ℕ} {budget day : ℕ} {
     X.BoundInNumbersBy read book line budget day work net work' net' answer' n
 bound_told {r = r} q e =
     record { number = e.0 ∙ ap X.refusal q.answer; values = e.1 ∙ ap X.bound_numbers q.answer; answer = r; buffers = q }
-
--- the writer's
-pub wrote : {book output output' : List ℕ} (r : W.Written) (l : List ℕ) → Answers book output output' r → length l ≡ 1 →
-    X.WroteInNumbers book output output' (set l 0 (X.written_length r)) (X.written_refusal r)
-wrote r l q h = record { answer = r; is = q; number = refl; length = whole l (X.written_length r ∷ []) h }
-
--- a charge as numbers
-pub charged_told : {term table : List ℕ} {amount : ℤ} {ss : List ℕ} {parts parts' fee' : List ℤ} {n : ℕ} (r : G.Charged) →
-    F.ChargedBy term table amount ss parts parts' r → n ≡ X.refusal (F.told r) → fee' ≡ X.fee_number (F.told r) ∷ [] →
-    X.ChargedInNumbers term table amount ss parts parts' fee' n
-charged_told r q e f =
-    record { number = e ∙ ap X.refusal q.answer; fee = f ∙ ap (λ (x : Result ℤ). X.fee_number x ∷ []) q.answer; answer = r; buffers = q }
 
 -- a run and its charge as numbers
 pub settled_told : {read : LineReader} {book line : List ℕ} {units budget day : ℕ} {schedule rates : List ℕ} {amount : ℤ} {ss output : List ℕ} {parts : List ℤ}

@@ -1,6 +1,6 @@
 -- The exported functions: a refusal's number or 0, and the values of an answer as numbers in an array (document 01, 'What is checked where': a
 -- refusal answers its number with zeros for all else; document 02, Changes 12 to 14). Assumes nothing.
-use Rattle.std.specs.Prelude.{List, [], ◌∷◌, ◌≡◌, ℕ, ℤ, pos, length}
+use Rattle.std.specs.Prelude.{List, [], ◌∷◌, ◌≡◌, ℕ, ℤ, pos, length, Result as Outcome}
 use Rattle.std.proofs.Math.Option.{Option, none, some}
 use Rattle.paper.specs.Result.{Result, refused, accepted}
 use Rattle.paper.specs.Line.{read_line}
@@ -16,7 +16,7 @@ use Rattle.bound.specs.Spec as N
 use Rattle.bound.specs.declared.Bound as O
 use Rattle.fees.specs.Fees.{charge}
 use Rattle.fees.specs.Spec as F
-use Rattle.fees.specs.declared.Charged as G
+use Rattle.refusal.specs.declared.Refusal.{Refusal}
 use Rattle.points.specs.Spec as P
 use Rattle.settlement.specs.Spec as S
 use Rattle.settlement.specs.declared.Settled as T
@@ -147,7 +147,7 @@ pub record ChargedInNumbers (term table : List ℕ) (amount : ℤ) (shares : Lis
   pub number : r ≡ refusal (F.fee_of (charge term table amount shares))
   pub fee : fee' ≡ fee_number (F.fee_of (charge term table amount shares)) ∷ []
   -- what becomes of the lent array, clause by clause
-  pub answer : G.Charged
+  pub answer : Outcome ℤ Refusal
   pub buffers : F.ChargedBy term table amount shares parts parts' answer
 
 -- A RUN AND ITS CHARGE: the run's numbers, the fee, and 1 if there is one

@@ -2,20 +2,18 @@
 // profile, and the published lengths, on numbers and slices of them. A slice is passed as a pointer and a length, an array as a pointer.
 #![tactic(auto)]
 
-ghost use Rattle.std.specs.Prelude.{◌≡◌, ◌∷◌, [], length};
+ghost use Rattle.std.specs.Prelude.{◌≡◌};
 ghost use Rattle.engine.specs.Spec.{published, values};
 ghost use Rattle.parking.specs.Points.{points_length};
 ghost use Rattle.records.specs.Record.{longest};
-ghost use Rattle.batch.specs.Lines.{stop_number};
 ghost use Rattle.batch.specs.Spec as B;
 ghost use Rattle.bound.specs.Spec as N;
 ghost use Rattle.settlement.specs.Spec as S;
 ghost use Rattle.kurvneist.specs.Spec as X;
 
-use batch::{Batch, Stop};
+use batch::Batch;
 use bound::Bound;
 use engine::{Answer, Form};
-use fees::Charged;
 use run::Run;
 use settlement::Settled;
 use strict::Strict;
@@ -45,47 +43,24 @@ pub extern "C" fn kurvneist_output_length() -> usize
     engine::OUTPUT
 }
 
-fn put_numbers(
-    answer: &mut [u64; 6],
-    ending: u64,
-    rewrites: u64,
-    entries: u64,
-    granted: u64,
-    kept: u64,
-    size: u64,
-)
-    requires { length answer.old ≡ 6 }
-    ensures { answer.new ≡ ending ∷ rewrites ∷ entries ∷ granted ∷ kept ∷ size ∷ [] }
-{
-    answer[0] = ending;
-    answer[1] = rewrites;
-    answer[2] = entries;
-    answer[3] = granted;
-    answer[4] = kept;
-    answer[5] = size;
-}
-
 // The refusal's number, or 0. The numbers are ending, rewrites, entries, granted, kept and length, or zeros.
 fn put_answer(a: Answer, answer: &mut [u64; 6]) -> u8
-    requires { length answer.old ≡ 6 }
     ensures { (result ≡ X.refusal (values a)) × (answer.new ≡ X.value_numbers (values a)) }
 {
     match a {
         Answer::Refused(k) => {
-            put_numbers(answer, 0, 0, 0, 0, 0, 0);
+            *answer = [0; 6];
             k
         }
         Answer::Ran(run) => {
-            let e = run.ending;
-            put_numbers(
-                answer,
-                run::ending_number(e) as u64,
+            *answer = [
+                run::ending_number(run.ending) as u64,
                 run.rewrites as u64,
                 run.entries as u64,
                 run.granted as u64,
                 run.kept as u64,
                 run.length as u64,
-            );
+            ];
             0
         }
     }
@@ -105,7 +80,6 @@ pub extern "C" fn kurvneist_reduce(
     output: &mut [u8],
     answer: &mut [u64; 6],
 ) -> u8
-    requires { length answer.old ≡ 6 }
     ensures { X.ReducedInNumbers book.now line.now units budget day schedule.now work.old
         net.old output.old work.new net.new output.new answer.new result }
 {
@@ -127,7 +101,6 @@ pub extern "C" fn kurvneist_payee(
     output: &mut [u8],
     answer: &mut [u64; 6],
 ) -> u8
-    requires { length answer.old ≡ 6 }
     ensures { X.PayeeInNumbers book.now text.now units budget day schedule.now work.old
         net.old output.old work.new net.new output.new answer.new result }
 {
@@ -159,7 +132,6 @@ pub extern "C" fn kurvneist_park(
     output: &mut [u8],
     answer: &mut [u64; 6],
 ) -> u8
-    requires { length answer.old ≡ 6 }
     ensures { X.ParkedInNumbers book.now line.now units budget day schedule.now name.now work.old
         net.old points.old output.old work.new net.new points.new output.new answer.new result }
 {
@@ -196,7 +168,6 @@ pub extern "C" fn kurvneist_park_payee(
     output: &mut [u8],
     answer: &mut [u64; 6],
 ) -> u8
-    requires { length answer.old ≡ 6 }
     ensures { X.PayeeParkedInNumbers book.now text.now units budget day schedule.now name.now work.old
         net.old points.old output.old work.new net.new points.new output.new answer.new result }
 {
@@ -228,7 +199,6 @@ pub extern "C" fn kurvneist_resume(
     output: &mut [u8],
     answer: &mut [u64; 6],
 ) -> u8
-    requires { length answer.old ≡ 6 }
     ensures { X.ResumedInNumbers name.now schedule.now work.old net.old points.old output.old
         work.new net.new points.new output.new answer.new result }
 {
@@ -244,45 +214,22 @@ pub extern "C" fn kurvneist_record_length() -> usize
     records::LONGEST
 }
 
-fn stop_number(s: Stop) -> u64
-    ensures { result ≡ stop_number (B.stop s) }
-{
-    match s {
-        Stop::End => 0,
-        Stop::Cut => 1,
-        Stop::Room => 2,
-    }
-}
-
-fn put_four(done: &mut [u64; 4], lines: u64, read: u64, written: u64, stop: u64)
-    requires { length done.old ≡ 4 }
-    ensures { done.new ≡ lines ∷ read ∷ written ∷ stop ∷ [] }
-{
-    done[0] = lines;
-    done[1] = read;
-    done[2] = written;
-    done[3] = stop;
-}
-
 // The refusal's number, or 0. The numbers are lines done, bytes of the lines, bytes of records and the stop's number, or zeros.
 fn put_done(b: Batch, done: &mut [u64; 4]) -> u8
-    requires { length done.old ≡ 4 }
     ensures { (result ≡ X.refusal (B.values b)) × (done.new ≡ X.done_numbers (B.values b)) }
 {
     match b {
         Batch::Refused(k) => {
-            put_four(done, 0, 0, 0, 0);
+            *done = [0; 4];
             k
         }
         Batch::Done(d) => {
-            let stop = d.stop;
-            put_four(
-                done,
+            *done = [
                 d.lines as u64,
                 d.read as u64,
                 d.written as u64,
-                stop_number(stop),
-            );
+                d.stop as u64,
+            ];
             0
         }
     }
@@ -302,7 +249,6 @@ pub extern "C" fn kurvneist_reduce_lines(
     answers: &mut [u8],
     done: &mut [u64; 4],
 ) -> u8
-    requires { length done.old ≡ 4 }
     ensures { X.LinesInNumbers book.now lines.now units budget day schedule.now work.old
         net.old answers.old work.new net.new answers.new done.new result }
 {
@@ -326,7 +272,6 @@ pub extern "C" fn kurvneist_payee_lines(
     answers: &mut [u8],
     done: &mut [u64; 4],
 ) -> u8
-    requires { length done.old ≡ 4 }
     ensures { X.PayeesInNumbers book.now texts.now units budget day schedule.now work.old
         net.old answers.old work.new net.new answers.new done.new result }
 {
@@ -336,31 +281,21 @@ pub extern "C" fn kurvneist_payee_lines(
     put_done(b, done)
 }
 
-fn put_three(answer: &mut [u64; 3], ending: u64, orders: u64, forks: u64)
-    requires { length answer.old ≡ 3 }
-    ensures { answer.new ≡ ending ∷ orders ∷ forks ∷ [] }
-{
-    answer[0] = ending;
-    answer[1] = orders;
-    answer[2] = forks;
-}
-
 // The refusal's number, or 0. The numbers are the ending of the one-unit run, S and F, or zeros.
 fn put_bound(b: Bound, answer: &mut [u64; 3]) -> u8
-    requires { length answer.old ≡ 3 }
     ensures { (result ≡ X.refusal (N.values b)) × (answer.new ≡ X.bound_numbers (N.values b)) }
 {
     match b {
         Bound::Refused(k) => {
-            put_three(answer, 0, 0, 0);
+            *answer = [0; 3];
             k
         }
         Bound::Unknown(e) => {
-            put_three(answer, run::ending_number(e) as u64, 0, 0);
+            *answer = [run::ending_number(e) as u64, 0, 0];
             0
         }
         Bound::Told(s, f) => {
-            put_three(answer, 0, s as u64, f as u64);
+            *answer = [0, s as u64, f as u64];
             0
         }
     }
@@ -377,7 +312,6 @@ pub extern "C" fn kurvneist_bound(
     net: &mut [u8],
     answer: &mut [u64; 3],
 ) -> u8
-    requires { length answer.old ≡ 3 }
     ensures { X.BoundInNumbers book.now line.now budget day work.old net.old work.new
         net.new answer.new result }
 {
@@ -396,7 +330,6 @@ pub extern "C" fn kurvneist_bound_payee(
     net: &mut [u8],
     answer: &mut [u64; 3],
 ) -> u8
-    requires { length answer.old ≡ 3 }
     ensures { X.PayeeBoundInNumbers book.now text.now budget day work.old net.old work.new
         net.new answer.new result }
 {
@@ -407,26 +340,18 @@ pub extern "C" fn kurvneist_bound_payee(
 // The book's writer: the refusal's number, or 0 and how many bytes are written.
 #[unsafe(no_mangle)]
 pub extern "C" fn kurvneist_write_book(book: &[u8], output: &mut [u8], size: &mut [u64; 1]) -> u8
-    requires { length size.old ≡ 1 }
     ensures { X.WroteInNumbers book.now output.old output.new size.new result }
 {
     match writer::write_book(book, output) {
         Written::Refused(k) => {
-            size[0] = 0;
+            *size = [0];
             k
         }
         Written::Length(n) => {
-            size[0] = n as u64;
+            *size = [n as u64];
             0
         }
     }
-}
-
-fn put_fee(fee: &mut [i64; 1], f: i64)
-    requires { length fee.old ≡ 1 }
-    ensures { fee.new ≡ f ∷ [] }
-{
-    fee[0] = f;
 }
 
 // The charge of an amount, by the rate of the root of a term that was posted: the refusal's number, or 0, and the fee, or 0. The parts stand in front of
@@ -440,48 +365,39 @@ pub extern "C" fn kurvneist_charge(
     parts: &mut [i64; 16],
     fee: &mut [i64; 1],
 ) -> u8
-    requires { (length parts.old ≡ 16) × (length fee.old ≡ 1) }
     ensures { X.ChargedInNumbers term.now rates.now amount shares.now parts.old parts.new
         fee.new result }
 {
     match fees::charge(term, rates, amount, shares, parts) {
-        Charged::Refused(k) => {
-            put_fee(fee, 0);
-            k
+        Err(e) => {
+            *fee = [0];
+            e.number()
         }
-        Charged::Fee(f) => {
-            put_fee(fee, f);
+        Ok(f) => {
+            *fee = [f];
             0
         }
     }
 }
 
-fn put_charged(charged: &mut [u64; 1], n: u64)
-    requires { length charged.old ≡ 1 }
-    ensures { charged.new ≡ n ∷ [] }
-{
-    charged[0] = n;
-}
-
 // The refusal's number, or 0; the run's numbers; the fee, and 1 if there is one.
 fn put_settled(s: Settled, answer: &mut [u64; 6], fee: &mut [i64; 1], charged: &mut [u64; 1]) -> u8
-    requires { (length answer.old ≡ 6) × (length fee.old ≡ 1) × (length charged.old ≡ 1) }
     ensures { X.SettledNumbers (S.values s) answer.new fee.new charged.new result }
 {
     match s {
         Settled::Refused(k) => {
-            put_fee(fee, 0);
-            put_charged(charged, 0);
+            *fee = [0];
+            *charged = [0];
             put_answer(Answer::Refused(k), answer)
         }
         Settled::Ended(run) => {
-            put_fee(fee, 0);
-            put_charged(charged, 0);
+            *fee = [0];
+            *charged = [0];
             put_answer(Answer::Ran(run), answer)
         }
         Settled::Posted(run, f) => {
-            put_fee(fee, f);
-            put_charged(charged, 1);
+            *fee = [f];
+            *charged = [1];
             put_answer(Answer::Ran(run), answer)
         }
     }
@@ -505,7 +421,6 @@ pub extern "C" fn kurvneist_settle(
     fee: &mut [i64; 1],
     charged: &mut [u64; 1],
 ) -> u8
-    requires { (length parts.old ≡ 16) × (length answer.old ≡ 6) × (length fee.old ≡ 1) × (length charged.old ≡ 1) }
     ensures { X.LineSettled book.now line.now units budget day schedule.now rates.now amount
         shares.now output.old parts.old output.new parts.new answer.new fee.new
         charged.new result }
@@ -545,7 +460,6 @@ pub extern "C" fn kurvneist_settle_payee(
     fee: &mut [i64; 1],
     charged: &mut [u64; 1],
 ) -> u8
-    requires { (length parts.old ≡ 16) × (length answer.old ≡ 6) × (length fee.old ≡ 1) × (length charged.old ≡ 1) }
     ensures { X.PayeeSettled book.now text.now units budget day schedule.now rates.now amount
         shares.now output.old parts.old output.new parts.new answer.new fee.new
         charged.new result }
@@ -567,31 +481,22 @@ pub extern "C" fn kurvneist_settle_payee(
     put_settled(s, answer, fee, charged)
 }
 
-fn put_pair(pair: &mut [u64; 2], first: u64, second: u64)
-    requires { length pair.old ≡ 2 }
-    ensures { pair.new ≡ first ∷ second ∷ [] }
-{
-    pair[0] = first;
-    pair[1] = second;
-}
-
 // The strict profile: the refusal's number, or 0. With 25 the numbers are those of two rules that match one term, else zeros.
 #[unsafe(no_mangle)]
 pub extern "C" fn kurvneist_strict_book(book: &[u8], pair: &mut [u64; 2]) -> u8
-    requires { length pair.old ≡ 2 }
     ensures { X.StrictInNumbers book.now pair.new result }
 {
     match strict::strict_book(book) {
         Strict::Refused(k) => {
-            put_pair(pair, 0, 0);
+            *pair = [0; 2];
             k
         }
         Strict::Overlap(i, j) => {
-            put_pair(pair, i as u64, j as u64);
+            *pair = [i as u64, j as u64];
             25
         }
         Strict::Admitted => {
-            put_pair(pair, 0, 0);
+            *pair = [0; 2];
             0
         }
     }

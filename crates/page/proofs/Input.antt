@@ -8,14 +8,13 @@ use native.Mathlib.Decide.{dec_lt}
 use borrow.Author.Tests.{lt-ltb, le-ltb}
 use lib.ListN.{length, get_or, take, drop, length-drop}
 use lib.Seq.{drop-cons, drop-drop}
+use Rattle.std.proofs.Common.{Some, None}
 use Rattle.paper.specs.Result.{Result, refused, accepted, Read, Reader, return, refuse, then, ◌>>=◌}
 use Rattle.paper.specs.Dated.{is_dated}
 use Rattle.paper.specs.Page.{Request, number, read_bytes, read_number, read_day, read_schedule, read_request}
 use Rattle.stream.specs.Promises.{read_counted, PartEnds}
 use Rattle.stream.proofs.Parts.{number_there, number_cut}
 use Rattle.page.specs.Promises.{asked, DayStands, PartsStand}
-use Rattle.page.specs.declared.Day as Y
-use Rattle.page.specs.declared.InputParts as I
 
 -- READERS
 
@@ -38,17 +37,17 @@ module _ (book xs : List ℕ) where
   day_dated e = rw (e, read_day)
 
 module _ (input : List ℕ) (at : ℕ) {dated : Bool} where
-  pub day_undated : dated ≡ false → at ≤ length input → DayStands input at dated (Y.Day.Read 0 at)
+  pub day_undated : dated ≡ false → at ≤ length input → DayStands input at dated (Some (0, at))
   day_undated b h = record { is = λ book e. day_none book (drop at input) (sym e ∙ b); within = (omega arith, h) }
 
-  pub day_cut : dated ≡ true → length input - at < 2 → DayStands input at dated Y.Day.Short
+  pub day_cut : dated ≡ true → length input - at < 2 → DayStands input at dated None
   day_cut b h = record {
     is = λ book e. day_dated book (drop at input) (sym e ∙ b) ∙ number_cut 2 (drop at input) (omega (arith, length-drop at input));
     within = tt;
   }
 
   pub day_there : dated ≡ true → at + 2 ≤ length input → (d e : ℕ) → d ≡ number 0 (take 2 (drop at input)) → e ≡ at + 2 →
-      DayStands input at dated (Y.Day.Read d e)
+      DayStands input at dated (Some (d, e))
   day_there b h d e p q = record {
     is = λ book f.
         day_dated book (drop at input) (sym f ∙ b)
@@ -151,18 +150,18 @@ module _ (input : List ℕ) where
 -- THE PARTS
 
 module _ (input : List ℕ) where
-  pub cut_first : PartEnds input 0 None → PartsStand input I.InputParts.Refused
+  pub cut_first : PartEnds input 0 None → PartsStand input None
   cut_first c = record { is = first_cut input c.is; within = tt }
 
   module _ {b : ℕ} (c : PartEnds input 0 (Some b)) where
-    pub cut_second : PartEnds input b None → PartsStand input I.InputParts.Refused
+    pub cut_second : PartEnds input b None → PartsStand input None
     cut_second d = record { is = second_cut input b _ c.is d.is; within = tt }
 
     module _ {l : ℕ} (d : PartEnds input b (Some l)) where
       rest : read_request input ≡ read_rest (take (b - 2) (drop 2 input)) (take (l - (b + 2)) (drop (b + 2) input)) (drop l input)
       rest = third input b _ c.is l _ d.is
 
-      pub cut_rest : length input - l < 5 → PartsStand input I.InputParts.Refused
+      pub cut_rest : length input - l < 5 → PartsStand input None
       cut_rest h = record { is = rest ∙ rest_short _ _ (drop l input) (omega (arith, length-drop l input)); within = tt }
 
       units_are : l < length input → number 0 (take 1 (drop l input)) ≡ get_or input l 0
@@ -189,11 +188,11 @@ module _ (input : List ℕ) where
             (drop-drop 1 l input) (drop-drop 4 1 (drop l input) ∙ drop-drop 5 l input)
 
         module _ {dated : Bool} (form : dated ≡ is_dated book) where
-          pub cut_day : DayStands input (l + 5) dated Y.Day.Short → PartsStand input I.InputParts.Refused
+          pub cut_day : DayStands input (l + 5) dated None → PartsStand input None
           cut_day f = record { is = behind ∙ no_day book line (get_or input l 0) budget (drop (l + 5) input) (f.is book form); within = tt }
 
-          module _ {day e : ℕ} (f : DayStands input (l + 5) dated (Y.Day.Read day e)) where
-            pub cut_over : 32768 < length input - e → PartsStand input I.InputParts.Refused
+          module _ {day e : ℕ} (f : DayStands input (l + 5) dated (Some (day, e))) where
+            pub cut_over : 32768 < length input - e → PartsStand input None
             cut_over k = record {
               is =
                   behind
@@ -202,7 +201,7 @@ module _ (input : List ℕ) where
               within = tt;
             }
 
-            pub whole : length input - e ≤ 32768 → PartsStand input (I.InputParts.At (record { book = b; line = l; day = day; schedule = e }))
+            pub whole : length input - e ≤ 32768 → PartsStand input (Some (record { book = b; line = l; day = day; schedule = e }))
             whole k = record {
               is =
                   behind

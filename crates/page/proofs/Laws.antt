@@ -20,9 +20,9 @@ use Rattle.stream.proofs.Numbers.{number_two}
 use Rattle.stream.proofs.Parts.{counted_at}
 use Rattle.page.specs.Spec.{Paged, Bytes, StandardInput, PagedFrom, begins, fixed_line}
 use Rattle.page.specs.Promises.{DayStands}
-use Rattle.page.specs.declared.Day as Y
 use Rattle.page.proofs.Input.{day_undated, day_there, cut_over}
 use Rattle.page.proofs.Lines.{page_cut}
+use Rattle.std.proofs.Common.{Some}
 use Rattle.page.proofs.Prefix.{begins_front}
 
 -- what the contracts call the page is the first program's, and the second's
@@ -53,11 +53,11 @@ length_below input at h k = omega (arith, number_two input at k, h at, h (at + 1
 
 -- a day of either form ends within two bytes
 day_of : (input book : List ℕ) (at : ℕ) → at + 2 ≤ length input →
-    (dated : Bool) × (dated ≡ is_dated book) × (day : ℕ) × (e : ℕ) × DayStands input at dated (Y.Day.Read day e) × (e ≤ at + 2)
+    (dated : Bool) × (dated ≡ is_dated book) × (day : ℕ) × (e : ℕ) × DayStands input at dated (Some (day, e)) × (e ≤ at + 2)
 day_of input book at h = go (is_dated book) refl
   where
     go : (dated : Bool) → dated ≡ is_dated book →
-        (dated : Bool) × (dated ≡ is_dated book) × (day : ℕ) × (e : ℕ) × DayStands input at dated (Y.Day.Read day e) × (e ≤ at + 2)
+        (dated : Bool) × (dated ≡ is_dated book) × (day : ℕ) × (e : ℕ) × DayStands input at dated (Some (day, e)) × (e ≤ at + 2)
     go true p = (true, p, number 0 (take 2 (drop at input)), at + 2, day_there input at refl h _ _ refl refl, omega arith)
     go false p = (false, p, 0, at, day_undated input at refl (omega arith), omega arith)
 

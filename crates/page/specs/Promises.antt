@@ -1,14 +1,12 @@
 -- What the functions behind the page ask of each other: where the parts of an input stand, and which bytes are written where. Assumes nothing.
-use Rattle.std.specs.Prelude.{Bool, List, [], ◌∷◌, ◌++◌, ◌≡◌, ℕ, ◌+◌, ◌-◌, ◌≤◌, length, get_or, take, drop}
+use Rattle.std.specs.Prelude.{Bool, List, [], ◌∷◌, ◌++◌, ◌≡◌, ℕ, ◌+◌, ◌-◌, ◌≤◌, length, get_or, take, drop, Option, Some, None}
 use Rattle.paper.specs.Result.{Result, refused, accepted, Read}
 use Rattle.paper.specs.Dated.{is_dated}
 use Rattle.paper.specs.Page.{Request, number, read_day, read_request, ending_number, decimal, line, refused_word, end_word, rewrites_word, entries_word}
 use Rattle.paper.specs.Page.{granted_word, kept_word, term_word}
 use Rattle.engine.specs.Spec as R
 use Rattle.engine.specs.declared.Answer as A
-use Rattle.page.specs.declared.Day as Y
 use Rattle.page.specs.declared.Parts as P
-use Rattle.page.specs.declared.InputParts as I
 
 -- THE PARTS OF AN INPUT
 
@@ -19,16 +17,16 @@ asked book line units budget day schedule =
 
 module _ (input : List ℕ) where
   -- what the reading of the day gives, if it ends so
-  abbrev pub read_day_as : Y.Day → Result (Read ℕ)
-  read_day_as Y.Day.Short = refused 17
-  read_day_as (Y.Day.Read d e) = accepted (record { value = d; left = drop e input })
+  abbrev pub read_day_as : Option (ℕ × ℕ) → Result (Read ℕ)
+  read_day_as None = refused 17
+  read_day_as (Some (d, e)) = accepted (record { value = d; left = drop e input })
 
-  abbrev pub DayWithin : ℕ → Y.Day → Type 0
-  DayWithin at Y.Day.Short = Unit {0}
-  DayWithin at (Y.Day.Read d e) = (at ≤ e) × (e ≤ length input)
+  abbrev pub DayWithin : ℕ → Option (ℕ × ℕ) → Type 0
+  DayWithin at None = Unit {0}
+  DayWithin at (Some (d, e)) = (at ≤ e) × (e ≤ length input)
 
   -- the day of a book of this form, at position at
-  pub record DayStands (at : ℕ) (dated : Bool) (r : Y.Day) : Type 0 where
+  pub record DayStands (at : ℕ) (dated : Bool) (r : Option (ℕ × ℕ)) : Type 0 where
     pub is : (book : List ℕ) → dated ≡ is_dated book → read_day book (drop at input) ≡ read_day_as r
     pub within : DayWithin at r
 
@@ -42,15 +40,15 @@ module _ (input : List ℕ) where
   PartsWithin p = (2 ≤ p.book) × (p.book + 2 ≤ p.line) × (p.line + 5 ≤ p.schedule) × (p.schedule ≤ length input)
 
   -- what the reading of the request gives, if its parts stand so
-  abbrev pub read_by : I.InputParts → Result (Read Request)
-  read_by I.InputParts.Refused = refused 17
-  read_by (I.InputParts.At p) = accepted (record { value = request_of p; left = [] })
+  abbrev pub read_by : Option P.Parts → Result (Read Request)
+  read_by None = refused 17
+  read_by (Some p) = accepted (record { value = request_of p; left = [] })
 
-  abbrev pub StandWithin : I.InputParts → Type 0
-  StandWithin I.InputParts.Refused = Unit {0}
-  StandWithin (I.InputParts.At p) = PartsWithin p
+  abbrev pub StandWithin : Option P.Parts → Type 0
+  StandWithin None = Unit {0}
+  StandWithin (Some p) = PartsWithin p
 
-  pub record PartsStand (r : I.InputParts) : Type 0 where
+  pub record PartsStand (r : Option P.Parts) : Type 0 where
     pub is : read_request input ≡ read_by r
     pub within : StandWithin r
 
@@ -58,7 +56,6 @@ module _ (input : List ℕ) where
 
 -- the digits of v stand from r on
 pub record DigitsFrom (v : ℕ) (d : List ℕ) (r : ℕ) : Type 0 where
-  pub long : length d ≡ 20
   pub start : r ≤ 20
   pub are : drop r d ≡ decimal v
 

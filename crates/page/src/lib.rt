@@ -9,6 +9,7 @@ ghost use Rattle.page.specs.Spec as S;
 ghost use Rattle.page.specs.Promises as C;
 
 use engine::{Answer, Form};
+use refusal::Refusal;
 use run::Run;
 
 // The length that a page has room in.
@@ -21,27 +22,13 @@ pub const INPUT: usize = 163850;
 // How many schedule bytes may follow.
 const SCHEDULE: usize = 32768;
 
-// The day and the position behind it, or that it is cut short.
-#[derive(Drop)]
-enum Day {
-    Short,
-    Read(u16, usize),
-}
-
 // The positions behind the book and behind the line, the day, and where the schedule begins.
-#[derive(Drop)]
+#[derive(Clone, Copy, Debug, PartialEq, Eq)]
 struct Parts {
     book: usize,
     line: usize,
     day: u16,
     schedule: usize,
-}
-
-// Where the input's parts stand, or that 17 refuses it.
-#[derive(Drop)]
-enum InputParts {
-    Refused,
-    At(Parts),
 }
 
 // The input
@@ -51,45 +38,39 @@ fn quad(input: &[u8], at: usize) -> u32
     requires { at + 4 ≤ length input.now }
     ensures { result ≡ number 0 (take 4 (drop at input.now)) }
 {
-    casts::word(stream::pair(input, at) * 65536 + stream::pair(input, at + 2))
+    (stream::pair(input, at) * 65536 + stream::pair(input, at + 2)) as u32
 }
 
-// The run's day: the two bytes at position at, if the book is dated; 0 stands for the day that an undated one ignores.
-fn day_at(input: &[u8], at: usize, dated: bool) -> Day
+// The run's day and the position behind it: the two bytes at position at, if the book is dated; 0 stands for the day that an undated one ignores. None if
+// they are cut short.
+fn day_at(input: &[u8], at: usize, dated: bool) -> Option<(u16, usize)>
     requires { at ≤ length input.now }
     ensures { C.DayStands input.now at dated result }
 {
     if !dated {
-        return Day::Read(0, at);
+        return Some((0, at));
     }
     if input.len() - at < 2 {
-        return Day::Short;
+        return None;
     }
-    Day::Read(casts::short(stream::pair(input, at)), at + 2)
+    Some((stream::pair(input, at) as u16, at + 2))
 }
 
-// Where the parts of the input stand.
-fn parts_of(input: &[u8]) -> InputParts
+// Where the parts of the input stand; none if it is refused by 17.
+fn parts_of(input: &[u8]) -> Option<Parts>
     ensures { C.PartsStand input.now result }
 {
-    let Some(book) = stream::part_end(input, 0) else {
-        return InputParts::Refused;
-    };
-    let Some(line) = stream::part_end(input, book) else {
-        return InputParts::Refused;
-    };
-    let left = input.len() - line;
-    if left < 5 {
-        return InputParts::Refused;
+    let book = stream::part_end(input, 0)?;
+    let line = stream::part_end(input, book)?;
+    if input.len() - line < 5 {
+        return None;
     }
     let dated = book::is_dated(&input[2..book]);
-    let Day::Read(day, schedule) = day_at(input, line + 5, dated) else {
-        return InputParts::Refused;
-    };
+    let (day, schedule) = day_at(input, line + 5, dated)?;
     if SCHEDULE < input.len() - schedule {
-        return InputParts::Refused;
+        return None;
     }
-    InputParts::At(Parts {
+    Some(Parts {
         book,
         line,
         day,
@@ -99,40 +80,33 @@ fn parts_of(input: &[u8]) -> InputParts
 
 // Writing: each function answers the position behind what it wrote.
 
-fn put(bytes: &[u8], page: &mut [u8; 8192], at: usize) -> usize
-    requires { (length page.old ≡ 8192) × (at + length bytes.now ≤ 8192) }
+fn put(bytes: &[u8], page: &mut [u8; PAGE], at: usize) -> usize
+    requires { at + length bytes.now ≤ 8192 }
     ensures { WrittenAt at bytes.now page.old page.new result }
 {
-    let mut i = 0;
-    while i < bytes.len() {
-        page[at + i] = bytes[i];
-        i += 1;
-    }
-    at + i
+    let end = at + bytes.len();
+    page[at..end].copy_from_slice(bytes);
+    end
 }
 
 // The digits of v at the end of d, the last one first; the position of the first digit.
 fn digits(v: usize, d: &mut [u8; 20]) -> usize
-    requires { length d.old ≡ 20 }
     ensures { C.DigitsFrom v d.new result }
 {
     let mut left = v;
-    let mut i = 20;
-    while 0 < i {
-        i -= 1;
+    for i in (0..20).rev() {
+        d[i] = b'0' + (left % 10) as u8;
         if left < 10 {
-            d[i] = 48 + casts::byte(left);
             return i;
         }
-        d[i] = 48 + casts::byte(left % 10);
-        left = left / 10;
+        left /= 10;
     }
-    i
+    0
 }
 
 // A decimal field, with a space before it.
-fn decimal_field(v: usize, page: &mut [u8; 8192], at: usize) -> usize
-    requires { (length page.old ≡ 8192) × (at + 21 ≤ 8192) }
+fn decimal_field(v: usize, page: &mut [u8; PAGE], at: usize) -> usize
+    requires { at + 21 ≤ 8192 }
     ensures { WrittenAt at (C.decimal_field v) page.old page.new result × (result ≤ at + 21) }
 {
     let mut d = [0u8; 20];
@@ -142,8 +116,8 @@ fn decimal_field(v: usize, page: &mut [u8; 8192], at: usize) -> usize
 }
 
 // A line: a word and one field.
-fn line(word: &[u8], v: usize, page: &mut [u8; 8192], at: usize) -> usize
-    requires { (length word.now ≤ 8) × (length page.old ≡ 8192) × (at + 30 ≤ 8192) }
+fn line(word: &[u8], v: usize, page: &mut [u8; PAGE], at: usize) -> usize
+    requires { (length word.now ≤ 8) × (at + 30 ≤ 8192) }
     ensures { WrittenAt at (line word.now (v ∷ [])) page.old page.new result × (result ≤ at + 30) }
 {
     let p = put(word, page, at);
@@ -152,21 +126,19 @@ fn line(word: &[u8], v: usize, page: &mut [u8; 8192], at: usize) -> usize
 }
 
 // A field for each symbol: at most three digits each.
-fn symbols(term: &[u8], page: &mut [u8; 8192], at: usize) -> usize
-    requires { (length term.now ≤ 1024) × (length page.old ≡ 8192) × (at ≤ 4000) }
+fn symbols(term: &[u8], page: &mut [u8; PAGE], at: usize) -> usize
+    requires { (length term.now ≤ 1024) × (at ≤ 4000) }
     ensures { WrittenAt at (spaced term.now) page.old page.new result × (result ≤ at + 4096) }
 {
     let mut p = at;
-    let mut i = 0;
-    while i < term.len() {
-        p = decimal_field(casts::index(term[i]), page, p);
-        i += 1;
+    for &symbol in term {
+        p = decimal_field(usize::from(symbol), page, p);
     }
     p
 }
 
-fn term_line(term: &[u8], page: &mut [u8; 8192], at: usize) -> usize
-    requires { (length term.now ≤ 1024) × (length page.old ≡ 8192) × (at ≤ 3000) }
+fn term_line(term: &[u8], page: &mut [u8; PAGE], at: usize) -> usize
+    requires { (length term.now ≤ 1024) × (at ≤ 3000) }
     ensures { WrittenAt at (line term_word term.now) page.old page.new result }
 {
     let p = put(b"term", page, at);
@@ -175,13 +147,12 @@ fn term_line(term: &[u8], page: &mut [u8; 8192], at: usize) -> usize
 }
 
 // The lines of a run and its term.
-fn run_lines(r: Run, term: &[u8], page: &mut [u8; 8192], at: usize) -> usize
-    requires { (length term.now ≤ 1024) × (length page.old ≡ 8192) × (at ≤ 1000) }
+fn run_lines(r: Run, term: &[u8], page: &mut [u8; PAGE], at: usize) -> usize
+    requires { (length term.now ≤ 1024) × (at ≤ 1000) }
     ensures { WrittenAt at (C.run_lines (run_values r) term.now) page.old page.new result }
 {
-    let ending = r.ending;
-    let a = line(b"end", run::ending_number(ending), page, at);
-    let b = line(b"rewrites", casts::position(r.rewrites), page, a);
+    let a = line(b"end", run::ending_number(r.ending), page, at);
+    let b = line(b"rewrites", r.rewrites as usize, page, a);
     let c = line(b"entries", r.entries, page, b);
     let d = line(b"granted", r.granted, page, c);
     let e = line(b"kept", r.kept, page, d);
@@ -189,12 +160,12 @@ fn run_lines(r: Run, term: &[u8], page: &mut [u8; 8192], at: usize) -> usize
 }
 
 // The lines of the engine's answer, whose term stands at the front of the output.
-fn answer(a: Answer, output: &[u8], page: &mut [u8; 8192], at: usize) -> usize
-    requires { (C.TermFits a output.now) × (length page.old ≡ 8192) × (at ≤ 1000) }
+fn answer(a: Answer, output: &[u8], page: &mut [u8; PAGE], at: usize) -> usize
+    requires { (C.TermFits a output.now) × (at ≤ 1000) }
     ensures { WrittenAt at (C.lines a output.now) page.old page.new result }
 {
     match a {
-        Answer::Refused(k) => line(b"refused", casts::index(k), page, at),
+        Answer::Refused(k) => line(b"refused", usize::from(k), page, at),
         Answer::Ran(r) => {
             let n = r.length;
             run_lines(r, &output[..n], page, at)
@@ -203,17 +174,20 @@ fn answer(a: Answer, output: &[u8], page: &mut [u8; 8192], at: usize) -> usize
 }
 
 // The run of a whole input, and its lines. The buffers that are lent are of just the lengths that are asked for.
-fn run_page(form: Form, input: &[u8], parts: Parts, page: &mut [u8; 8192], at: usize) -> usize
-    requires { C.PartsWithin input.now parts × (length page.old ≡ 8192) × (at ≤ 1000) }
+fn run_page(form: Form, input: &[u8], parts: Parts, page: &mut [u8; PAGE], at: usize) -> usize
+    requires { C.PartsWithin input.now parts × (at ≤ 1000) }
     ensures { WrittenAt at (answer_lines (answer_by (reader form) own_lengths (C.request_of input.now parts))) page.old page.new result }
 {
     let mut work = [0u8; engine::WORK];
     let mut net = [0u8; engine::NET];
     let mut output = [0u8; engine::OUTPUT];
-    let book = parts.book;
-    let line = parts.line;
+    let Parts {
+        book,
+        line,
+        day,
+        schedule,
+    } = parts;
     let start = book + 2;
-    let schedule = parts.schedule;
     let budget = quad(input, line + 1);
     let a = engine::reduce_form(
         form,
@@ -221,7 +195,7 @@ fn run_page(form: Form, input: &[u8], parts: Parts, page: &mut [u8; 8192], at: u
         &input[start..line],
         input[line],
         budget,
-        parts.day,
+        day,
         &input[schedule..],
         &mut work,
         &mut net,
@@ -231,21 +205,19 @@ fn run_page(form: Form, input: &[u8], parts: Parts, page: &mut [u8; 8192], at: u
 }
 
 // The page of a whole standard input, at the front of the buffer; how many bytes it has.
-fn page(form: Form, input: &[u8], page: &mut [u8; 8192]) -> usize
-    requires { length page.old ≡ 8192 }
+fn page(form: Form, input: &[u8], page: &mut [u8; PAGE]) -> usize
     ensures { S.Paged (reader form) input.now page.old page.new result }
 {
     let at = put(b"REDUCE 1\n", page, 0);
     match parts_of(input) {
-        InputParts::Refused => line(b"refused", 17, page, at),
-        InputParts::At(parts) => run_page(form, input, parts, page, at),
+        None => line(b"refused", Refusal::BadInput as usize, page, at),
+        Some(parts) => run_page(form, input, parts, page, at),
     }
 }
 
 // The page of the standard input of which n bytes were read to the front of the buffer, up to its end or until the buffer was full. The page stands
 // at the front of the sheet; how many bytes it has.
 pub fn of_buffer(form: Form, buffer: &[u8; INPUT], n: usize, sheet: &mut [u8; PAGE]) -> usize
-    requires { length sheet.old ≡ 8192 }
     ensures { S.PagedFrom (reader form) buffer.now n sheet.old sheet.new result }
 {
     let bytes: &[u8] = buffer;
@@ -255,26 +227,9 @@ pub fn of_buffer(form: Form, buffer: &[u8; INPUT], n: usize, sheet: &mut [u8; PA
     page(form, bytes, sheet)
 }
 
-// Do the bytes begin with this line?
-fn begins(line: &[u8], bytes: &[u8]) -> bool
-    ensures { result ≡ S.begins line.now bytes.now }
-{
-    let mut i = 0;
-    while i < line.len() {
-        if bytes.len() <= i {
-            return false;
-        }
-        if line[i] != bytes[i] {
-            return false;
-        }
-        i += 1;
-    }
-    true
-}
-
 // Are these the bytes of a page, as its first line says?
 pub fn is_page(bytes: &[u8]) -> bool
     ensures { result ≡ S.begins S.fixed_line bytes.now }
 {
-    begins(b"REDUCE 1\n", bytes)
+    bytes.starts_with(b"REDUCE 1\n")
 }

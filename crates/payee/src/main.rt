@@ -2,6 +2,7 @@
 #![tactic(auto)]
 
 use engine::Form;
+
 // The descriptors of standard input and output.
 const STDIN_FILENO: i32 = 0;
 

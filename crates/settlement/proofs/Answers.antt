@@ -18,7 +18,9 @@ use Rattle.engine.specs.Spec as R
 use Rattle.engine.specs.declared.Answer as E
 use Rattle.fees.specs.Fees.{Charge, charge}
 use Rattle.fees.specs.Spec.{ChargedAs}
-use Rattle.fees.specs.declared.Charged as F
+use Rattle.refusal.specs.Numbers.{number}
+use Rattle.refusal.specs.declared.Refusal.{Refusal}
+use Rattle.std.proofs.Common.{Ok, Err}
 use Rattle.settlement.specs.Spec.{charged, ran, settled, values, with_fee, values_of, SettledBy}
 use Rattle.settlement.specs.Promises.{RunSettled}
 use Rattle.settlement.specs.declared.Settled as D
@@ -43,12 +45,12 @@ module _ (term rates : List ℕ) (amount : ℤ) (ss : List ℕ) where
     unfolding charged
     finished h = rw h
 
-    pub refused_so : run.ending ≡ Ending.Finished → (k : ℕ) {output : List ℕ} {parts parts' : List ℤ} → ChargedAs (charge term rates amount ss) parts parts' (F.Charged.Refused k) →
+    pub refused_so : run.ending ≡ Ending.Finished → (r : Refusal) {k : ℕ} → k ≡ number r → {output : List ℕ} {parts parts' : List ℤ} → ChargedAs (charge term rates amount ss) parts parts' (Err r) →
         RunSettled run term (charged (ending run.ending) term rates amount ss) output output parts parts' (D.Settled.Refused k)
     unfolding then
-    refused_so h k {output} {parts} {parts'} q = rw (finished h) (go (charge term rates amount ss) q)
+    refused_so h r {k} e {output} {parts} {parts'} q = rw (finished h) (go (charge term rates amount ss) q)
       where
-        go : (x : Result Charge) → ChargedAs x parts parts' (F.Charged.Refused k) →
+        go : (x : Result Charge) → ChargedAs x parts parts' (Err r) →
             RunSettled run term (then x (λ C. accepted (some C))) output output parts parts' (D.Settled.Refused k)
         go (refused j) q =
             let a = q.answer in
@@ -56,13 +58,13 @@ module _ (term rates : List ℕ) (amount : ℤ) (ss : List ℕ) where
             record { is = ap D.Settled.Refused i; output_is = refl; parts_are = q.unchanged j refl }
         go (accepted C) q = let a = q.answer in let z : ◌≡◌ {A = ℕ} 0 1 = cc in absurd (omega arith)
 
-    pub posted_so : run.ending ≡ Ending.Finished → (f : ℤ) {output output' : List ℕ} {parts parts' : List ℤ} → ChargedAs (charge term rates amount ss) parts parts' (F.Charged.Fee f) →
+    pub posted_so : run.ending ≡ Ending.Finished → (f : ℤ) {output output' : List ℕ} {parts parts' : List ℤ} → ChargedAs (charge term rates amount ss) parts parts' (Ok f) →
         output' ≡ term ++ drop (length term) output →
         RunSettled run term (charged (ending run.ending) term rates amount ss) output output' parts parts' (D.Settled.Posted run f)
     unfolding then
     posted_so h f {output} {output'} {parts} {parts'} q w = rw (finished h) (go (charge term rates amount ss) q)
       where
-        go : (x : Result Charge) → ChargedAs x parts parts' (F.Charged.Fee f) →
+        go : (x : Result Charge) → ChargedAs x parts parts' (Ok f) →
             RunSettled run term (then x (λ C. accepted (some C))) output output' parts parts' (D.Settled.Posted run f)
         go (refused j) q = let a = q.answer in let z : ◌≡◌ {A = ℕ} 0 1 = cc in absurd (omega arith)
         go (accepted C) q =

@@ -9,7 +9,6 @@ ghost use Rattle.settlement.specs.Spec as X;
 ghost use Rattle.settlement.specs.Promises as C;
 
 use engine::{Answer, Form};
-use fees::Charged;
 use run::{Ending, Run};
 
 // The number of the refusal; a run that did not finish; a finished run, and the fee of its posting.
@@ -47,8 +46,8 @@ fn settle_run(
         return Settled::Ended(run);
     }
     match fees::charge(term, rates, amount, shares, parts) {
-        Charged::Refused(k) => Settled::Refused(k),
-        Charged::Fee(fee) => {
+        Err(e) => Settled::Refused(e.number()),
+        Ok(fee) => {
             hand_out(term, output);
             Settled::Posted(run, fee)
         }

@@ -5,12 +5,12 @@ use Rattle.batch.proofs.next_line.Goals as goal
 
 pub returns-then-left-lt-LONGEST : goal.returns-then-left-lt-LONGEST
 returns-then-left-lt-LONGEST c =
-    no_room _ _ _ _ (rw c.in-At.is at c.part_end.ensures) (omega arith) (omega arith)
+    no_room _ _ _ _ (rw c.in-Some.is at c.part_end.ensures) (omega arith) (omega arith)
 
-pub returns-in-Short : goal.returns-in-Short
-returns-in-Short c =
-    cut_short _ _ c.args.left (omega arith) (rw c.in-Short.is at c.part_end.ensures)
+pub returns-in_default : goal.returns-in_default
+returns-in_default c =
+    cut_short _ _ c.args.left (omega arith) (rw c.in_default.is at c.part_end.ensures)
 
-pub returns-else-left-lt-LONGEST : goal.returns-else-left-lt-LONGEST
-returns-else-left-lt-LONGEST c =
-    next_done _ _ _ _ (rw c.in-At.is at c.part_end.ensures) (omega arith)
+pub returns : goal.returns
+returns c =
+    next_done _ _ _ _ (rw c.in-Some.is at c.part_end.ensures) (omega arith)

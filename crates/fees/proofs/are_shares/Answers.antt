@@ -1,17 +1,28 @@
 -- `fees::are_shares` meets its contract, test by test. Assumes nothing.
-use Rattle.paper.proofs.Tests.{eqb_true, eqb_false, ltb_true, ltb_false}
+use mathlib.Core.Bool.{true, false}
+use mathlib.Core.Logic.{inl, inr}
+use mathlib.Core.Path.{◌≡◌, sym, ◌∙◌}
+use lib.Dec.{eqb}
+use lib.ListN.{length}
+use Rattle.paper.proofs.Tests.{ltb_true, ltb_false}
 use Rattle.fees.specs.Fees.{are_shares}
+use Rattle.fees.proofs.Loops.{total_sum}
 use Rattle.fees.proofs.are_shares.Goals as goal
 
-pub returns-then-shares-eq0 : goal.returns-then-shares-eq0
+pub returns-then-is_empty : goal.returns-then-is_empty
 unfolding are_shares
-returns-then-shares-eq0 c = rw (eqb_true _ 0 c.if-shares-eq0.true)
-
-pub returns-then-shares-gt16 : goal.returns-then-shares-gt16
-unfolding are_shares
-returns-then-shares-gt16 c = rw (eqb_false _ 0 c.if-shares-eq0.false, ltb_true 16 _ c.if-shares-gt16.true)
+returns-then-is_empty c =
+    elim c.then-is_empty.either [
+      | inl w ↦
+          let e : eqb (length c.args.shares.now) 0 ≡ true = sym c.is_empty.ensures ∙ w in
+          rw e
+      | inr w ↦
+          let e : eqb (length c.args.shares.now) 0 ≡ false = sym c.is_empty.ensures ∙ w.0 in
+          rw (e, ltb_true 16 _ w.1)
+    ]
 
 pub returns : goal.returns
 unfolding are_shares
 returns c =
-    rw (eqb_false _ 0 c.if-shares-eq0.false, ltb_false 16 _ c.if-shares-gt16.false, c.total.ensures)
+    let e : eqb (length c.args.shares.now) 0 ≡ false = sym c.is_empty.ensures ∙ c.if-is_empty.false in
+    rw (e, ltb_false 16 _ c.if-shares-gt16.false, total_sum, c.total.ensures)

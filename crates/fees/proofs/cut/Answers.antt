@@ -5,8 +5,8 @@ use Rattle.fees.proofs.cut.Goals as goal
 
 pub overflow_mul-result : goal.overflow_mul-result
 overflow_mul-result c =
-    product_fits c.args.net c.args.share c.requires (to_z-of_z c.ranges.net) (factor c.wide.ensures c.requires)
+    product_fits c.args.net c.args.share c.requires (to_z-of_z c.ranges.net) (factor c.from.ensures c.requires)
 
 pub returns : goal.returns
 returns c =
-    cut_kept c.args.net c.args.share c.requires (to_z-of_z c.ranges.net) (factor c.wide.ensures c.requires)
+    cut_kept c.args.net c.args.share c.requires (to_z-of_z c.ranges.net) (factor c.from.ensures c.requires)

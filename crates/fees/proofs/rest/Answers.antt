@@ -1,25 +1,13 @@
 -- `fees::rest` meets its contract: the product and the remainder fit. Assumes nothing.
 use mathlib.Core.Path.{◌∙◌}
 use mir.Facts.{to_z-of_z}
-use Rattle.fees.proofs.Values.{factor, product_fits, size_casts, size_cast, rest_small, rest_size}
+use Rattle.fees.proofs.Values.{factor, product_fits, rest_size}
 use Rattle.fees.proofs.rest.Goals as goal
 
 pub overflow_mul-net : goal.overflow_mul-net
 overflow_mul-net c =
-    product_fits c.args.net c.args.share c.requires (to_z-of_z c.ranges.net) (factor c.wide.ensures c.requires)
-
-pub size-requires : goal.size-requires
-size-requires c =
-    rest_small c.args.net c.args.share c.requires (to_z-of_z c.ranges.net) (factor c.wide.ensures c.requires)
-
-pub overflow_cast-result : goal.overflow_cast-result
-overflow_cast-result c =
-    size_casts _ c.size.ensures
-    (rest_small c.args.net c.args.share c.requires (to_z-of_z c.ranges.net) (factor c.wide.ensures c.requires))
+    product_fits c.args.net c.args.share c.requires (to_z-of_z c.ranges.net) (factor c.from.ensures c.requires)
 
 pub returns : goal.returns
 returns c =
-    let p = to_z-of_z c.ranges.net in
-    let q = factor c.wide.ensures c.requires in
-    size_cast _ c.size.ensures (rest_small c.args.net c.args.share c.requires p q)
-    ∙ rest_size c.args.net c.args.share c.requires p q
+    c.unsigned_abs.ensures.value ∙ rest_size c.args.net c.args.share c.requires (to_z-of_z c.ranges.net) (factor c.from.ensures c.requires)

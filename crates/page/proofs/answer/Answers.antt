@@ -17,12 +17,12 @@ slice_bounds-run_lines-end c =
 pub run_lines-requires : goal.run_lines-requires
 run_lines-requires c =
     let f = rw c.in-Ran.is at c.requires.0 in
-    (omega (arith, length-take-le c.in-Ran.r.length c.args.output.now f.0, f.0, f.1), c.requires.1, c.requires.2)
+    (omega (arith, length-take-le c.in-Ran.r.length c.args.output.now f.0, f.0, f.1), c.requires.1)
 
 pub returns-in-Refused : goal.returns-in-Refused
 returns-in-Refused c =
     put_as
-    (ap (λ (k : ℕ). line refused_word (k ∷ [])) c.index.ensures.0
+    (ap (λ (k : ℕ). line refused_word (k ∷ [])) c.from.ensures
     ∙ ap (λ (x : A.Answer). lines x c.args.output.now) (sym c.in-Refused.is))
     c.line.ensures.0
 

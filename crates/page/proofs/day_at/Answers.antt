@@ -1,5 +1,5 @@
 -- `page::day_at` meets its contract, by a law of the day for each way out. Assumes nothing.
-use mathlib.Core.Path.{refl, ◌∙◌}
+use mathlib.Core.Path.{refl}
 use native.Mathlib.Omega.{arith}
 use Rattle.page.proofs.Input.{day_undated, day_cut, day_there}
 use Rattle.page.proofs.day_at.Goals as goal
@@ -12,4 +12,4 @@ returns-then-input-at-lt2 c = day_cut _ _ c.if-not-dated.false (omega arith)
 
 pub returns : goal.returns
 returns c =
-    day_there _ _ c.if-not-dated.false (omega arith) _ _ (c.short.ensures ∙ c.pair.ensures.0) refl
+    day_there _ _ c.if-not-dated.false (omega arith) _ _ c.pair.ensures.0 refl

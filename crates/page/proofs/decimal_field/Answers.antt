@@ -15,5 +15,5 @@ returns c =
     let q = c.put.ensures in
     let i = c.digits-i.result in
     let l : List ℕ = c.digits-i.new.d in
-    let t : take (20 - i) (drop i l) ≡ drop i l = take_all (20 - i) (drop i l) (omega (arith, length-drop i l, d.long)) in
-    (put_as (ap (λ (ds : List ℕ). 32 ∷ ds) (t ∙ d.are)) (put_both p q), omega (arith, p.ends, q.ends, ap length t, length-drop i l, d.long))
+    let t : take (20 - i) (drop i l) ≡ drop i l = take_all (20 - i) (drop i l) (omega (arith, length-drop i l)) in
+    (put_as (ap (λ (ds : List ℕ). 32 ∷ ds) (t ∙ d.are)) (put_both p q), omega (arith, p.ends, q.ends, ap length t, length-drop i l))

@@ -5,4 +5,4 @@ use Rattle.page.proofs.quad.Goals as goal
 
 pub returns : goal.returns
 returns c =
-    omega (arith, c.word.ensures, number_four c.args.input.now c.args.at c.requires, c.pair-2.ensures.0, c.pair.ensures.0)
+    omega (arith, number_four c.args.input.now c.args.at c.requires, c.pair-2.ensures.0, c.pair.ensures.0)

@@ -10,7 +10,7 @@ use Rattle.page.proofs.run_page.Goals as goal
 
 pub answer-requires : goal.answer-requires
 answer-requires c =
-    (reduced_fits c.reduce_form-a.ensures c.reduce_form-a.auto.output, c.requires.1, c.requires.2)
+    (reduced_fits c.reduce_form-a.ensures c.reduce_form-a.auto.output, c.requires.1)
 
 pub returns : goal.returns
 returns c =

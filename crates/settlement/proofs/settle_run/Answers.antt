@@ -11,14 +11,14 @@ returns-then-ne c =
     ended_so c.args.term.now c.args.rates.now c.args.amount c.args.shares.now c.args.run (search rules)
     c.hand_out.ensures
 
-pub returns-in-Refused : goal.returns-in-Refused
-returns-in-Refused c =
-    refused_so c.args.term.now c.args.rates.now c.args.amount c.args.shares.now c.args.run (search rules) _
-    (rw (to_z-of_z c.ranges.amount, c.in-Refused.is) at c.charge.ensures)
+pub returns-in-Err : goal.returns-in-Err
+returns-in-Err c =
+    refused_so c.args.term.now c.args.rates.now c.args.amount c.args.shares.now c.args.run (search rules) _ c.number.ensures.value
+    (rw (to_z-of_z c.ranges.amount, c.in-Err.is) at c.charge.ensures)
 
-pub returns-in-Fee : goal.returns-in-Fee
-returns-in-Fee c =
-    let kept : SFits w64 c.in-Fee.fee = search rules in
+pub returns-in-Ok : goal.returns-in-Ok
+returns-in-Ok c =
+    let kept : SFits w64 c.in-Ok.fee = search rules in
     rw (to_z-of_z kept)
     (posted_so c.args.term.now c.args.rates.now c.args.amount c.args.shares.now c.args.run (search rules) _
-    (rw (to_z-of_z c.ranges.amount, c.in-Fee.is) at c.charge.ensures) c.hand_out-in-Fee.ensures)
+    (rw (to_z-of_z c.ranges.amount, c.in-Ok.is) at c.charge.ensures) c.hand_out-in-Ok.ensures)

@@ -1,9 +1,0 @@
--- `fees::wide` meets its contract: 16 bits fit. Assumes nothing.
-use native.Mathlib.Omega.{arith}
-use lib.IntN.{pos}
-use mir.Facts.{to_z-of_z}
-use mir.Syntax.{w64}
-use Rattle.fees.proofs.wide.Goals as goal
-
-pub returns : goal.returns
-returns c = to_z-of_z {w = w64} {z = pos c.args.x} (record { sfits = omega (arith, c.ranges.x.fits) })
