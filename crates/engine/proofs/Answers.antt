@@ -14,8 +14,10 @@ use Rattle.paper.specs.Page.{Request, all_below, frame_fault, unless, run_checke
 use Rattle.paper.proofs.Readers.{accepted_injective, refused_accepted}
 use Rattle.paper.proofs.Prefix.{read_any_prefix}
 use Rattle.entry.specs.State.{limited}
-use Rattle.engine.specs.Spec.{published, values, values_of, request, answered_by, RunBy, ReducedBy}
-use Rattle.engine.specs.declared.Answer as D
+use Rattle.std.specs.Prelude.{Ok, Err}
+use Rattle.refusal.specs.declared.Refusal.{Refusal}
+use Rattle.refusal.specs.Numbers.{number}
+use Rattle.engine.specs.Spec.{Reply, published, values, values_of, request, answered_by, RunBy, ReducedBy}
 
 module _ (read : LineReader) (q : Request) where
   -- what is answered for a reading of the line, and for one of the book
@@ -71,9 +73,9 @@ module _ (read : LineReader) (q : Request) where
         by_run e = of_run ∙ rw (e, run_checked)
 
 -- a refusal, with the buffers as they were
-pub refuses : {read : LineReader} {book line : List ℕ} {units budget day : ℕ} {schedule work net output : List ℕ} (k : ℕ) →
-    answered_by read book line units budget day schedule work net output ≡ refused k →
-    ReducedBy read book line units budget day schedule work net output work net output (D.Answer.Refused k)
+pub refuses : {read : LineReader} {book line : List ℕ} {units budget day : ℕ} {schedule work net output : List ℕ} (k : Refusal) →
+    answered_by read book line units budget day schedule work net output ≡ refused (number k) →
+    ReducedBy read book line units budget day schedule work net output work net output (Err k)
 refuses k e = record {
   answer = ap values_of (sym e);
   unchanged = λ j h. (refl, refl, refl);
@@ -83,7 +85,7 @@ refuses k e = record {
 }
 
 -- the answer of a run, with both areas all zero and the present term in front of the output
-pub accepts : {read : LineReader} {book line : List ℕ} {units budget day : ℕ} {schedule work net output work' net' output' : List ℕ} {r : D.Answer}
+pub accepts : {read : LineReader} {book line : List ℕ} {units budget day : ℕ} {schedule work net output work' net' output' : List ℕ} {r : Reply}
     {A : Answer} → answered_by read book line units budget day schedule work net output ≡ accepted A → values r ≡ values_of (accepted A) →
     RunBy read book line units budget day schedule work net output A → work' ≡ replicate (length work) 0 → net' ≡ replicate (length net) 0 →
     output' ≡ preorder A.term ++ drop (length (preorder A.term)) output →
@@ -112,7 +114,7 @@ module _ {read read₂ : LineReader} {book book₂ line line₂ : List ℕ} {uni
     holds = r.holds;
   }
 
-  pub reduced_as : {work' net' output' : List ℕ} {r : D.Answer} →
+  pub reduced_as : {work' net' output' : List ℕ} {r : Reply} →
       answered_by read book line units budget day schedule work net output ≡ answered_by read₂ book₂ line₂ units budget day schedule work net output →
       ((A : Answer) → RunBy read book line units budget day schedule work net output A → RunBy read₂ book₂ line₂ units budget day schedule work net output A) →
       ReducedBy read book line units budget day schedule work net output work' net' output' r →
@@ -133,7 +135,7 @@ same_answer read book line units budget day schedule work net output long =
     let q : Request = request book line units budget day schedule work net output in
     ap (λ (x : Result AnyBook). unless (frame_fault published q) (for_book read q x)) (read_any_prefix book long)
 
-pub reduced_prefix : {read : LineReader} {book line : List ℕ} {units budget day : ℕ} {schedule work net output work' net' output' : List ℕ} {r : D.Answer} →
+pub reduced_prefix : {read : LineReader} {book line : List ℕ} {units budget day : ℕ} {schedule work net output work' net' output' : List ℕ} {r : Reply} →
     65536 ≤ length book →
     ReducedBy read (take 65536 book) line units budget day schedule work net output work' net' output' r →
     ReducedBy read book line units budget day schedule work net output work' net' output' r

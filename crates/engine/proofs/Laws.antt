@@ -15,8 +15,7 @@ use Rattle.paper.specs.Run.{Answer}
 use Rattle.paper.specs.Page.{LineReader, answer_by}
 use Rattle.paper.proofs.Dated.{day_ignored}
 use Rattle.paper.proofs.Refusals.{answer_not_six, payee_not_six as text_not_six}
-use Rattle.engine.specs.Spec.{published, request, values, values_of, answered_by, ReducedBy, Reduced, PayeeReduced}
-use Rattle.engine.specs.declared.Answer as D
+use Rattle.engine.specs.Spec.{Reply, published, request, values, values_of, answered_by, ReducedBy, Reduced, PayeeReduced}
 
 -- LENGTHS
 
@@ -40,7 +39,7 @@ same_answer read book line units budget day schedule work work₂ net net₂ out
     })) e f
 
 module _ {read : LineReader} {book line : List ℕ} {units budget day : ℕ} {schedule work work₂ net net₂ output work' work₂' net' net₂' output' output₂' : List ℕ}
-    {r r₂ : D.Answer} (long : length work ≡ length work₂) (net_long : length net ≡ length net₂)
+    {r r₂ : Reply} (long : length work ≡ length work₂) (net_long : length net ≡ length net₂)
     (one : ReducedBy read book line units budget day schedule work net output work' net' output' r)
     (two : ReducedBy read book line units budget day schedule work₂ net₂ output work₂' net₂' output₂' r₂) where
   abbrev same : answered_by read book line units budget day schedule work net output ≡ answered_by read book line units budget day schedule work₂ net₂ output
@@ -66,25 +65,25 @@ module _ {read : LineReader} {book line : List ℕ} {units budget day : ℕ} {sc
 
 -- NEVER 6
 
-module _ {book line : List ℕ} {units budget day : ℕ} {schedule work net output work' net' output' : List ℕ} {r : D.Answer} where
+module _ {book line : List ℕ} {units budget day : ℕ} {schedule work net output work' net' output' : List ℕ} {r : Reply} where
   never : (read : LineReader) → answered_by read book line units budget day schedule work net output ≢ refused 6 →
-      ReducedBy read book line units budget day schedule work net output work' net' output' r → r ≢ D.Answer.Refused 6
-  never read n h e = go (answered_by read book line units budget day schedule work net output) refl (sym h.answer ∙ ap values e)
+      ReducedBy read book line units budget day schedule work net output work' net' output' r → values r ≢ refused 6
+  never read n h e = go (answered_by read book line units budget day schedule work net output) refl (sym h.answer ∙ e)
     where
       go : (x : Result Answer) → answered_by read book line units budget day schedule work net output ≡ x → values_of x ≡ refused 6 → ⊥
       go (refused k) f g = n (f ∙ cc)
       go (accepted A) f g = let z : ◌≡◌ {A = ℕ} 0 1 = cc in omega arith
 
-  pub reduce_not_six : Reduced book line units budget day schedule work net output work' net' output' r → r ≢ D.Answer.Refused 6
+  pub reduce_not_six : Reduced book line units budget day schedule work net output work' net' output' r → values r ≢ refused 6
   reduce_not_six = never read_line (answer_not_six published (request book line units budget day schedule work net output))
 
-  pub payee_not_six : PayeeReduced book line units budget day schedule work net output work' net' output' r → r ≢ D.Answer.Refused 6
+  pub payee_not_six : PayeeReduced book line units budget day schedule work net output work' net' output' r → values r ≢ refused 6
   payee_not_six = never read_text (text_not_six published (request book line units budget day schedule work net output))
 
 -- ANSWERED ALIKE: two calls of which the definition answers the same, by two books or on two days, give the same values, and the same buffers behind them
 
 module _ {read : LineReader} {book book₂ line : List ℕ} {units budget day day₂ : ℕ}
-    {schedule work net output work' work₂' net' net₂' output' output₂' : List ℕ} {r r₂ : D.Answer}
+    {schedule work net output work' work₂' net' net₂' output' output₂' : List ℕ} {r r₂ : Reply}
     (same : answered_by read book line units budget day schedule work net output ≡ answered_by read book₂ line units budget day₂ schedule work net output)
     (one : ReducedBy read book line units budget day schedule work net output work' net' output' r)
     (two : ReducedBy read book₂ line units budget day₂ schedule work net output work₂' net₂' output₂' r₂) where
@@ -105,7 +104,7 @@ module _ {read : LineReader} {book book₂ line : List ℕ} {units budget day da
           (p.0 ∙ sym q.0, p.1 ∙ sym q.1, one.written A e ∙ sym (two.written A f))
 
 -- any day, of an undated book
-module _ {read : LineReader} {book line : List ℕ} {units budget day day₂ : ℕ} {schedule work net output work' work₂' net' net₂' output' output₂' : List ℕ} {r r₂ : D.Answer}
+module _ {read : LineReader} {book line : List ℕ} {units budget day day₂ : ℕ} {schedule work net output work' work₂' net' net₂' output' output₂' : List ℕ} {r r₂ : Reply}
     (undated : is_dated book ≡ false) (one : ReducedBy read book line units budget day schedule work net output work' net' output' r)
     (two : ReducedBy read book line units budget day₂ schedule work net output work₂' net₂' output₂' r₂) where
   pub ignores_day : (values r ≡ values r₂) × (work' ≡ work₂') × (net' ≡ net₂') × (output' ≡ output₂')

@@ -24,9 +24,8 @@ use Rattle.refusal.specs.Numbers.{number}
 use Rattle.line.proofs.Checking as Lines
 use Rattle.text.specs.Promises.{TextRead}
 use Rattle.text.proofs.Laws as Texts
-use Rattle.engine.specs.Spec.{request, answered_by, ReducedBy, answered, Reduced}
+use Rattle.engine.specs.Spec.{Reply, request, answered_by, ReducedBy, answered, Reduced}
 use Rattle.engine.specs.Promises.{Framed, Taken, ReadAs, TermRead}
-use Rattle.engine.specs.declared.Answer as D
 use Rattle.engine.proofs.Frame.{framed}
 use Rattle.engine.proofs.Answers.{of_run, run_as, reduced_as}
 
@@ -105,7 +104,7 @@ module _ {read : LineReader} {line symbols : List ℕ} {m : ℕ} (budget : ℕ) 
       of_run read (request book line units budget (day_in rules) schedule work net output) (framed _ f.faultless) (any_book book) b g.term t.line_read
       ∙ sym (of_run read_line (request book front units budget (day_in rules) schedule work net output) (framed _ f.faultless) (any_book book) b g.term g.term_read)
 
-  pub reduced_alike : {work' net' output' : List ℕ} {r : D.Answer} → Reduced book front units budget (day_in rules) schedule work net output work' net' output' r →
+  pub reduced_alike : {work' net' output' : List ℕ} {r : Reply} → Reduced book front units budget (day_in rules) schedule work net output work' net' output' r →
       ReducedBy read book line units budget (day_in rules) schedule work net output work' net' output' r
   reduced_alike = reduced_as (sym same_term) (λ A r.
       let e : book_of book rules ≡ r.rules = ap (on_day (day_in rules)) (accepted_injective (sym tables.read ∙ r.book_read)) ∙ sym r.of_day in
@@ -117,7 +116,7 @@ pub framed_as : {book work net output : List ℕ} {units few : ℕ} → few ≡ 
 framed_as {book} {work} {net} {output} e = subst (λ (u : ℕ). Framed book u work net output) (sym e)
 
 -- on the day that was asked for, if the tables are of it, and with as many units
-pub as_asked : {read : LineReader} {book line : List ℕ} {units few budget day table : ℕ} {schedule work net output work' net' output' : List ℕ} {r : D.Answer} →
+pub as_asked : {read : LineReader} {book line : List ℕ} {units few budget day table : ℕ} {schedule work net output work' net' output' : List ℕ} {r : Reply} →
     few ≡ units → table ≡ day → ReducedBy read book line few budget table schedule work net output work' net' output' r →
     ReducedBy read book line units budget day schedule work net output work' net' output' r
 as_asked {read} {book} {line} {budget = budget} {schedule = schedule} {work} {net} {output} {work'} {net'} {output'} {r} =

@@ -58,10 +58,10 @@ use Rattle.entry.specs.State.{limited, state, Arrays}
 use Rattle.run.specs.Promises as Run
 use Rattle.run.specs.Promises.{begun, Runnable, Ran}
 use Rattle.run.specs.declared.Run as R
+use Rattle.std.specs.Prelude.{Ok, Err}
 use Rattle.engine.specs.Spec.{Values, values, values_of, request, Reduced}
 use Rattle.engine.specs.Promises as C
 use Rattle.engine.specs.Promises.{Framed, Opened, Given, Asked, Posted}
-use Rattle.engine.specs.declared.Answer as D
 use Rattle.engine.proofs.Schedule.{named}
 use Rattle.engine.proofs.Frame.{framed}
 use Rattle.engine.proofs.Answers.{by_run, accepts}
@@ -198,7 +198,7 @@ module _ {l : Limits} {schedule book table net bytes : List ℕ} {n work : ℕ} 
     entries_are = ap (λ (a : FlatAnswer). a.entries) answer_is
 
     -- the code's values are the answer's
-    values_are : values (D.Answer.Ran r) ≡ values_of (accepted A)
+    values_are : values (Ok r) ≡ values_of (accepted A)
     unfolding flatten
     values_are =
         ap₂ (λ (a : FlatAnswer) (n : ℕ).
@@ -256,7 +256,7 @@ pub reduced : {l : Limits} {book table rules line schedule symbols ways work net
     Framed book l.units work net output → TablesOf book table rules → all_below l.units schedule ≡ true → Built book table rules net ways →
     Posted (book_by book ways) line l schedule symbols r → work' ≡ replicate (length work) 0 → net' ≡ replicate (length ways) 0 →
     output' ≡ operators (take r.length symbols) ++ drop r.length output →
-    Reduced book line l.units l.budget (day_in rules) schedule work net output work' net' output' (D.Answer.Ran r)
+    Reduced book line l.units l.budget (day_in rules) schedule work net output work' net' output' (Ok r)
 reduced {l} {book} {rules = rules} {line} {schedule} {symbols} {work = work} {net} {output} {r = r} f tables names built ran e z o =
     let p : Posted (book_of book rules) line l schedule symbols r = subst (λ (C : Book). Posted C line l schedule symbols r) built.same_book ran in
     let length_is : r.length ≡ length (preorder p.answer.term) = ap (λ (v : Values). v.length) (accepted_injective p.values_are) in

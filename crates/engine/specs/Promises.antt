@@ -1,5 +1,6 @@
 -- What the functions behind the entry points ask of each other. Assumes nothing.
-use Rattle.std.specs.Prelude.{Ok, Err, true, List, [], ◌≡◌, ℕ, ◌^◌, ◌≤◌, ◌<◌, length, take}
+use Rattle.std.specs.Prelude.{Option as Maybe}
+use Rattle.std.specs.Prelude.{Some, None, Ok, Err, true, List, [], ◌≡◌, ℕ, ◌^◌, ◌≤◌, ◌<◌, length, take}
 use Rattle.std.proofs.Math.Option.{Option, none, some}
 use Rattle.paper.specs.Result.{refused, accepted}
 use Rattle.paper.specs.Tree.{preorder}
@@ -18,12 +19,16 @@ use Rattle.net.specs.Net.{NetOf}
 use Rattle.whole.specs.declared.Limits.{Limits}
 use Rattle.run.specs.declared.Run.{Run}
 use Rattle.engine.specs.Spec.{published, values, values_of, RunHolds}
-use Rattle.engine.specs.declared.Answer as D
 
 -- the number of the frame's refusal, by the numbers that are looked at, or 0
 abbrev pub fault_number : Option ℕ → ℕ
 fault_number none = 0
 fault_number (some k) = k
+
+-- the same of what the code answers
+abbrev pub told : Maybe Refusal → ℕ
+told None = 0
+told (Some e) = number e
 
 -- what the frame's check looks at
 abbrev pub frame : ℕ → ℕ → ℕ → ℕ → Request
@@ -97,7 +102,7 @@ pub record Posted (B : Book) (line : List ℕ) (l : Limits) (schedule symbols : 
   pub term_read : read_line B line ≡ accepted term
   pub answer : Answer
   pub holds : RunHolds B term l.units l.budget schedule answer
-  pub values_are : values (D.Answer.Ran r) ≡ values_of (accepted answer)
+  pub values_are : values (Ok r) ≡ values_of (accepted answer)
   pub present : operators (take r.length symbols) ≡ preorder answer.term
   pub long : length symbols ≡ 1024
   pub most : r.length ≤ 1024

@@ -1,6 +1,7 @@
 -- The entry points of a run: which definition their answers equal, and what becomes of the lent buffers (document 01, 'What is checked where', 'How a
 -- run ends', 'What a reviewer will try, in order'; document 02, Changes 1 to 3, 5, 8 to 10 and 14). Assumes nothing.
-use Rattle.std.specs.Prelude.{true, List, [], ◌++◌, ◌≡◌, ℕ, ◌+◌, ◌*◌, ◌≤◌, length, drop, replicate}
+use Rattle.std.specs.Prelude.{Ok, Err, true, List, [], ◌++◌, ◌≡◌, ℕ, ◌+◌, ◌*◌, ◌≤◌, length, drop, replicate}
+use Rattle.std.specs.Prelude.{Result as Checked}
 use Rattle.std.proofs.Math.Option.{some}
 use Rattle.paper.specs.Result.{Result, refused, accepted}
 use Rattle.paper.specs.Tree.{preorder}
@@ -17,10 +18,11 @@ use Rattle.paper.specs.Change10.{Change10}
 use Rattle.paper.specs.Enough.{carried, orders_alone, forks_alone, Enough}
 use Rattle.paper.specs.Idle.{Queued, PicksLongest, WithPast, Helps}
 use Rattle.paper.specs.Page.{Request, Lengths, LineReader, all_below, answer_by}
+use Rattle.refusal.specs.declared.Refusal.{Refusal}
+use Rattle.refusal.specs.Numbers.{number}
 use Rattle.entry.specs.State.{limited}
 use Rattle.run.specs.Promises.{ending}
 use Rattle.run.specs.declared.Run as C
-use Rattle.engine.specs.declared.Answer as D
 use Rattle.engine.specs.declared.Form as F
 
 -- the published lengths of the work area, eight stacks of 1,026 frames of three bytes, and of the net's area, 3,840 bytes
@@ -50,10 +52,14 @@ run_values r = record {
   length = r.length;
 }
 
--- document 01's number or values for each case of the code's answer
-abbrev pub values : D.Answer → Result Values
-values (D.Answer.Refused k) = refused k
-values (D.Answer.Ran r) = accepted (run_values r)
+-- the code's answer: its run, or why it refuses
+abbrev pub Reply : Type 0
+Reply = Checked C.Run Refusal
+
+-- document 01's number or values for each case of it
+abbrev pub values : Reply → Result Values
+values (Err e) = refused (number e)
+values (Ok r) = accepted (run_values r)
 
 -- and of the definition's
 abbrev pub values_of : Result Answer → Result Values
@@ -139,7 +145,7 @@ module _ (read : LineReader) (book line : List ℕ) (units budget day : ℕ) (sc
 
   -- Book, line and schedule are lent to be read, so they are unchanged. The answer and the output are said by `answered_by`, which is asked with the
   -- lengths of work area and net alone, so nothing depends on what they held (proofs/Laws, forgets).
-  pub record ReducedBy (work' net' output' : List ℕ) (r : D.Answer) : Type 0 where
+  pub record ReducedBy (work' net' output' : List ℕ) (r : Reply) : Type 0 where
     -- the answer is the definition's
     pub answer : values r ≡ values_of answered_by
     -- on a refusal every lent buffer is unchanged
@@ -158,9 +164,9 @@ answered = answered_by read_line
 abbrev pub RunOf : List ℕ → List ℕ → ℕ → ℕ → ℕ → List ℕ → List ℕ → List ℕ → List ℕ → Answer → Type 0
 RunOf = RunBy read_line
 
-abbrev pub Reduced : List ℕ → List ℕ → ℕ → ℕ → ℕ → List ℕ → List ℕ → List ℕ → List ℕ → List ℕ → List ℕ → List ℕ → D.Answer → Type 0
+abbrev pub Reduced : List ℕ → List ℕ → ℕ → ℕ → ℕ → List ℕ → List ℕ → List ℕ → List ℕ → List ℕ → List ℕ → List ℕ → Reply → Type 0
 Reduced = ReducedBy read_line
 
 -- of a payee's text
-abbrev pub PayeeReduced : List ℕ → List ℕ → ℕ → ℕ → ℕ → List ℕ → List ℕ → List ℕ → List ℕ → List ℕ → List ℕ → List ℕ → D.Answer → Type 0
+abbrev pub PayeeReduced : List ℕ → List ℕ → ℕ → ℕ → ℕ → List ℕ → List ℕ → List ℕ → List ℕ → List ℕ → List ℕ → List ℕ → Reply → Type 0
 PayeeReduced = ReducedBy read_text

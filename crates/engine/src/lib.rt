@@ -13,7 +13,6 @@ ghost use Rattle.entry.specs.State as E;
 ghost use Rattle.run.specs.Promises.{begun, Ran};
 ghost use Rattle.engine.specs.Spec as R;
 ghost use Rattle.engine.specs.Promises as C;
-ghost use Rattle.engine.specs.declared.Answer as D;
 
 use refusal::Refusal;
 use run::Run;
@@ -25,13 +24,6 @@ pub const WORK: usize = 24624;
 pub const NET: usize = net::NET;
 
 pub const OUTPUT: usize = 1024;
-
-// A run's values, or the number of the refusal.
-#[derive(Drop)]
-pub enum Answer {
-    Ran(Run),
-    Refused(u8),
-}
 
 // What stands where the term stands: a term, or a payee's text.
 #[derive(Clone, Copy)]
@@ -184,7 +176,7 @@ fn run_checked(
     work: &mut [u8],
     net: &mut [u8],
     output: &mut [u8],
-) -> Answer
+) -> Result<Run, Refusal>
     requires framed { C.Framed book.now limits.units work.old net.old output.old }
     requires loaded { C.Loaded book.now operators.now rules.now line.now length }
     requires budget_bound { limits.budget < 2 ^ 32 }
@@ -192,7 +184,7 @@ fn run_checked(
         schedule.now work.old net.old output.old work.new net.new output.new result }
 {
     if !names_units(schedule, limits.units) {
-        return Answer::Refused(14);
+        return Err(Refusal::UnknownUnitInSchedule);
     }
     insertion::build(book, operators, rules, net);
     let mut symbols = [0u32; 1024];
@@ -212,7 +204,7 @@ fn run_checked(
     hand_out(&symbols, run.length, output);
     clear(work);
     clear(net);
-    Answer::Ran(run)
+    Ok(run)
 }
 
 // Reads what stands where the term stands, by the table of a book of n operators, to the front of the symbols.
@@ -248,7 +240,7 @@ fn reduce_book(
     work: &mut [u8],
     net: &mut [u8],
     output: &mut [u8],
-) -> Answer
+) -> Result<Run, Refusal>
     requires { C.Framed book.now units work.old net.old output.old }
     ensures { R.ReducedBy (R.reader form) book.now given.now units budget day schedule.now work.old
         net.old output.old work.new net.new output.new result }
@@ -256,46 +248,42 @@ fn reduce_book(
     let mut operators = [0u8; tables::OPERATORS];
     let mut rules = [0u32; tables::RULES];
     let mut line = [0u8; 1024];
-    match book::read_book(book, day, &mut operators, &mut rules) {
-        Err(e) => Answer::Refused(e.number()),
-        Ok(n) => match read_term(form, given, n, &operators, &mut line) {
-            Err(e) => Answer::Refused(e.number()),
-            Ok(length) => run_checked(
-                book,
-                &operators,
-                &rules,
-                &line,
-                length,
-                Limits {
-                    units: casts::index(units),
-                    budget,
-                },
-                schedule,
-                work,
-                net,
-                output,
-            ),
+    let n = book::read_book(book, day, &mut operators, &mut rules)?;
+    let length = read_term(form, given, n, &operators, &mut line)?;
+    run_checked(
+        book,
+        &operators,
+        &rules,
+        &line,
+        length,
+        Limits {
+            units: casts::index(units),
+            budget,
         },
-    }
+        schedule,
+        work,
+        net,
+        output,
+    )
 }
 
-// The refusal's number of the run's frame, or 0: 13, units not 1 to 8; 15, work area or net too short; 16, output too short.
-pub fn frame_fault(units: u8, work: usize, net: usize, output: usize) -> u8
-    ensures { result ≡ C.fault units work net output }
+// The refusal of the run's frame, if there is one: 13, units not 1 to 8; 15, work area or net too short; 16, output too short.
+pub fn frame_fault(units: u8, work: usize, net: usize, output: usize) -> Option<Refusal>
+    ensures { C.told result ≡ C.fault units work net output }
 {
     if units == 0 {
-        return 13;
+        return Some(Refusal::BadUnits);
     }
     if 8 < units {
-        return 13;
+        return Some(Refusal::BadUnits);
     }
     if work < WORK || net < NET {
-        return 15;
+        return Some(Refusal::WorkTooShort);
     }
     if output < OUTPUT {
-        return 16;
+        return Some(Refusal::OutputTooShort);
     }
-    0
+    None
 }
 
 // The run of a line or text by the rules of a book that stand on a day: `units` units share the work as the schedule says, and make at most `budget`
@@ -311,13 +299,12 @@ pub fn reduce_form(
     work: &mut [u8],
     net: &mut [u8],
     output: &mut [u8],
-) -> Answer
+) -> Result<Run, Refusal>
     ensures { R.ReducedBy (R.reader form) book.now line.now units budget day schedule.now work.old
         net.old output.old work.new net.new output.new result }
 {
-    let fault = frame_fault(units, work.len(), net.len(), output.len());
-    if fault != 0 {
-        return Answer::Refused(fault);
+    if let Some(fault) = frame_fault(units, work.len(), net.len(), output.len()) {
+        return Err(fault);
     }
     // What stands behind a book's first 65,536 bytes does not change what it reads as.
     if 65536 < book.len() {
@@ -350,7 +337,7 @@ pub fn reduce(
     work: &mut [u8],
     net: &mut [u8],
     output: &mut [u8],
-) -> Answer
+) -> Result<Run, Refusal>
     ensures { R.Reduced book.now line.now units budget day schedule.now work.old
         net.old output.old work.new net.new output.new result }
 {
@@ -379,7 +366,7 @@ pub fn payee(
     work: &mut [u8],
     net: &mut [u8],
     output: &mut [u8],
-) -> Answer
+) -> Result<Run, Refusal>
     ensures { R.PayeeReduced book.now text.now units budget day schedule.now work.old
         net.old output.old work.new net.new output.new result }
 {

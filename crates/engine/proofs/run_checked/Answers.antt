@@ -17,7 +17,7 @@ returns-then-not-names_units c =
     let p = c.requires in
     let g = p.loaded.given in
     let n = sym c.names_units.ensures ∙ c.if-not-names_units.true in
-    refuses 14 (by_schedule _ _ (framed _ p.framed.faultless) _ p.loaded.tables.read g.term g.term_read n)
+    refuses _ (by_schedule _ _ (framed _ p.framed.faultless) _ p.loaded.tables.read g.term g.term_read n)
 
 pub build-requires : goal.build-requires
 build-requires c =
