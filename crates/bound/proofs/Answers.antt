@@ -21,9 +21,11 @@ use Rattle.entry.specs.declared.Ending as C
 use Rattle.run.specs.declared.Run.{Run}
 use Rattle.run.specs.Promises.{ending}
 use Rattle.engine.specs.Spec as R
-use Rattle.engine.specs.declared.Answer as E
+use Rattle.std.specs.Prelude.{Ok, Err}
+use Rattle.refusal.specs.declared.Refusal.{Refusal}
+use Rattle.refusal.specs.Numbers.{number}
 use Rattle.engine.specs.declared.Form as F
-use Rattle.bound.specs.Spec.{Bound, tells, ran, bound_of, values, ToldBy, BoundBy}
+use Rattle.bound.specs.Spec.{Bound, tells, ran, bound_of, bound_told, ToldBy, BoundBy}
 use Rattle.bound.specs.declared.Bound as D
 
 -- BY THE ENDING
@@ -75,17 +77,17 @@ refused_by (refused j) k e = let i : k ≡ j = cc in ap refused (sym i)
 refused_by (accepted A) k e = absurd (refused_accepted e)
 
 -- of any run: what its answer is
-pub made : {read : LineReader} {book line : List ℕ} {units budget day : ℕ} {schedule work net output work' net' output' : List ℕ} {a : E.Answer} →
-    R.ReducedBy read book line units budget day schedule work net output work' net' output' a → (run : Run) → a ≡ E.Answer.Ran run →
+pub made : {read : LineReader} {book line : List ℕ} {units budget day : ℕ} {schedule work net output work' net' output' : List ℕ} {a : R.Reply} →
+    R.ReducedBy read book line units budget day schedule work net output work' net' output' a → (run : Run) → a ≡ Ok run →
     Accepted (R.answered_by read book line units budget day schedule work net output) run
 made d run e = accepted_as _ run (sym (ap R.values e) ∙ d.answer)
 
 -- THE ANSWER
 
-module _ (f : F.Form) {book line : List ℕ} {budget day : ℕ} {work net output work' net' output' : List ℕ} {a : E.Answer}
+module _ (f : F.Form) {book line : List ℕ} {budget day : ℕ} {work net output work' net' output' : List ℕ} {a : R.Reply}
     (d : R.ReducedBy (R.reader f) book line 1 budget day (replicate 65536 0) work net output work' net' output' a) where
   -- the FORKs are no more than the entries
-  pub forks_few : (run : Run) → a ≡ E.Answer.Ran run → run.granted + run.kept ≤ run.entries
+  pub forks_few : (run : Run) → a ≡ Ok run → run.granted + run.kept ≤ run.entries
   forks_few run e =
       let m = made d run e in
       omega (
@@ -111,15 +113,15 @@ module _ (f : F.Form) {book line : List ℕ} {budget day : ℕ} {work net output
           output = n;
         })) o
 
-    pub of_refused : (k : ℕ) → a ≡ E.Answer.Refused k → BoundBy (R.reader f) book line budget day work net work' net' (D.Bound.Refused k)
+    pub of_refused : (k : Refusal) → a ≡ Err k → BoundBy (R.reader f) book line budget day work net work' net' (Err k)
     unfolding bound_of then
     of_refused k e =
-        let r = refused_by _ k (sym (ap R.values e) ∙ d.answer) in
-        let b : bound_of (R.reader f) book line budget day work net ≡ refused k = rw (sym same_run ∙ r) refl in
+        let r = refused_by _ (number k) (sym (ap R.values e) ∙ d.answer) in
+        let b : bound_of (R.reader f) book line budget day work net ≡ refused (number k) = rw (sym same_run ∙ r) refl in
         record {
           answer = sym b;
           exact = λ S F h. absurd (refused_accepted (sym b ∙ h));
-          unchanged = λ j h. let (w, n, q) = d.unchanged k r in (w, n);
+          unchanged = λ j h. let (w, n, q) = d.unchanged (number k) r in (w, n);
           cleared = λ c h. absurd (refused_accepted (sym b ∙ h));
         }
 
@@ -145,17 +147,17 @@ module _ (f : F.Form) {book line : List ℕ} {budget day : ℕ} {work net output
           forks = t.2;
         })
 
-    pub of_ran : (run : Run) → a ≡ E.Answer.Ran run → {r : D.Bound} →
-        values r ≡ accepted (tells (ending run.ending) run.entries (run.granted + run.kept)) →
-        BoundBy (R.reader f) book line budget day work net work' net' r
+    pub of_ran : (run : Run) → a ≡ Ok run → {b : D.Bound} →
+        bound_told b ≡ tells (ending run.ending) run.entries (run.granted + run.kept) →
+        BoundBy (R.reader f) book line budget day work net work' net' (Ok b)
     unfolding bound_of then
-    of_ran run e {r} v =
+    of_ran run e v =
         let m = made d run e in
         let A = m.answer in
         let b : bound_of (R.reader f) book line budget day work net ≡ accepted (tells A.ending A.entries (A.granted + A.kept)) =
         rw (sym same_run ∙ m.is) refl in
         record {
-          answer = v ∙ ap (λ (x : R.Values). accepted (tells x.ending x.entries (x.granted + x.kept))) m.values ∙ sym b;
+          answer = ap accepted v ∙ ap (λ (x : R.Values). accepted (tells x.ending x.entries (x.granted + x.kept))) m.values ∙ sym b;
           exact = λ S F h.
               let (fin, s, g) = told_of A.ending A.entries (A.granted + A.kept) S F (accepted_injective (sym b ∙ h)) in
               rw (sym s, sym g) (exactly A m.is fin);

@@ -26,7 +26,7 @@ use Rattle.entry.specs.State.{limited}
 use Rattle.run.specs.declared.Run.{Run}
 use Rattle.run.specs.Promises.{ending}
 use Rattle.engine.specs.Spec as R
-use Rattle.engine.specs.declared.Answer as E
+use Rattle.std.specs.Prelude.{Ok}
 use Rattle.engine.specs.Promises.{fault}
 use Rattle.engine.proofs.Answers.{by_frame, by_book, by_line, by_run}
 use Rattle.engine.proofs.Frame.{fault_none, fault_work, fault_net, faultless, positive, framed, faulty}
@@ -65,8 +65,8 @@ module _ {read : LineReader} {book line : List ℕ} {budget day S F : ℕ} (t : 
     uncut u rs e names long = rw (r.holds.is, e) ((r.holds.enough S finishes).rounds u rs names (omega (arith, orders_told, forks_told)))
 
   -- S + 4 × F rounds or more, each naming every unit, finish or end full
-  pub suffices : {units : ℕ} {schedule work net output work' net' output' : List ℕ} {a : E.Answer} →
-      R.ReducedBy read book line units budget day schedule work net output work' net' output' a → (run : Run) → a ≡ E.Answer.Ran run →
+  pub suffices : {units : ℕ} {schedule work net output work' net' output' : List ℕ} {a : R.Reply} →
+      R.ReducedBy read book line units budget day schedule work net output work' net' output' a → (run : Run) → a ≡ Ok run →
       (rs : List (List ℕ)) → schedule ≡ flatten rs → All (Names units) rs → S + 4 * F ≤ length rs →
       (ending run.ending ≡ Ending.finished) ⊎ (ending run.ending ≡ Ending.full)
   suffices {units} {schedule} {work} {net} {output} d run e rs s names long =

@@ -1,6 +1,7 @@
 -- S and F of a book and a line (document 02, Change 14): which definition the answer equals, that the two are those of a one-unit run without symbol limit, and what
 -- becomes of the lent buffers. Assumes nothing.
-use Rattle.std.specs.Prelude.{List, ◌≡◌, ℕ, ◌+◌, length, replicate}
+use Rattle.std.specs.Prelude.{Result as Checked}
+use Rattle.std.specs.Prelude.{Ok, Err, List, ◌≡◌, ℕ, ◌+◌, length, replicate}
 use Rattle.paper.specs.Result.{Result, refused, accepted, then}
 use Rattle.paper.specs.Book.{Term, Book}
 use Rattle.paper.specs.Dated.{AnyBook, read_any, on_day}
@@ -9,6 +10,8 @@ use Rattle.paper.specs.Run.{Answer}
 use Rattle.paper.specs.OneUnit.{alone}
 use Rattle.paper.specs.Enough.{orders_alone, forks_alone}
 use Rattle.paper.specs.Page.{Request, LineReader, answer_by}
+use Rattle.refusal.specs.declared.Refusal.{Refusal}
+use Rattle.refusal.specs.Numbers.{number}
 use Rattle.run.specs.Promises.{ending}
 use Rattle.engine.specs.Spec.{published}
 use Rattle.bound.specs.declared.Bound as D
@@ -68,15 +71,22 @@ module _ (read : LineReader) (book line : List ℕ) (budget day : ℕ) where
 
 -- THE ENTRY POINT
 
--- document 01's number or what is told, for each case of the code's answer
-abbrev pub values : D.Bound → Result Bound
-values (D.Bound.Refused k) = refused k
-values (D.Bound.Unknown e) = accepted (Bound.unknown (ending e))
-values (D.Bound.Told s f) = accepted (Bound.told s f)
+-- what is told, for each case of the code's
+abbrev pub bound_told : D.Bound → Bound
+bound_told (D.Bound.Unknown e) = Bound.unknown (ending e)
+bound_told (D.Bound.Told s f) = Bound.told s f
+
+-- the code's answer, and document 01's number or what is told for each case of it
+abbrev pub Reply : Type 0
+Reply = Checked D.Bound Refusal
+
+abbrev pub values : Reply → Result Bound
+values (Err e) = refused (number e)
+values (Ok b) = accepted (bound_told b)
 
 -- Book and line are lent to be read, so they are unchanged.
 module _ (read : LineReader) (book line : List ℕ) (budget day : ℕ) (work net : List ℕ) where
-  pub record BoundBy (work' net' : List ℕ) (r : D.Bound) : Type 0 where
+  pub record BoundBy (work' net' : List ℕ) (r : Reply) : Type 0 where
     -- the answer is the definition's
     pub answer : values r ≡ bound_of read book line budget day work net
     -- what is told is so; that S + 4 × F rounds suffice follows (proofs/Laws, suffices)

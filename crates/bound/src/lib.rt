@@ -7,16 +7,16 @@ ghost use Rattle.run.specs.Promises.{ending};
 ghost use Rattle.engine.specs.Spec.{reader};
 ghost use Rattle.bound.specs.Spec as X;
 
-use engine::{Answer, Form};
+use engine::Form;
+use refusal::Refusal;
 use run::{Ending, Run};
 
 // The entries that the run has at most.
 pub const ENTRIES: usize = 65536;
 
-// The number of the refusal; the ending of a run that did not finish; S, the orders that the run carries out, and F, its FORKs.
+// The ending of a run that did not finish; or S, the orders that the run carries out, and F, its FORKs.
 #[derive(Clone, Copy, Debug, PartialEq, Eq)]
 pub enum Bound {
-    Refused(u8),
     Unknown(Ending),
     Told(usize, usize),
 }
@@ -24,7 +24,7 @@ pub enum Bound {
 // What a run of one unit tells: its entries and its FORKs, if it finished.
 fn tell(run: Run) -> Bound
     requires { run.granted + run.kept ≤ run.entries }
-    ensures { X.values result ≡ accepted (X.tells (ending run.ending) run.entries (run.granted + run.kept)) }
+    ensures { X.bound_told result ≡ X.tells (ending run.ending) run.entries (run.granted + run.kept) }
 {
     match run.ending {
         Ending::Finished => Bound::Told(run.entries, run.granted + run.kept),
@@ -41,13 +41,13 @@ pub fn bound_form(
     day: u16,
     work: &mut [u8],
     net: &mut [u8],
-) -> Bound
+) -> Result<Bound, Refusal>
     ensures { X.BoundBy (reader form) book.now line.now budget day work.old net.old
         work.new net.new result }
 {
     let schedule = [0u8; ENTRIES];
     let mut output = [0u8; engine::OUTPUT];
-    match engine::reduce_form(
+    let run = engine::reduce_form(
         form,
         book,
         line,
@@ -58,8 +58,6 @@ pub fn bound_form(
         work,
         net,
         &mut output,
-    ) {
-        Answer::Refused(k) => Bound::Refused(k),
-        Answer::Ran(run) => tell(run),
-    }
+    )?;
+    Ok(tell(run))
 }
