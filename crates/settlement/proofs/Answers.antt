@@ -15,13 +15,12 @@ use Rattle.paper.proofs.Tests.{ltb_false}
 use Rattle.run.specs.declared.Run.{Run}
 use Rattle.run.specs.Promises.{Ending, ending}
 use Rattle.engine.specs.Spec as R
-use Rattle.engine.specs.declared.Answer as E
 use Rattle.fees.specs.Fees.{Charge, charge}
 use Rattle.fees.specs.Spec.{ChargedAs}
 use Rattle.refusal.specs.Numbers.{number}
 use Rattle.refusal.specs.declared.Refusal.{Refusal}
 use Rattle.std.proofs.Common.{Ok, Err}
-use Rattle.settlement.specs.Spec.{charged, ran, settled, values, with_fee, values_of, SettledBy}
+use Rattle.settlement.specs.Spec.{Reply, told, charged, ran, settled, values, with_fee, values_of, SettledBy}
 use Rattle.settlement.specs.Promises.{RunSettled}
 use Rattle.settlement.specs.declared.Settled as D
 
@@ -38,39 +37,39 @@ module _ (term rates : List ℕ) (amount : ℤ) (ss : List ℕ) where
 
   module _ (run : Run) where
     pub ended_so : (run.ending ≡ Ending.Finished → ⊥) → {output output' : List ℕ} {parts : List ℤ} → output' ≡ term ++ drop (length term) output →
-        RunSettled run term (charged (ending run.ending) term rates amount ss) output output' parts parts (D.Settled.Ended run)
+        RunSettled run term (charged (ending run.ending) term rates amount ss) output output' parts parts (Ok (D.Settled.Ended run))
     ended_so h w = rw (by_other run.ending h) (record { is = refl; output_is = w; parts_are = refl })
 
     finished : run.ending ≡ Ending.Finished → charged (ending run.ending) term rates amount ss ≡ then (charge term rates amount ss) (λ C. accepted (some C))
     unfolding charged
     finished h = rw h
 
-    pub refused_so : run.ending ≡ Ending.Finished → (r : Refusal) {k : ℕ} → k ≡ number r → {output : List ℕ} {parts parts' : List ℤ} → ChargedAs (charge term rates amount ss) parts parts' (Err r) →
-        RunSettled run term (charged (ending run.ending) term rates amount ss) output output parts parts' (D.Settled.Refused k)
+    pub refused_so : run.ending ≡ Ending.Finished → (r : Refusal) {output : List ℕ} {parts parts' : List ℤ} → ChargedAs (charge term rates amount ss) parts parts' (Err r) →
+        RunSettled run term (charged (ending run.ending) term rates amount ss) output output parts parts' (Err r)
     unfolding then
-    refused_so h r {k} e {output} {parts} {parts'} q = rw (finished h) (go (charge term rates amount ss) q)
+    refused_so h r {output} {parts} {parts'} q = rw (finished h) (go (charge term rates amount ss) q)
       where
         go : (x : Result Charge) → ChargedAs x parts parts' (Err r) →
-            RunSettled run term (then x (λ C. accepted (some C))) output output parts parts' (D.Settled.Refused k)
+            RunSettled run term (then x (λ C. accepted (some C))) output output parts parts' (Err r)
         go (refused j) q =
             let a = q.answer in
-            let i : k ≡ j = cc in
-            record { is = ap D.Settled.Refused i; output_is = refl; parts_are = q.unchanged j refl }
+            let i : number r ≡ j = cc in
+            record { is = ap refused i; output_is = refl; parts_are = q.unchanged j refl }
         go (accepted C) q = let a = q.answer in let z : ◌≡◌ {A = ℕ} 0 1 = cc in absurd (omega arith)
 
     pub posted_so : run.ending ≡ Ending.Finished → (f : ℤ) {output output' : List ℕ} {parts parts' : List ℤ} → ChargedAs (charge term rates amount ss) parts parts' (Ok f) →
         output' ≡ term ++ drop (length term) output →
-        RunSettled run term (charged (ending run.ending) term rates amount ss) output output' parts parts' (D.Settled.Posted run f)
+        RunSettled run term (charged (ending run.ending) term rates amount ss) output output' parts parts' (Ok (D.Settled.Posted run f))
     unfolding then
     posted_so h f {output} {output'} {parts} {parts'} q w = rw (finished h) (go (charge term rates amount ss) q)
       where
         go : (x : Result Charge) → ChargedAs x parts parts' (Ok f) →
-            RunSettled run term (then x (λ C. accepted (some C))) output output' parts parts' (D.Settled.Posted run f)
+            RunSettled run term (then x (λ C. accepted (some C))) output output' parts parts' (Ok (D.Settled.Posted run f))
         go (refused j) q = let a = q.answer in let z : ◌≡◌ {A = ℕ} 0 1 = cc in absurd (omega arith)
         go (accepted C) q =
             let a = q.answer in
             let i : f ≡ C.fee = cc in
-            record { is = ap (D.Settled.Posted run) i; output_is = w; parts_are = q.written C refl }
+            record { is = ap (λ (x : ℤ). accepted (D.Settled.Posted run x)) i; output_is = w; parts_are = q.written C refl }
 
 -- THE RUN
 
@@ -109,11 +108,11 @@ module _ (read : LineReader) (book line : List ℕ) (units budget day : ℕ) (sc
 
 module _ {read : LineReader} {book line : List ℕ} {units budget day : ℕ} {schedule rates : List ℕ} {amount : ℤ} {ss output : List ℕ} {parts : List ℤ} where
   -- the run is refused
-  pub run_refused : (k : ℕ) → ran read book line units budget day schedule output ≡ refused k →
-      SettledBy read book line units budget day schedule rates amount ss output parts output parts (D.Settled.Refused k)
+  pub run_refused : (k : Refusal) → ran read book line units budget day schedule output ≡ refused (number k) →
+      SettledBy read book line units budget day schedule rates amount ss output parts output parts (Err k)
   unfolding settled then
   run_refused k e =
-      let f : settled read book line units budget day schedule output rates amount ss ≡ refused k = rw e refl in
+      let f : settled read book line units budget day schedule output rates amount ss ≡ refused (number k) = rw e refl in
       record {
         answer = rw f refl;
         unchanged = λ j h. (refl, refl);
@@ -124,7 +123,7 @@ module _ {read : LineReader} {book line : List ℕ} {units budget day : ℕ} {sc
   -- the run is made, and its posting charged so
   module _ (A : Answer) (run : Run) (v : accepted (R.run_values run) ≡ R.values_of (accepted A))
       (e : ran read book line units budget day schedule output ≡ accepted A)
-      (b : R.RunBy read book line units budget day schedule [] [] output A) {output' : List ℕ} {parts' : List ℤ} {r : D.Settled} where
+      (b : R.RunBy read book line units budget day schedule [] [] output A) {output' : List ℕ} {parts' : List ℤ} {r : Reply} where
     whole : (x : Result (Option Charge)) →
         settled read book line units budget day schedule output rates amount ss ≡ then x (λ c. accepted (record { run = A; charge = c })) →
         RunSettled run (preorder A.term) x output output' parts parts' r →
@@ -157,9 +156,9 @@ module _ {read : LineReader} {book line : List ℕ} {units budget day : ℕ} {sc
         whole (charged A.ending (preorder A.term) rates amount ss) (rw e refl) (rw (t, ending_told run A v) at q)
 
 -- a run that was made in areas of its own
-module _ {read : LineReader} {book line : List ℕ} {units budget day : ℕ} {schedule work net term work' net' term' : List ℕ} {a : E.Answer}
+module _ {read : LineReader} {book line : List ℕ} {units budget day : ℕ} {schedule work net term work' net' term' : List ℕ} {a : R.Reply}
     (d : R.ReducedBy read book line units budget day schedule work net term work' net' term' a) where
-  module _ (run : Run) (e : a ≡ E.Answer.Ran run) where
+  module _ (run : Run) (e : a ≡ Ok run) where
     made : Accepted (R.answered_by read book line units budget day schedule work net term) run
     made = accepted_as _ run (sym (ap R.values e) ∙ d.answer)
 
@@ -175,13 +174,13 @@ module _ {read : LineReader} {book line : List ℕ} {units budget day : ℕ} {sc
 
   module _ {rates : List ℕ} {amount : ℤ} {ss output : List ℕ} {parts : List ℤ} (long : 1024 ≤ length output) (w : length work ≡ (R.published).work)
       (n : length net ≡ (R.published).net) (t : length term ≡ 1024) where
-    pub of_refused : (k : ℕ) → a ≡ E.Answer.Refused k →
-        SettledBy read book line units budget day schedule rates amount ss output parts output parts (D.Settled.Refused k)
+    pub of_refused : (k : Refusal) → a ≡ Err k →
+        SettledBy read book line units budget day schedule rates amount ss output parts output parts (Err k)
     of_refused k e =
         run_refused k
-        (sym (same_run read book line units budget day schedule output work net term long w n t) ∙ refused_by _ k (sym (ap R.values e) ∙ d.answer))
+        (sym (same_run read book line units budget day schedule output work net term long w n t) ∙ refused_by _ (number k) (sym (ap R.values e) ∙ d.answer))
 
-    pub of_ran : (run : Run) → a ≡ E.Answer.Ran run → {output' : List ℕ} {parts' : List ℤ} {r : D.Settled} →
+    pub of_ran : (run : Run) → a ≡ Ok run → {output' : List ℕ} {parts' : List ℤ} {r : Reply} →
         RunSettled run (take run.length term') (charged (ending run.ending) (take run.length term') rates amount ss) output output' parts parts' r →
         SettledBy read book line units budget day schedule rates amount ss output parts output' parts' r
     of_ran run e q =

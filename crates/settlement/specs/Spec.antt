@@ -1,11 +1,14 @@
 -- A run and the charge of what it posts (document 02, Change 12): which definition the answer equals, and what becomes of the lent buffers. Assumes nothing.
-use Rattle.std.specs.Prelude.{List, [], ◌++◌, ◌≡◌, ℕ, ℤ, length, drop}
+use Rattle.std.specs.Prelude.{Result as Checked}
+use Rattle.std.specs.Prelude.{Ok, Err, List, [], ◌++◌, ◌≡◌, ℕ, ℤ, length, drop}
 use Rattle.std.proofs.Math.Option.{Option, none, some}
 use Rattle.paper.specs.Result.{Result, refused, accepted, then}
 use Rattle.paper.specs.Tree.{preorder}
 use Rattle.paper.specs.Machine.{Ending}
 use Rattle.paper.specs.Run.{Answer}
 use Rattle.paper.specs.Page.{Request, LineReader, answer_by}
+use Rattle.refusal.specs.declared.Refusal.{Refusal}
+use Rattle.refusal.specs.Numbers.{number}
 use Rattle.engine.specs.Spec as R
 use Rattle.fees.specs.Fees.{Charge, charge}
 use Rattle.settlement.specs.declared.Settled as D
@@ -58,10 +61,17 @@ pub record Told : Type 0 where
   pub fee : Option ℤ
 
 -- the refusal's number or the values, for each case of the code's answer
-abbrev pub values : D.Settled → Result Told
-values (D.Settled.Refused k) = refused k
-values (D.Settled.Ended r) = accepted (record { run = R.run_values r; fee = none })
-values (D.Settled.Posted r f) = accepted (record { run = R.run_values r; fee = some f })
+abbrev pub Reply : Type 0
+Reply = Checked D.Settled Refusal
+
+abbrev pub told : Reply → Result D.Settled
+told (Err e) = refused (number e)
+told (Ok s) = accepted s
+
+abbrev pub values : Result D.Settled → Result Told
+values (refused k) = refused k
+values (accepted (D.Settled.Ended r)) = accepted (record { run = R.run_values r; fee = none })
+values (accepted (D.Settled.Posted r f)) = accepted (record { run = R.run_values r; fee = some f })
 
 -- and of the definition's
 abbrev pub fee_of : Option Charge → Option ℤ
@@ -88,9 +98,9 @@ module _ (read : LineReader) (book line : List ℕ) (units budget day : ℕ) (sc
   abbrev pub answered : Result Settlement
   answered = settled read book line units budget day schedule output rates amount shares
 
-  pub record SettledBy (output' : List ℕ) (parts' : List ℤ) (r : D.Settled) : Type 0 where
+  pub record SettledBy (output' : List ℕ) (parts' : List ℤ) (r : Reply) : Type 0 where
     -- the answer is the definition's
-    pub answer : values r ≡ values_of answered
+    pub answer : values (told r) ≡ values_of answered
     -- on a refusal, be it of the run or of its posting, every lent buffer is unchanged
     pub unchanged : (k : ℕ) → answered ≡ refused k → (output' ≡ output) × (parts' ≡ parts)
     -- otherwise the output has the present term in front, and its other bytes as they were

@@ -8,13 +8,13 @@ ghost use Rattle.engine.specs.Spec.{reader};
 ghost use Rattle.settlement.specs.Spec as X;
 ghost use Rattle.settlement.specs.Promises as C;
 
-use engine::{Answer, Form};
+use engine::Form;
+use refusal::Refusal;
 use run::{Ending, Run};
 
-// The number of the refusal; a run that did not finish; a finished run, and the fee of its posting.
+// A run that did not finish; or a finished run, and the fee of its posting.
 #[derive(Clone, Copy, Debug, PartialEq, Eq)]
 pub enum Settled {
-    Refused(u8),
     Ended(Run),
     Posted(Run, i64),
 }
@@ -36,22 +36,18 @@ fn settle_run(
     shares: &[u16],
     output: &mut [u8],
     parts: &mut [i64; 16],
-) -> Settled
+) -> Result<Settled, Refusal>
     requires { length term.now ≤ length output.old }
     ensures { C.RunSettled run term.now (X.charged (ending run.ending) term.now rates.now amount shares.now)
         output.old output.new parts.old parts.new result }
 {
     if run.ending != Ending::Finished {
         hand_out(term, output);
-        return Settled::Ended(run);
+        return Ok(Settled::Ended(run));
     }
-    match fees::charge(term, rates, amount, shares, parts) {
-        Err(e) => Settled::Refused(e.number()),
-        Ok(fee) => {
-            hand_out(term, output);
-            Settled::Posted(run, fee)
-        }
-    }
+    let fee = fees::charge(term, rates, amount, shares, parts)?;
+    hand_out(term, output);
+    Ok(Settled::Posted(run, fee))
 }
 
 // The run of a line or text by the rules of a book that stand on a day, and the charge of what it posts.
@@ -68,24 +64,19 @@ pub fn settle(
     shares: &[u16],
     output: &mut [u8],
     parts: &mut [i64; 16],
-) -> Settled
+) -> Result<Settled, Refusal>
     ensures { X.SettledBy (reader form) book.now line.now units budget day schedule.now rates.now amount
         shares.now output.old parts.old output.new parts.new result }
 {
-    let fault = engine::frame_fault(units, engine::WORK, engine::NET, output.len());
-    if fault != 0 {
-        return Settled::Refused(fault);
+    if let Some(fault) = engine::frame_fault(units, engine::WORK, engine::NET, output.len()) {
+        return Err(fault);
     }
     let mut work = [0u8; engine::WORK];
     let mut net = [0u8; engine::NET];
     let mut term = [0u8; engine::OUTPUT];
-    match engine::reduce_form(
+    let run = engine::reduce_form(
         form, book, line, units, budget, day, schedule, &mut work, &mut net, &mut term,
-    ) {
-        Answer::Refused(k) => Settled::Refused(k),
-        Answer::Ran(run) => {
-            let n = run.length;
-            settle_run(run, &term[..n], rates, amount, shares, output, parts)
-        }
-    }
+    )?;
+    let n = run.length;
+    settle_run(run, &term[..n], rates, amount, shares, output, parts)
 }
