@@ -61,6 +61,7 @@ impl Unit {
     }
 }
 
+// Kept: no `From`, which could not ask that both numbers are below 65,536.
 fn cell_of(rank: usize, end: usize) -> u32
     requires { (rank < 65536) × (end < 65536) }
     ensures { result ≡ K.cell rank end }
