@@ -19,10 +19,7 @@ pub fn has_step(operators: &[u8; 4352], o: u8, k: u8) -> bool
     requires { (k < 16) × L.Rowed operators.now o }
     ensures { O.is_some (drop k (L.steps_in operators.now o)) ≡ result }
 {
-    match tables::step_at(operators, o, k) {
-        Step::None => false,
-        _ => true,
-    }
+    !matches!(tables::step_at(operators, o, k), Step::None)
 }
 
 // The count of the next JOIN from step k of operator o on.

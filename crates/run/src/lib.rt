@@ -42,8 +42,8 @@ fn ended(ending: Ending, entries: usize, p: Progress, symbols: &[u32; 1024]) -> 
     }
 }
 
-// The run of a schedule from where the arrays stand, with so many rewrites made before and nothing else counted yet: what it counts is of this part alone, but for
-// the rewrites, which the budget bounds over all parts. The arrays are left where the run stands, and scratch as it comes.
+// The run of a schedule from where the arrays stand, with so many rewrites made before and nothing else counted yet: what it counts is of this part alone,
+// but for the rewrites, which the budget bounds over all parts. The arrays are left where the run stands, and scratch as it comes.
 pub fn run_schedule(
     book: &[u8],
     operators: &[u8; 4352],

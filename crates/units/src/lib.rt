@@ -14,6 +14,7 @@ ghost use Rattle.units.specs.Promises as U;
 pub use frames::{Exit, Frame, Job};
 
 // The state of one unit, by value: its rank, and the place where its frames end.
+// Kept: `wait` and `sleep` apart, and `wait_unit` and `sleep_unit`, since document 01 asks for a method of each ('Which form to use where').
 #[derive(Clone, Copy, Debug, PartialEq, Eq)]
 pub struct Unit {
     pub rank: usize,
@@ -60,6 +61,7 @@ impl Unit {
     }
 }
 
+// Kept: no `From`, which could not ask that both numbers are below 65,536.
 fn cell_of(rank: usize, end: usize) -> u32
     requires { (rank < 65536) × (end < 65536) }
     ensures { result ≡ K.cell rank end }
@@ -191,20 +193,12 @@ pub fn drop_top(units: &mut [u32; 8], u: usize)
     units[u] -= 3;
 }
 
-// A cell whose frames are one more.
-fn higher(x: u32) -> u32
-    requires { x % 65536 < 65533 }
-    ensures { result ≡ x + 3 }
-{
-    x + 3
-}
-
 pub fn push(work: &mut [u8], units: &mut [u32; 8], u: usize, f: Frame)
     requires { let s : K.Store = K.store work.old units.old in U.HasRoom s u 1 × InThreeBytes (flat f) }
     ensures { let s : K.Store = K.store work.old units.old in U.Changed u (U.pushed (flat f)) s (K.store work.new units.new) }
 {
     frames::put_frame(work, end_of(units, u), f);
-    units[u] = higher(units[u]);
+    units[u] += 3;
 }
 
 // EXIT at unit v, which holds its JOIN: the count of the job at stack index i falls by one; if it is now 0, the unit is busy, and in no queue.

@@ -1,5 +1,4 @@
 -- `orders::argument` meets its contract: it is `term::argument` but for the widths of numbers. Assumes nothing.
-use mathlib.Core.Path.{◌∙◌}
 use native.Mathlib.Omega.{arith}
 use Rattle.orders.proofs.argument.Goals as goal
 

@@ -1,6 +1,5 @@
 -- `placing::take_out` meets its contract: the latest part of the unit, if it has one, is removed. Assumes nothing.
 use mathlib.Core.Path.{refl}
-use Rattle.std.proofs.Common.{unwrap_or}
 use Rattle.placing.proofs.Order.{taken_out, none_taken_out}
 use Rattle.placing.proofs.take_out.Goals as goal
 

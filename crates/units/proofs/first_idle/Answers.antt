@@ -1,5 +1,5 @@
 -- `units::first_idle` meets its contract: the first unit whose rank is 1. Assumes nothing.
-use Rattle.std.proofs.Common.{◌≡◌, ℕ, rules, tests}
+use Rattle.std.proofs.Common.{◌≡◌, rules, tests}
 use Rattle.std.proofs.lemmas.Iterator.{first_from_Range}
 use Rattle.units.specs.Stacks.{rank_in}
 use Rattle.units.proofs.Loops.{first_idle_is}
