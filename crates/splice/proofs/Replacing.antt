@@ -1,11 +1,11 @@
--- Laws of a part that gives way to another: what stands behind moved by plain copies, through the front of the array that holds the new part.
+-- Laws of a part that gives way to another: what stands behind moved, and the new part put in front of it.
 -- Assumes nothing.
 use mathlib.Core.List.{List, ◌++◌, map, map-append, append_assoc}
 use mathlib.Core.Path.{◌≡◌, refl, sym, ap, ap₂, ◌∙◌}
 use Prim.Native.Nat.{ℕ, ◌+◌, ◌-◌, ◌≤◌}
 use native.Mathlib.Omega.{arith}
 use lib.ListN.{length, take, drop, length-drop, length-map}
-use lib.Seq.{paste, take-paste, drop-paste, take-take, take-add, take_all, drop_at, drop-drop, length-take-le, take-append-le}
+use lib.Seq.{paste, length-paste, take-paste, drop-paste, take-take, take-add, take_all, drop_at, drop-drop, length-take-le, take-append-le}
 use Rattle.flat.specs.Symbols.{splice}
 use Rattle.flat.specs.Sizes.{grow, resize}
 use Rattle.symbol.specs.Record.{operator, marked, size, sizes}
@@ -50,26 +50,22 @@ pub record Opened (s p : List ℕ) (len a e n : ℕ) (s₂ p₂ : List ℕ) : Ty
   pub long : length s₂ ≡ 1024
   pub part_long : length p₂ ≡ 1024
 
--- what stands behind goes by way of the front of p
-pub opened : {s p s₁ s₂ p₂ : List ℕ} {len a e n : ℕ} → Replaceable s len a e n → length p ≡ 1024 → GrownBefore a e n s s₁ →
-    Pasted p 0 s₁ e (len - e) p₂ → Pasted s₁ (a + n) p₂ 0 (len - e) s₂ → Opened s p len a e n s₂ p₂
-opened {s} {p} {s₁} {s₂} {p₂} {len} {a} {e} {n} q lp g out back =
+-- what stands behind moves
+pub opened : {s p s₁ s₂ : List ℕ} {len a e n : ℕ} → Replaceable s len a e n → length p ≡ 1024 → GrownBefore a e n s s₁ →
+    s₂ ≡ paste s₁ (a + n) (drop e s₁) (len - e) → Opened s p len a e n s₂ p
+opened {s} {p} {s₁} {s₂} {len} {a} {e} {n} q lp g moved =
     let l = g.long in
-    let k = out.long in
     let d : length (drop e s₁) ≡ length s₁ - e = length-drop e s₁ in
-    let front = ap (take a) back.is ∙ paste_before s₁ (a + n) p₂ (len - e) (omega arith) (omega arith) a (omega arith) in
+    let front = ap (take a) moved ∙ paste_before s₁ (a + n) (drop e s₁) (len - e) (omega arith) (omega arith) a (omega arith) in
     record {
       before = rw front (before_are g (omega arith));
       rest =
-          ap (λ (x : List ℕ). take (len - e) (drop (a + n) x)) back.is
-          ∙ paste_new s₁ (a + n) p₂ (len - e) (omega arith) (omega arith)
-          ∙ ap (take (len - e)) out.is
-          ∙ paste_new p 0 (drop e s₁) (len - e) (omega arith) (omega arith)
+          ap (λ (x : List ℕ). take (len - e) (drop (a + n) x)) moved
+          ∙ paste_new s₁ (a + n) (drop e s₁) (len - e) (omega arith) (omega arith)
           ∙ ap (take (len - e)) (behind_are g e (omega arith));
-      part =
-          ap (drop (1024 - n)) out.is ∙ paste_behind p 0 (drop e s₁) (len - e) (omega arith) (omega arith) (1024 - n) (omega arith);
-      long = back.long;
-      part_long = k;
+      part = refl;
+      long = ap length moved ∙ length-paste s₁ (a + n) (drop e s₁) (len - e) (omega arith) (omega arith) ∙ omega arith;
+      part_long = lp;
     }
 
 -- nothing has to move where as many symbols come as go
