@@ -13,8 +13,8 @@ use side::Standing;
 // A side has at most 64 symbols.
 const SYMBOLS: usize = 64;
 
-// The node of o at a place; as an error the slot where its number goes, as of a binary search. A place has the slot of its number, node y two slots from 16384 + 2 * y on; the bits of o, lowest first, say which of
-// the two comes next.
+// The node of o at a place; as an error the slot where its number goes, as of a binary search. A place has the slot of its number, node y two slots from
+// 16384 + 2 * y on; the bits of o, lowest first, say which of the two comes next.
 fn seek(links: &[u16; 49152], codes: &[u8; 16384], place: usize, o: u8) -> Result<usize, usize>
     requires { C.Seekable links.now codes.now × (place < 16384) }
     ensures { C.Sought links.now codes.now place o result }
