@@ -5,12 +5,12 @@ use Rattle.splice.proofs.replace.Goals.{then-a-n, else-a-n}
 
 -- where the two ways meet
 meet : (c : goal.After-copy) →
-    Opened c.args.symbols.now c.args.part.now c.args.len c.args.a c.args.e c.args.n c.if-a-n.symbols c.args.part.now
+    Opened c.args.symbols.now c.args.len c.args.a c.args.e c.args.n c.if-a-n.symbols
 meet c =
     elim c.if-a-n.branch [
       | then-a-n w ↦
-          rw w.symbols-is (opened c.requires.0 c.requires.1 w.grow.ensures w.copy_within.ensures.after)
-      | else-a-n w ↦ rw w.symbols-is (open_already c.requires.0 c.requires.1 w.if-a-n.false)
+          rw w.symbols-is (opened c.requires.0 w.grow.ensures w.copy_within.ensures.after)
+      | else-a-n w ↦ rw w.symbols-is (open_already c.requires.0 w.if-a-n.false)
     ]
 
 pub returns : goal.returns
