@@ -1,11 +1,11 @@
 -- Cells gone through one by one: what is marked and what differs from the k-th on. Assumes nothing.
 use mathlib.Core.List.{List, [], ◌∷◌}
 use mathlib.Core.Path.{◌≡◌, ◌∙◌}
-use Prim.Native.Nat.{ℕ, ◌+◌, ◌<◌, ◌≤◌}
+use Prim.Native.Nat.{ℕ, ◌+◌, ◌-◌, ◌<◌, ◌≤◌}
 use native.Mathlib.Numerals.{add-one}
 use native.Mathlib.Omega.{arith}
 use lib.Bits.{bit_or, bit_xor}
-use lib.ListN.{length, get_or, drop, set, length-drop, drop_of_length-le}
+use lib.ListN.{length, get_or, take, drop, set, length-drop, drop_of_length-le}
 use lib.Seq.{drop-cons, get_or-take, get_or-drop, length-take-le}
 use Rattle.paper.specs.Sound.{All}
 use Rattle.paper.proofs.Lists.{all_map}
@@ -28,6 +28,17 @@ module _ {nodes places : List ℕ} {start n : ℕ} (C : CellsIn nodes places sta
 
   cells_end : (k : ℕ) → n ≤ k → drop k (cells nodes start n) ≡ []
   cells_end k h = drop_of_length-le (cells nodes start n) {i = k} (omega (arith, cells_length nodes start n C.long C.fits))
+
+  -- the cells as a part of the nodes
+  pub part_long : length (take (start + n - start) (drop start nodes)) ≡ n
+  part_long = let e : start + n - start ≡ n = omega arith in rw e (cells_length nodes start n C.long C.fits)
+
+  pub cell_at : {z k : ℕ} → k < length (take (start + n - start) (drop start nodes)) → z ≡ get_or (take (start + n - start) (drop start nodes)) k 0 →
+      (k < n) × (z ≡ get_or nodes (start + k) 0)
+  cell_at {k = k} h e =
+      let w : start + n - start ≡ n = omega arith in
+      let l : k < n = omega (arith, part_long) in
+      (l, rw w at e ∙ cells_at nodes start n k l)
 
   -- the numbers that are marked are inside
   pub nodes_inside : All (λ z. z < 16384) (cells nodes start n)

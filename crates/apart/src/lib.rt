@@ -22,13 +22,11 @@ fn mark(
     requires { C.CellsIn nodes.now places.now start n }
     ensures { (holders.new ≡ R.mark_all bit (R.places_of places.now (cells nodes.now start n)) holders.old) × (sharers.new ≡ R.mark_all bit (cells nodes.now start n) sharers.old) }
 {
-    let mut k = 0;
-    while k < n {
-        let z = casts::offset(nodes[start + k]);
-        let c = casts::offset(places[z]);
+    for node in &nodes[start..start + n] {
+        let z = usize::from(*node);
+        let c = usize::from(places[z]);
         holders[c] |= bit;
         sharers[z] |= bit;
-        k += 1;
     }
 }
 
@@ -45,18 +43,16 @@ fn mark_word(
     requires { C.AllCells nodes.now places.now counts.now m × (holders.old ≡ replicate 16384 0) × (sharers.old ≡ replicate 16384 0) × (first < 256) }
     ensures { C.Marked nodes.now places.now counts.now m first holders.new sharers.new }
 {
-    let mut j = first;
-    while j < m && j < first + 64 {
+    for j in first..m.min(first + 64) {
         mark(
             nodes,
             places,
             64 * j + 64,
-            casts::index(counts[j]),
+            usize::from(counts[j]),
             1 << (j - first),
             holders,
             sharers,
         );
-        j += 1;
     }
 }
 
@@ -73,12 +69,10 @@ fn row(
     ensures { result ≡ R.differ_all places.now holders.now sharers.now (cells nodes.now start n) 0 }
 {
     let mut apart = 0;
-    let mut k = 0;
-    while k < n {
-        let z = casts::offset(nodes[start + k]);
-        let c = casts::offset(places[z]);
+    for node in &nodes[start..start + n] {
+        let z = usize::from(*node);
+        let c = usize::from(places[z]);
         apart |= holders[c] ^ sharers[z];
-        k += 1;
     }
     apart
 }
@@ -97,11 +91,9 @@ fn put_word(
     requires { C.AllCells nodes.now places.now counts.now m × (w < 4) × (length rows.old ≡ 1024) }
     ensures { C.WordPut nodes.now places.now counts.now m w holders.now sharers.now rows.old rows.new × (length rows.new ≡ 1024) }
 {
-    let mut i = 0;
-    while i < m {
-        let n = casts::index(counts[i]);
+    for i in 0..m {
+        let n = usize::from(counts[i]);
         rows[4 * i + w] = row(nodes, places, 64 * i + 64, n, holders, sharers);
-        i += 1;
     }
 }
 
@@ -135,10 +127,8 @@ fn find_rows(
     ensures { C.RowsFound nodes.now places.now counts.now m rows.new }
 {
     *rows = [0; 1024];
-    let mut w = 0;
-    while 64 * w < m {
+    for w in 0..m.div_ceil(64) {
         find_word(nodes, places, counts, m, w, rows);
-        w += 1;
     }
 }
 

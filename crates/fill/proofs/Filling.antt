@@ -17,9 +17,14 @@ use Rattle.side.specs.Promises.{NumberFits}
 use Rattle.tables.specs.Layout.{arity_in}
 use Rattle.rule.specs.Packed.{SideAt, BoundTerm}
 use Rattle.fill.specs.Sides.{code, symbol}
+use Rattle.fill.specs.declared.Code.{Code}
 use Rattle.fill.specs.Promises.{Fillable, Decoded, last_symbols, SizedEnd, Ready, Filled, SymbolFilled, SideFilled}
 use Rattle.std.specs.Prelude.{Some, None}
 use Rattle.fill.proofs.Sides.{symbol_code, fill_cons, fill_suffix, behind_spells}
+
+-- any code
+abbrev pub first : Code
+first = Code.Operator 0
 
 -- the symbols ss filled, and s in front of them
 module _ {s : Symbol} {ss : List Symbol} {b : Binding} {xs : List ℕ} {ms : List Bool} {ys zs : List ℕ} where
@@ -36,7 +41,7 @@ pub record Filling (bytes : List ℕ) (at : ℕ) (operators xs : List ℕ) (ms :
   pub is : (side : Side) → SideAt bytes at operators side → (i ≤ length (preorder side)) × Filled (drop i (preorder side)) b xs ms (last_symbols k scratch)
   pub sized : SizedEnd (arity_in operators) k scratch
 
-module _ {bytes operators : List ℕ} {at n : ℕ} {codes_read : List ℕ} (d : Decoded bytes at operators n codes_read) where
+module _ {bytes operators : List ℕ} {at n : ℕ} {codes_read : List Code} (d : Decoded bytes at operators n codes_read) where
   as_many : (side : Side) → SideAt bytes at operators side → length (preorder side) ≡ n
   as_many side w =
       omega (arith, ap length (d.is side w), length-take-le n codes_read (omega (arith, d.most, d.long)), length-map (preorder side) code)
@@ -57,21 +62,21 @@ module _ {bytes operators : List ℕ} {at n : ℕ} {codes_read : List ℕ} (d : 
 
   module _ {xs : List ℕ} {ms : List Bool} {b : Binding} {i k : ℕ} {scratch : List ℕ} (f : Filling bytes at operators xs ms b i k scratch) {j : ℕ} (e : suc j ≡ i) where
     -- the symbol before them, as it is read
-    here : (side : Side) → SideAt bytes at operators side → symbol (get_or codes_read j 0) ≡ get_or (preorder side) j (Symbol.operator 0)
+    here : (side : Side) → SideAt bytes at operators side → symbol (get_or codes_read j first) ≡ get_or (preorder side) j (Symbol.operator 0)
     here side w =
         let ss = preorder side in
         let l : j < n = omega (arith, as_many side w, (f.is side w).0) in
-        ap symbol (sym (get_or-take n codes_read j 0 l) ∙ ap (λ (l : List ℕ). get_or l j 0) (d.is side w) ∙ get_or-map code ss j (Symbol.operator 0))
-        ∙ symbol_code (get_or ss j (Symbol.operator 0)) (all_get_d NumberFits ss j (Symbol.operator 0) (omega arith) w.held)
+        ap symbol (sym (get_or-take n codes_read j first l) ∙ ap (λ (l : List Code). get_or l j first) (d.is side w) ∙ get_or-map code ss j (Symbol.operator 0))
+        ∙ symbol_code (get_or ss j (Symbol.operator 0))
 
     -- it and those that are filled
-    with_here : (side : Side) → SideAt bytes at operators side → drop j (preorder side) ≡ symbol (get_or codes_read j 0) ∷ drop i (preorder side)
+    with_here : (side : Side) → SideAt bytes at operators side → drop j (preorder side) ≡ symbol (get_or codes_read j first) ∷ drop i (preorder side)
     with_here side w =
         let ss = preorder side in
         let l = (f.is side w).0 in
         drop-cons ss j (Symbol.operator 0) (omega arith) ∙ ap₂ (λ (s : Symbol) (m : ℕ). s ∷ drop m ss) (sym (here side w)) e
 
-    pub filling_ready : Fillable bytes at operators xs b → spells (arity_in operators) 1 xs ≡ true → Ready operators xs b (symbol (get_or codes_read j 0)) k scratch
+    pub filling_ready : Fillable bytes at operators xs b → spells (arity_in operators) 1 xs ≡ true → Ready operators xs b (symbol (get_or codes_read j first)) k scratch
     filling_ready g one =
         let w = g.stands in
         let ss = preorder g.side in
@@ -88,7 +93,7 @@ module _ {bytes operators : List ℕ} {at n : ℕ} {codes_read : List ℕ} (d : 
           behind = rw q' h;
         })
 
-    pub filling_went : {limit k' : ℕ} {scratch' : List ℕ} → SymbolFilled operators xs ms b (symbol (get_or codes_read j 0)) limit k scratch scratch' (Some k') →
+    pub filling_went : {limit k' : ℕ} {scratch' : List ℕ} → SymbolFilled operators xs ms b (symbol (get_or codes_read j first)) limit k scratch scratch' (Some k') →
         Filling bytes at operators xs ms b j k' scratch'
     filling_went h =
         let (zs, placed, filled, sized, l) = h.is in
@@ -98,13 +103,13 @@ module _ {bytes operators : List ℕ} {at n : ℕ} {codes_read : List ℕ} (d : 
         }
 
     -- what is filled of a part is at most the whole
-    pub filling_stopped : {limit : ℕ} {scratch' : List ℕ} → SymbolFilled operators xs ms b (symbol (get_or codes_read j 0)) limit k scratch scratch' None →
+    pub filling_stopped : {limit : ℕ} {scratch' : List ℕ} → SymbolFilled operators xs ms b (symbol (get_or codes_read j first)) limit k scratch scratch' None →
         SideFilled bytes at operators xs ms b limit scratch' None
     filling_stopped h =
         record {
           is = λ side w.
               let ss = preorder side in
-              let s = symbol (get_or codes_read j 0) in
+              let s = symbol (get_or codes_read j first) in
               omega (
                 arith,
                 h.is,

@@ -1,39 +1,27 @@
 -- A side's codes stand for its symbols; and a side filled spells as many terms as it has. Assumes nothing.
-use mathlib.Core.Bool.{Bool, true, false}
+use mathlib.Core.Bool.{true}
 use mathlib.Core.List.{List, [], ◌∷◌, ◌++◌, append-nil}
-use mathlib.Core.Path.{◌≡◌, refl, sym, ap, ◌∙◌, subst}
-use Prim.Native.Nat.{ℕ, zero, suc, ◌+◌, ◌-◌, ◌≤◌, ◌<◌}
+use mathlib.Core.Path.{◌≡◌, refl, sym, ap, subst}
+use Prim.Native.Nat.{ℕ, zero, suc, ◌+◌, ◌≤◌, ◌<◌}
 use native.Mathlib.Nat.{zero-add}
 use native.Mathlib.Numerals.{one-add}
 use native.Mathlib.Omega.{arith}
 use lib.ListN.{length, get_or, drop, length-append}
-use borrow.Author.Tests.{lt-ltb, le-ltb}
 use Rattle.paper.specs.Tree.{Complete}
 use Rattle.paper.specs.Book.{Symbol}
 use Rattle.paper.specs.Sound.{All}
 use Rattle.flat.specs.Rules.{spells}
 use Rattle.flat.specs.Symbols.{Binding, fill_over, fill, symbols_in}
 use Rattle.flat.proofs.Sizes.{spells_append, spells_part}
-use Rattle.side.specs.Promises.{NumberFits}
 use Rattle.tables.specs.Layout.{arity_in}
 use Rattle.rule.specs.Packed.{arity_of_symbol, BoundTerm}
 use Rattle.fill.specs.Sides.{code, symbol}
 
 -- CODES
 
--- the symbol of a code, as it is cast
-module _ (c x : ℕ) (e : x ≡ c) where
-  pub operator_code : c < 256 → symbol c ≡ Symbol.operator x
-  unfolding symbol
-  operator_code l = rw e (ap (λ (t : Bool). elim t [ true ↦ Symbol.operator c | false ↦ Symbol.variable (c - 256) ]) (lt-ltb c 256 l))
-
-  pub variable_code : 256 ≤ c → symbol c ≡ Symbol.variable (x - 256)
-  unfolding symbol
-  variable_code l = rw e (ap (λ (t : Bool). elim t [ true ↦ Symbol.operator c | false ↦ Symbol.variable (c - 256) ]) (le-ltb c 256 l))
-
-pub symbol_code : (s : Symbol) → NumberFits s → symbol (code s) ≡ s
-symbol_code (Symbol.operator o) h = operator_code o o refl h
-symbol_code (Symbol.variable v) h = let e : 256 + v - 256 ≡ v = omega arith in variable_code (256 + v) (256 + v) refl (omega arith) ∙ ap Symbol.variable e
+pub symbol_code : (s : Symbol) → symbol (code s) ≡ s
+symbol_code (Symbol.operator o) = refl
+symbol_code (Symbol.variable v) = refl
 
 -- FILLING
 

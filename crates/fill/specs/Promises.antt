@@ -12,6 +12,7 @@ use Rattle.side.specs.Promises.{NumberFits}
 use Rattle.tables.specs.Layout.{arity_in}
 use Rattle.rule.specs.Packed.{arity_of_symbol, SideAt, Goes, BoundTerm}
 use Rattle.fill.specs.Sides.{codes}
+use Rattle.fill.specs.declared.Code.{Code}
 use Rattle.fill.specs.declared.Coded as C
 
 -- a right side stands at a position, and each of its variables is bound to a term of the symbols xs
@@ -29,7 +30,7 @@ pub record SymbolDecoded (bytes : List ℕ) (at : ℕ) (operators : List ℕ) (t
   pub goes : Goes bytes at operators (λ ss ss'. codes ss ≡ t.code ∷ codes ss') t.arity t.next
 
 -- the n symbols of the side at a position, decoded
-pub record Decoded (bytes : List ℕ) (at : ℕ) (operators : List ℕ) (n : ℕ) (codes_read : List ℕ) : Type 0 where
+pub record Decoded (bytes : List ℕ) (at : ℕ) (operators : List ℕ) (n : ℕ) (codes_read : List Code) : Type 0 where
   pub is : (side : Side) → SideAt bytes at operators side → take n codes_read ≡ codes (preorder side)
   pub most : n ≤ 64
   pub long : length codes_read ≡ 64

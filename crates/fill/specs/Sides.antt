@@ -1,14 +1,16 @@
--- A side's symbols, decoded into an array: an operator as its number, a variable as 256 and its number. Assumes nothing.
-use Rattle.std.specs.Prelude.{true, false, List, map, ℕ, ◌+◌, ◌-◌, ltb}
+-- A side's symbols, decoded into an array. Assumes nothing.
+use Rattle.std.specs.Prelude.{List, map}
 use Rattle.paper.specs.Book.{Symbol}
+use Rattle.fill.specs.declared.Code.{Code}
 
-abbrev pub code : Symbol → ℕ
-code (Symbol.operator o) = o
-code (Symbol.variable v) = 256 + v
+abbrev pub code : Symbol → Code
+code (Symbol.operator o) = Code.Operator o
+code (Symbol.variable v) = Code.Variable v
 
-abbrev pub codes : List Symbol → List ℕ
+abbrev pub codes : List Symbol → List Code
 codes ss = map code ss
 
 -- the symbol of a code
-unfoldable pub symbol : ℕ → Symbol
-symbol c = elim (ltb c 256) [ true ↦ Symbol.operator c | false ↦ Symbol.variable (c - 256) ]
+abbrev pub symbol : Code → Symbol
+symbol (Code.Operator o) = Symbol.operator o
+symbol (Code.Variable v) = Symbol.variable v

@@ -11,27 +11,34 @@ ghost use Rattle.fill.specs.Promises as F;
 
 use side::Standing;
 
-// A symbol of a side, decoded: its code, its arity and the position behind it.
+// A symbol of a side: an operator or a variable, by number.
+#[derive(Clone, Copy)]
+enum Code {
+    Operator(u8),
+    Variable(u8),
+}
+
+// A symbol of a side, decoded, its arity and the position behind it.
 #[derive(Clone, Copy)]
 struct Coded {
-    code: u16,
+    code: Code,
     arity: usize,
     next: usize,
 }
 
-// The symbol at position at of a side. An operator's code is its number, a variable's 256 more than its number.
+// The symbol at position at of a side.
 fn decode_one(book: &[u8], at: usize, operators: &[u8; 4352]) -> Coded
     requires { length book.now ≤ 2 ^ 60 }
     ensures { F.SymbolDecoded book.now at operators.now result }
 {
     match side::symbol_at(book, at) {
         Standing::Operator(o, next) => Coded {
-            code: u16::from(o),
+            code: Code::Operator(o),
             arity: tables::arity(operators, o),
             next,
         },
         Standing::Variable(v, next) => Coded {
-            code: 256 + u16::from(v),
+            code: Code::Variable(v),
             arity: 0,
             next,
         },
@@ -39,7 +46,7 @@ fn decode_one(book: &[u8], at: usize, operators: &[u8; 4352]) -> Coded
 }
 
 // The codes of the side at position at of the book, and how many they are. A side has at most 64 symbols.
-fn decode(book: &[u8], at: usize, operators: &[u8; 4352], codes: &mut [u16; 64]) -> usize
+fn decode(book: &[u8], at: usize, operators: &[u8; 4352], codes: &mut [Code; 64]) -> usize
     requires { (length book.now ≤ 2 ^ 60) × (length codes.old ≡ 64) }
     ensures { F.Decoded book.now at operators.now result codes.new }
 {
@@ -60,7 +67,7 @@ fn decode(book: &[u8], at: usize, operators: &[u8; 4352], codes: &mut [u16; 64])
 // What the symbol of a code gives, in front of the last k symbols of scratch; how many they are then, unless they are more than the limit. An operator's
 // arguments are among the k.
 fn fill_one(
-    code: u16,
+    code: Code,
     operators: &[u8; 4352],
     symbols: &[u32; 1024],
     limit: usize,
@@ -71,22 +78,26 @@ fn fill_one(
     requires { F.Ready operators.now (operators_in symbols.now) (binding bound.now) (symbol code) k scratch.old × Sized (arity_in operators.now) symbols.now × (k ≤ limit) × (limit ≤ 1024) }
     ensures { F.SymbolFilled operators.now (operators_in symbols.now) (marks_in symbols.now) (binding bound.now) (symbol code) limit k scratch.old scratch.new result }
 {
-    if code < 256 {
-        if k == limit {
-            return None;
+    match code {
+        Code::Operator(o) => {
+            if k == limit {
+                return None;
+            }
+            term::put_sized(scratch, operators, 1023 - k, o);
+            Some(k + 1)
         }
-        term::put_sized(scratch, operators, 1023 - k, code as u8);
-        return Some(k + 1);
+        Code::Variable(v) => {
+            // Variable v's start stands at 2 * v, its size behind it.
+            let i = 2 * usize::from(v);
+            let size = usize::from(bound[i + 1]);
+            if limit - k < size {
+                return None;
+            }
+            let start = usize::from(bound[i]);
+            term::copy(scratch, 1024 - k - size, symbols, start, size);
+            Some(k + size)
+        }
     }
-    // Variable v's start stands at 2 * v, its size behind it.
-    let i = 2 * (usize::from(code) - 256);
-    let size = usize::from(bound[i + 1]);
-    if limit - k < size {
-        return None;
-    }
-    let start = usize::from(bound[i]);
-    term::copy(scratch, 1024 - k - size, symbols, start, size);
-    Some(k + size)
 }
 
 // The filled right side at position at of the book, at the end of scratch, and how many symbols it has, unless they are more than the limit. It is filled
@@ -103,7 +114,7 @@ pub fn fill(
     requires { F.Fillable book.now at operators.now (operators_in symbols.now) (binding bound.now) × Sized (arity_in operators.now) symbols.now × (length scratch.old ≡ 1024) × (limit ≤ 1024) }
     ensures { F.SideFilled book.now at operators.now (operators_in symbols.now) (marks_in symbols.now) (binding bound.now) limit scratch.new result }
 {
-    let mut codes: [u16; 64] = [0; 64];
+    let mut codes = [Code::Operator(0); 64];
     let n = decode(book, at, operators, &mut codes);
     let mut k = 0;
     for i in (0..n).rev() {

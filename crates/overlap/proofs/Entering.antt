@@ -9,12 +9,12 @@ use lib.Seq.{get_or-set_same, get_or-set_other}
 use Rattle.paper.proofs.Tests.{eqb_cases, ltb_cases}
 use Rattle.overlap.specs.Trie.{Trie, trie, base_of, place_of, Named, Leads, slot_place, Link, Linked, Based}
 use Rattle.overlap.specs.Promises.{Seekable, Sought, NodeIs, NodeOf, Entered}
-use Rattle.overlap.specs.declared.Found as S
+use Rattle.std.specs.Prelude.{Result, Ok, Err}
 use Rattle.overlap.proofs.Leading.{own_slot, free_slot, leads_place, free_place, free_early, leads_still, leads_now}
 
 -- what a node that is found is
 pub found_own : {T : Trie} {o slot h z : ℕ} → ((i : ℕ) → 0 < get_or T.links i 0 → Link T i (get_or T.links i 0)) →
-    Leads T.links T.codes o slot h (S.Found.Node z) → (0 < z) × (get_or T.nodes z 0 ≡ z) × (get_or T.codes z 0 ≡ o)
+    Leads T.links T.codes o slot h (Ok z) → (0 < z) × (get_or T.nodes z 0 ≡ z) × (get_or T.codes z 0 ≡ o)
 found_own {T} {slot = slot} w (Leads.node y f l d) = (l, subst (λ (x : ℕ). get_or T.nodes x 0 ≡ x) f (w slot (rw f l)).own, d)
 found_own {T} w (Leads.on y f l d k) = found_own {T = T} w k
 
@@ -37,7 +37,7 @@ module _ (T : Trie) (u : ℕ) (L : Linked T u) (some : 0 < u) (few : u < 16384) 
   other z c o n e = omega (arith, L.inside z c o n)
 
   -- a node that is there is told
-  module _ (c o z : ℕ) (inside : c < 16384) (l : Leads T.links T.codes o c o (S.Found.Node z)) where
+  module _ (c o z : ℕ) (inside : c < 16384) (l : Leads T.links T.codes o c o (Ok z)) where
     abbrev told : Trie
     told = trie T.links T.codes T.bases T.places (set T.nodes u z)
 
@@ -88,7 +88,7 @@ module _ (T : Trie) (u : ℕ) (L : Linked T u) (some : 0 < u) (few : u < 16384) 
         }
 
   -- the cell becomes a node, where the links lead to a free slot
-  module _ (c o b s : ℕ) (inside : c < 16384) (room : s < 49152) (l : Leads T.links T.codes o c o (S.Found.Free s)) where
+  module _ (c o b s : ℕ) (inside : c < 16384) (room : s < 49152) (l : Leads T.links T.codes o c o (Err s)) where
     abbrev grown : Trie
     grown = trie (set T.links s u) (set T.codes u o) (set T.bases u b) (set T.places u c) (set T.nodes u u)
 
@@ -138,10 +138,10 @@ module _ (T : Trie) (u : ℕ) (L : Linked T u) (some : 0 < u) (few : u < 16384) 
       })
     ]
 
-    found_now : (w d p : ℕ) → Named grown w d p → Leads grown.links grown.codes p d p (S.Found.Node w)
+    found_now : (w d p : ℕ) → Named grown w d p → Leads grown.links grown.codes p d p (Ok w)
     found_now w d p n = go (which w d p n)
       where
-        go : ((w ≡ u) × (d ≡ c) × (p ≡ o)) ⊎ Named T w d p → Leads grown.links grown.codes p d p (S.Found.Node w)
+        go : ((w ≡ u) × (d ≡ c) × (p ≡ o)) ⊎ Named T w d p → Leads grown.links grown.codes p d p (Ok w)
         go (inl q) =
             rw (q.0, q.1, q.2)
             (leads_now T.links T.codes grown.links grown.codes same_link same_code u l (get_or-set_same T.links s u 0 (omega (arith, L.long.links)))
@@ -224,7 +224,7 @@ pub entered : (T : Trie) (u : ℕ) → Linked T u → 0 < u → u < 16384 → (c
     Entered T c o u b (trie links codes bases places nodes) z
 entered T u L some few c o b z links codes bases places nodes inside N n = go N.seek N.sought N.is
   where
-    go : (r : S.Found) → Sought T.links T.codes c o r → NodeIs T.links T.codes T.bases T.places c o u b links codes bases places z r →
+    go : (r : Result ℕ ℕ) → Sought T.links T.codes c o r → NodeIs T.links T.codes T.bases T.places c o u b links codes bases places z r →
         Entered T c o u b (trie links codes bases places nodes) z
-    go (S.Found.Node y) s (e, k, l, m, p) = rw (n, k, l, m, p, e) (entered_known T u L some few c o y inside s.leads b)
-    go (S.Found.Free i) s (e, k, l, m, p) = rw (n, k, l, m, p, e) (entered_new T u L some few c o b i inside s.inside s.leads)
+    go (Ok y) s (e, k, l, m, p) = rw (n, k, l, m, p, e) (entered_known T u L some few c o y inside s.leads b)
+    go (Err i) s (e, k, l, m, p) = rw (n, k, l, m, p, e) (entered_new T u L some few c o b i inside s.inside s.leads)

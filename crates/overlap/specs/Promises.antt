@@ -6,7 +6,7 @@ use Rattle.tables.specs.Layout.{arity_in}
 use Rattle.tables.specs.Tables.{rule_at}
 use Rattle.rule.specs.Packed.{SideAt}
 use Rattle.overlap.specs.Trie.{Trie, trie, Named, Leads, Linked, Based, Grows, Walked, cells, cells_of}
-use Rattle.overlap.specs.declared.Found as S
+use Rattle.std.specs.Prelude.{Result, Ok, Err}
 
 -- NODES
 
@@ -16,23 +16,23 @@ pub record Seekable (links codes : List ℕ) : Type 0 where
   pub links_long : length links ≡ 49152
   pub codes_long : length codes ≡ 16384
 
-abbrev pub SlotInside : S.Found → Type 0
-SlotInside (S.Found.Node y) = Unit {0}
-SlotInside (S.Found.Free slot) = slot < 49152
+abbrev pub SlotInside : Result ℕ ℕ → Type 0
+SlotInside (Ok y) = Unit {0}
+SlotInside (Err slot) = slot < 49152
 
-pub record Sought (links codes : List ℕ) (place o : ℕ) (r : S.Found) : Type 0 where
+pub record Sought (links codes : List ℕ) (place o : ℕ) (r : Result ℕ ℕ) : Type 0 where
   pub leads : Leads links codes o place o r
   pub inside : SlotInside r
 
 -- a node that is there, or the cell put as one
-abbrev pub NodeIs : List ℕ → List ℕ → List ℕ → List ℕ → ℕ → ℕ → ℕ → ℕ → List ℕ → List ℕ → List ℕ → List ℕ → ℕ → S.Found → Type 0
-NodeIs links codes bases places place o cell base links' codes' bases' places' z (S.Found.Node y) =
+abbrev pub NodeIs : List ℕ → List ℕ → List ℕ → List ℕ → ℕ → ℕ → ℕ → ℕ → List ℕ → List ℕ → List ℕ → List ℕ → ℕ → Result ℕ ℕ → Type 0
+NodeIs links codes bases places place o cell base links' codes' bases' places' z (Ok y) =
     (z ≡ y) × (links' ≡ links) × (codes' ≡ codes) × (bases' ≡ bases) × (places' ≡ places)
-NodeIs links codes bases places place o cell base links' codes' bases' places' z (S.Found.Free slot) =
+NodeIs links codes bases places place o cell base links' codes' bases' places' z (Err slot) =
     (z ≡ cell) × (links' ≡ set links slot cell) × (codes' ≡ set codes cell o) × (bases' ≡ set bases cell base) × (places' ≡ set places cell place)
 
 pub record NodeOf (links codes bases places : List ℕ) (place o cell base : ℕ) (links' codes' bases' places' : List ℕ) (z : ℕ) : Type 0 where
-  pub seek : S.Found
+  pub seek : Result ℕ ℕ
   pub sought : Sought links codes place o seek
   pub is : NodeIs links codes bases places place o cell base links' codes' bases' places' z seek
   pub inside : z < 16384

@@ -3,7 +3,7 @@
 -- its base on. A left side walked gives the nodes of its operators in preorder. Assumes nothing.
 use Rattle.std.specs.Prelude.{List, [], ◌∷◌, ◌++◌, ◌≢◌, ◌≡◌, ℕ, zero, suc, ◌+◌, ◌-◌, ◌*◌, ◌/◌, ◌%◌, ◌<◌, ◌≤◌, true, false, ltb, length, get_or, take, drop}
 use Rattle.paper.specs.Book.{Symbol}
-use Rattle.overlap.specs.declared.Found as S
+use Rattle.std.specs.Prelude.{Result, Ok, Err}
 
 -- the arrays: links by slot; by node its operator, its base and its place; by cell its node
 pub record Trie : Type 0 where
@@ -32,10 +32,10 @@ pub record Named (T : Trie) (z c o : ℕ) : Type 0 where
 -- LINKS
 
 -- where the links lead from a slot, by the bits h of the operator o
-pub data Leads (links codes : List ℕ) (o : ℕ) : ℕ → ℕ → S.Found → Type 0 where
-  free : {slot h : ℕ} → get_or links slot 0 ≡ 0 → Leads links codes o slot h (S.Found.Free slot)
-  node : {slot h : ℕ} (y : ℕ) → get_or links slot 0 ≡ y → 0 < y → get_or codes y 0 ≡ o → Leads links codes o slot h (S.Found.Node y)
-  on : {slot h : ℕ} {r : S.Found} (y : ℕ) → get_or links slot 0 ≡ y → 0 < y → get_or codes y 0 ≢ o →
+pub data Leads (links codes : List ℕ) (o : ℕ) : ℕ → ℕ → Result ℕ ℕ → Type 0 where
+  free : {slot h : ℕ} → get_or links slot 0 ≡ 0 → Leads links codes o slot h (Err slot)
+  node : {slot h : ℕ} (y : ℕ) → get_or links slot 0 ≡ y → 0 < y → get_or codes y 0 ≡ o → Leads links codes o slot h (Ok y)
+  on : {slot h : ℕ} {r : Result ℕ ℕ} (y : ℕ) → get_or links slot 0 ≡ y → 0 < y → get_or codes y 0 ≢ o →
       Leads links codes o (16384 + 2 * y + h % 2) (h / 2) r → Leads links codes o slot h r
 
 -- the place whose nodes a slot leads to
@@ -57,7 +57,7 @@ pub record Long (T : Trie) : Type 0 where
 
 -- every node is found, and is a cell before this one
 pub record Linked (T : Trie) (cell : ℕ) : Type 0 where
-  pub found : (z c o : ℕ) → Named T z c o → Leads T.links T.codes o c o (S.Found.Node z)
+  pub found : (z c o : ℕ) → Named T z c o → Leads T.links T.codes o c o (Ok z)
   pub inside : (z c o : ℕ) → Named T z c o → z < cell
   pub leads : (slot : ℕ) → 0 < get_or T.links slot 0 → Link T slot (get_or T.links slot 0)
   pub long : Long T

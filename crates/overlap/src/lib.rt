@@ -10,30 +10,26 @@ ghost use Rattle.overlap.specs.Promises as C;
 
 use side::Standing;
 
-// The node of an operator at a place, or the slot where its number goes.
-#[derive(Drop)]
-enum Found {
-    Node(usize),
-    Free(usize),
-}
+// A side has at most 64 symbols.
+const SYMBOLS: usize = 64;
 
-// Looks for the node of o at a place. A place has the slot of its number, node y two slots from 16384 + 2 * y on; the bits of o, lowest first, say which of
-// the two comes next.
-fn seek(links: &[u16; 49152], codes: &[u8; 16384], place: usize, o: u8) -> Found
+// The node of o at a place; as an error the slot where its number goes, as of a binary search. A place has the slot of its number, node y two slots from
+// 16384 + 2 * y on; the bits of o, lowest first, say which of the two comes next.
+fn seek(links: &[u16; 49152], codes: &[u8; 16384], place: usize, o: u8) -> Result<usize, usize>
     requires { C.Seekable links.now codes.now × (place < 16384) }
     ensures { C.Sought links.now codes.now place o result }
 {
     let mut slot = place;
-    let mut turns = casts::index(o);
+    let mut turns = usize::from(o);
     while links[slot] != 0 {
-        let y = casts::offset(links[slot]);
+        let y = usize::from(links[slot]);
         if codes[y] == o {
-            return Found::Node(y);
+            return Ok(y);
         }
         slot = 16384 + 2 * y + turns % 2;
         turns /= 2;
     }
-    Found::Free(slot)
+    Err(slot)
 }
 
 // The node y of o at a place. Its arguments have the places from base on.
@@ -51,10 +47,10 @@ fn put_node(
     requires { (slot < 49152) × (y < 16384) × (base < 65536) × (place < 65536) }
     ensures { (links.new ≡ set links.old slot y) × (codes.new ≡ set codes.old y o) × (bases.new ≡ set bases.old y base) × (places.new ≡ set places.old y place) }
 {
-    links[slot] = casts::short(y);
+    links[slot] = y as u16;
     codes[y] = o;
-    bases[y] = casts::short(base);
-    places[y] = casts::short(place);
+    bases[y] = base as u16;
+    places[y] = place as u16;
 }
 
 // The node of o at a place: one that is there, or the cell, whose node it becomes.
@@ -72,8 +68,8 @@ fn node_of(
     ensures { C.NodeOf links.old codes.old bases.old places.old place o cell base links.new codes.new bases.new places.new result }
 {
     match seek(links, codes, place, o) {
-        Found::Node(z) => z,
-        Found::Free(slot) => {
+        Ok(z) => z,
+        Err(slot) => {
             put_node(links, codes, bases, places, slot, cell, o, base, place);
             cell
         }
@@ -96,7 +92,7 @@ fn enter(
     ensures { C.Entered (trie links.old codes.old bases.old places.old nodes.old) place o cell base (trie links.new codes.new bases.new places.new nodes.new) result }
 {
     let z = node_of(links, codes, bases, places, place, o, cell, base);
-    nodes[cell] = casts::short(z);
+    nodes[cell] = z as u16;
     z
 }
 
@@ -105,12 +101,9 @@ fn push(stack: &mut [u16; 64], top: usize, base: usize, n: usize) -> usize
     requires { (length stack.old ≡ 64) × (n ≤ top) × (top ≤ 64) × (base + n ≤ 65536) }
     ensures { (result ≡ top - n) × (length stack.new ≡ 64) × (drop result stack.new ≡ upto base n ++ drop top stack.old) }
 {
-    let mut at = top;
-    let mut left = n;
-    while 0 < left {
-        left -= 1;
-        at -= 1;
-        stack[at] = casts::short(base + left);
+    let at = top - n;
+    for i in (0..n).rev() {
+        stack[at + i] = (base + i) as u16;
     }
     at
 }
@@ -135,16 +128,18 @@ fn walk(
     let mut top = 63;
     let mut p = at;
     let mut base = first + 1;
-    let mut n: usize = 0;
     let mut k: usize = 0;
-    while top < 64 && n < 64 {
+    for _ in 0..SYMBOLS {
+        if top == 64 {
+            break;
+        }
         match side::symbol_at(book, p) {
             Standing::Variable(_, next) => {
                 top += 1;
                 p = next;
             }
             Standing::Operator(o, next) => {
-                let place = casts::offset(stack[top]);
+                let place = usize::from(stack[top]);
                 let z = enter(
                     links,
                     codes,
@@ -157,13 +152,12 @@ fn walk(
                     base,
                 );
                 let arity = tables::arity(operators, o);
-                top = push(&mut stack, top + 1, casts::offset(bases[z]), arity);
+                top = push(&mut stack, top + 1, usize::from(bases[z]), arity);
                 base += arity;
                 k += 1;
                 p = next;
             }
         }
-        n += 1;
     }
     k
 }
@@ -187,8 +181,7 @@ pub fn build(
     let mut links = [0u16; 49152];
     let mut codes = [0u8; 16384];
     let mut bases = [0u16; 16384];
-    let mut i = 0;
-    while i < m {
+    for i in 0..m {
         let left = tables::left_side(rules, i);
         let n = walk(
             book,
@@ -201,7 +194,6 @@ pub fn build(
             places,
             nodes,
         );
-        counts[i] = casts::byte(n);
-        i += 1;
+        counts[i] = n as u8;
     }
 }

@@ -1,11 +1,11 @@
--- Laws of a part that gives way to another: what stands behind moved by plain copies, through the front of the array that holds the new part.
+-- Laws of a part that gives way to another: what stands behind moved, and the new part put in front of it.
 -- Assumes nothing.
 use mathlib.Core.List.{List, ◌++◌, map, map-append, append_assoc}
-use mathlib.Core.Path.{◌≡◌, refl, sym, ap, ap₂, ◌∙◌}
+use mathlib.Core.Path.{◌≡◌, sym, ap, ap₂, ◌∙◌}
 use Prim.Native.Nat.{ℕ, ◌+◌, ◌-◌, ◌≤◌}
 use native.Mathlib.Omega.{arith}
 use lib.ListN.{length, take, drop, length-drop, length-map}
-use lib.Seq.{paste, take-paste, drop-paste, take-take, take-add, take_all, drop_at, drop-drop, length-take-le, take-append-le}
+use lib.Seq.{paste, length-paste, take-paste, drop-paste, take-take, take-add, take_all, drop_at, drop-drop, length-take-le, take-append-le}
 use Rattle.flat.specs.Symbols.{splice}
 use Rattle.flat.specs.Sizes.{grow, resize}
 use Rattle.symbol.specs.Record.{operator, marked, size, sizes}
@@ -43,61 +43,50 @@ module _ (d : List ℕ) (at : ℕ) (s : List ℕ) (n : ℕ) (fits : at ≤ lengt
       ∙ ap (λ (x : ℕ). drop x d) i
 
 -- all but the new part is done: the sizes before offset a are put right, and what stands behind is at its place
-pub record Opened (s p : List ℕ) (len a e n : ℕ) (s₂ p₂ : List ℕ) : Type 0 where
+pub record Opened (s : List ℕ) (len a e n : ℕ) (s₂ : List ℕ) : Type 0 where
   pub before : AllRegrown a e n 0 (take a s) (take a s₂)
   pub rest : take (len - e) (drop (a + n) s₂) ≡ take (len - e) (drop e s)
-  pub part : drop (1024 - n) p₂ ≡ drop (1024 - n) p
   pub long : length s₂ ≡ 1024
-  pub part_long : length p₂ ≡ 1024
 
--- what stands behind goes by way of the front of p
-pub opened : {s p s₁ s₂ p₂ : List ℕ} {len a e n : ℕ} → Replaceable s len a e n → length p ≡ 1024 → GrownBefore a e n s s₁ →
-    Pasted p 0 s₁ e (len - e) p₂ → Pasted s₁ (a + n) p₂ 0 (len - e) s₂ → Opened s p len a e n s₂ p₂
-opened {s} {p} {s₁} {s₂} {p₂} {len} {a} {e} {n} q lp g out back =
+-- what stands behind moves
+pub opened : {s s₁ s₂ : List ℕ} {len a e n : ℕ} → Replaceable s len a e n → GrownBefore a e n s s₁ →
+    s₂ ≡ paste s₁ (a + n) (drop e s₁) (len - e) → Opened s len a e n s₂
+opened {s} {s₁} {s₂} {len} {a} {e} {n} q g moved =
     let l = g.long in
-    let k = out.long in
     let d : length (drop e s₁) ≡ length s₁ - e = length-drop e s₁ in
-    let front = ap (take a) back.is ∙ paste_before s₁ (a + n) p₂ (len - e) (omega arith) (omega arith) a (omega arith) in
+    let front = ap (take a) moved ∙ paste_before s₁ (a + n) (drop e s₁) (len - e) (omega arith) (omega arith) a (omega arith) in
     record {
       before = rw front (before_are g (omega arith));
       rest =
-          ap (λ (x : List ℕ). take (len - e) (drop (a + n) x)) back.is
-          ∙ paste_new s₁ (a + n) p₂ (len - e) (omega arith) (omega arith)
-          ∙ ap (take (len - e)) out.is
-          ∙ paste_new p 0 (drop e s₁) (len - e) (omega arith) (omega arith)
+          ap (λ (x : List ℕ). take (len - e) (drop (a + n) x)) moved
+          ∙ paste_new s₁ (a + n) (drop e s₁) (len - e) (omega arith) (omega arith)
           ∙ ap (take (len - e)) (behind_are g e (omega arith));
-      part =
-          ap (drop (1024 - n)) out.is ∙ paste_behind p 0 (drop e s₁) (len - e) (omega arith) (omega arith) (1024 - n) (omega arith);
-      long = back.long;
-      part_long = k;
+      long = ap length moved ∙ length-paste s₁ (a + n) (drop e s₁) (len - e) (omega arith) (omega arith) ∙ omega arith;
     }
 
 -- nothing has to move where as many symbols come as go
-pub open_already : {s p : List ℕ} {len a e n : ℕ} → Replaceable s len a e n → length p ≡ 1024 → a + n ≡ e → Opened s p len a e n s p
-open_already {s} {len = len} {a} {e} {n} q lp h =
+pub open_already : {s : List ℕ} {len a e n : ℕ} → Replaceable s len a e n → a + n ≡ e → Opened s len a e n s
+open_already {s} {len = len} {a} {e} {n} q h =
     record {
       before = before_are (none_grown a e n s h) (omega arith);
       rest = ap (λ (k : ℕ). take (len - e) (drop k s)) h;
-      part = refl;
       long = q.holding.long;
-      part_long = lp;
     }
 
 -- the new part is put in front of what stands behind
-module _ {s p s₂ p₂ s₃ : List ℕ} {len a e n : ℕ} (q : Replaceable s len a e n) (lp : length p ≡ 1024) (o : Opened s p len a e n s₂ p₂)
-    (put : Pasted s₂ a p₂ (1024 - n) n s₃) where
+module _ {s p s₂ s₃ : List ℕ} {len a e n : ℕ} (q : Replaceable s len a e n) (lp : length p ≡ 1024) (o : Opened s len a e n s₂)
+    (put : Pasted s₂ a p (1024 - n) n s₃) where
   parts : take (a + n + (len - e)) s₃ ≡ take a s₂ ++ (drop (1024 - n) p ++ drop e (take len s))
   parts =
       let l = o.long in
-      let k = o.part_long in
-      let d : length (drop (1024 - n) p₂) ≡ length p₂ - (1024 - n) = length-drop (1024 - n) p₂ in
+      let d : length (drop (1024 - n) p) ≡ length p - (1024 - n) = length-drop (1024 - n) p in
       let i : e + (len - e) ≡ len = omega arith in
       take-add (a + n) (len - e) s₃
       ∙ ap₂ (λ (x y : List ℕ). x ++ take (len - e) y)
-      (ap (take (a + n)) put.is ∙ take-paste s₂ a (drop (1024 - n) p₂) n (omega arith) (omega arith))
-      (ap (drop (a + n)) put.is ∙ drop-paste s₂ a (drop (1024 - n) p₂) n (omega arith) (omega arith))
-      ∙ append_assoc (take a s₂) (take n (drop (1024 - n) p₂)) (take (len - e) (drop (a + n) s₂))
-      ∙ ap₂ (λ (x y : List ℕ). take a s₂ ++ (x ++ y)) (take_all n (drop (1024 - n) p₂) (omega arith) ∙ o.part)
+      (ap (take (a + n)) put.is ∙ take-paste s₂ a (drop (1024 - n) p) n (omega arith) (omega arith))
+      (ap (drop (a + n)) put.is ∙ drop-paste s₂ a (drop (1024 - n) p) n (omega arith) (omega arith))
+      ∙ append_assoc (take a s₂) (take n (drop (1024 - n) p)) (take (len - e) (drop (a + n) s₂))
+      ∙ ap₂ (λ (x y : List ℕ). take a s₂ ++ (x ++ y)) (take_all n (drop (1024 - n) p) (omega arith))
       (o.rest ∙ sym (drop_take e (len - e) s (omega arith)) ∙ ap (λ (k : ℕ). drop e (take k s)) i)
 
   -- of each symbol one thing, its operator, its mark or its size
@@ -113,7 +102,7 @@ module _ {s p s₂ p₂ s₃ : List ℕ} {len a e n : ℕ} (q : Replaceable s le
   unfolding splice
   kept {A} f h = mapped f ∙ ap (λ (x : List A). x ++ (map f (drop (1024 - n) p) ++ drop e (map f (take len s)))) (h ∙ first_of f)
 
-  pub replaced : Replaced s len a e p n s₃ p₂
+  pub replaced : Replaced s len a e p n s₃ p
   unfolding splice resize
   replaced =
       let k : n ≡ length (sizes (drop (1024 - n) p)) = simp (length-map, length-drop) (omega arith) in
@@ -125,5 +114,5 @@ module _ {s p s₂ p₂ s₃ : List ℕ} {len a e n : ℕ} (q : Replaceable s le
             ∙ ap (λ (x : List ℕ). x ++ (sizes (drop (1024 - n) p) ++ drop e (sizes (take len s))))
             (o.before.sizes_are ∙ ap₂ (λ (x : ℕ) (y : List ℕ). grow a e x 0 y) k (first_of size));
         long = put.long;
-        part_long = o.part_long;
+        part_long = lp;
       }

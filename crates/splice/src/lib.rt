@@ -31,24 +31,22 @@ fn grow(symbols: &mut [u32; 1024], a: usize, e: usize, n: usize)
     }
 }
 
-// The symbols from offset a to offset e of the first len give way to the last n of part. What has to move goes to the front of part and back, by two
-// plain copies.
+// The symbols from offset a to offset e of the first len give way to the last n of part.
 pub fn replace(
     symbols: &mut [u32; 1024],
     len: usize,
     a: usize,
     e: usize,
-    part: &mut [u32; 1024],
+    part: &[u32; 1024],
     n: usize,
 )
-    requires { C.Replaceable symbols.old len a e n × (length part.old ≡ 1024) }
-    ensures { C.Replaced symbols.old len a e part.old n symbols.new part.new }
+    requires { C.Replaceable symbols.old len a e n × (length part.now ≡ 1024) }
+    ensures { C.Replaced symbols.old len a e part.now n symbols.new part.now }
 {
     // Nothing moves and no size changes where as many symbols come as go.
     if a + n != e {
         grow(symbols, a, e, n);
-        term::copy(part, 0, symbols, e, len - e);
-        term::copy(symbols, a + n, part, 0, len - e);
+        symbols.copy_within(e..len, a + n);
     }
     term::copy(symbols, a, part, 1024 - n, n);
 }

@@ -99,15 +99,15 @@ fn choose(
 // The filled right side at the end of scratch for the term at a place, which its unit is to visit.
 fn apply(
     symbols: &mut [u32; 1024],
-    scratch: &mut [u32; 1024],
+    scratch: &[u32; 1024],
     filled: Filled,
     work: &mut [u8],
     units: &[u32; 8],
     count: usize,
     place: Place,
 )
-    requires { let s : S.Arrays = S.arrays symbols.old work.old units.now in Replaceable s.symbols (length_in s.symbols) place.offset filled.end filled.size × (place.offset < length_in s.symbols) × (place.offset < filled.end) × (length scratch.old ≡ 1024) × W.UnitsDue s.store count place (length_in s.symbols) }
-    ensures { let s : S.Arrays = S.arrays symbols.old work.old units.now in W.Rewritten place (drop (1024 - filled.size) scratch.old) filled.size filled.end count s (S.arrays symbols.new work.new s.store.cells) × (length scratch.new ≡ 1024) }
+    requires { let s : S.Arrays = S.arrays symbols.old work.old units.now in Replaceable s.symbols (length_in s.symbols) place.offset filled.end filled.size × (place.offset < length_in s.symbols) × (place.offset < filled.end) × (length scratch.now ≡ 1024) × W.UnitsDue s.store count place (length_in s.symbols) }
+    ensures { let s : S.Arrays = S.arrays symbols.old work.old units.now in W.Rewritten place (drop (1024 - filled.size) scratch.now) filled.size filled.end count s (S.arrays symbols.new work.new s.store.cells) }
 {
     let a = place.offset;
     let end = filled.end;

@@ -4,7 +4,6 @@ use Prim.Native.Nat.{◌-◌}
 use native.Mathlib.Nat.{one-mul}
 use native.Mathlib.Omega.{arith}
 use lib.Pow.{shl_exact}
-use borrow.Author.Tests.{ltb-true, ltb-false}
 use Rattle.apart.proofs.Words.{marks_none, marks_next, marks_all}
 use Rattle.apart.proofs.mark_word.Goals as goal
 
@@ -13,19 +12,13 @@ loop-j-init c = (omega arith, marks_none c.requires.1 c.requires.2)
 
 pub mark-requires : goal.mark-requires
 mark-requires c =
-    rw c.index.ensures.0 (c.requires.0.each c.loop-j.j (omega arith))
+    rw c.from.ensures (c.requires.0.each c.loop-j.j (omega arith))
 
 pub loop-j-preserved : goal.loop-j-preserved
 loop-j-preserved c =
     let u = c.loop-j.j - c.args.first in
-    let e = shl_exact 1 u 64 (omega arith) (omega (arith, ltb-true)) ∙ one-mul _ in
-    (omega arith, marks_next u c.loop-j.invariant.1 c.requires.0 (omega arith) (omega arith) c.index.ensures.0 e c.mark.ensures.0 c.mark.ensures.1)
+    let e = shl_exact 1 u 64 (omega arith) (omega arith) ∙ one-mul _ in
+    (omega arith, marks_next u c.loop-j.invariant.1 c.requires.0 (omega arith) (omega arith) c.from.ensures e c.mark.ensures.0 c.mark.ensures.1)
 
-pub returns-else-j-first : goal.returns-else-j-first
-returns-else-j-first c = marks_all c.loop-j.invariant.1 (λ v h k. omega (arith, ltb-false))
-
-pub returns-after-loop-j : goal.returns-after-loop-j
-returns-after-loop-j c = marks_all c.loop-j.invariant.1 (λ v h k. omega arith)
-
-pub overflow_shl-j : goal.overflow_shl-j
-overflow_shl-j c = omega (arith, ltb-true)
+pub returns : goal.returns
+returns c = marks_all c.loop-j.invariant.1 (λ v h k. omega arith)

@@ -1,13 +1,12 @@
 -- Answers of `build`. Assumes nothing.
-use mathlib.Core.Path.{◌≡◌, ap, ◌∙◌}
+use mathlib.Core.Path.{◌≡◌, ◌∙◌, refl}
 use native.Mathlib.Omega.{arith}
-use lib.ListN.{set}
 use Rattle.rule.proofs.Tables.{lefts_stand}
 use Rattle.overlap.proofs.Building.{building_starts, walkable, building_goes, building_ended}
 use Rattle.overlap.proofs.build.Goals as goal
 
 pub loop-i-init : goal.loop-i-init
-loop-i-init c = (omega arith, building_starts _ _)
+loop-i-init c = building_starts _ _
 
 pub left_side-left-requires : goal.left_side-left-requires
 left_side-left-requires c =
@@ -24,11 +23,8 @@ overflow_mul-i c =
 pub walk-n-requires : goal.walk-n-requires
 walk-n-requires c =
     let p = c.requires in
-    let w = walkable _ _ c.loop-i.invariant.1 (lefts_stand p.0.tables) (omega arith) p.1 in
+    let w = walkable _ _ c.loop-i.invariant (lefts_stand p.0.tables) (omega arith) p.1 in
     rw c.left_side-left.ensures.0 w
-
-pub byte-requires : goal.byte-requires
-byte-requires c = let f = c.walk-n.ensures.few in omega arith
 
 pub bounds-counts-i : goal.bounds-counts-i
 bounds-counts-i c =
@@ -39,11 +35,11 @@ pub loop-i-preserved : goal.loop-i-preserved
 loop-i-preserved c =
     let p = c.requires in
     let s = rw c.left_side-left.ensures.0 at c.walk-n.ensures in
-    (omega arith, building_goes _ _ c.loop-i.invariant.1 (lefts_stand p.0.tables) (omega arith) _ s (ap (set c.loop-i.counts c.loop-i.i) c.byte.ensures))
+    (building_goes _ _ c.loop-i.invariant (lefts_stand p.0.tables) (omega arith) _ s refl)
 
 pub returns : goal.returns
 returns c =
     let p = c.requires in
     let f = p.0.tables.good.few_rules in
     let e : c.loop-i.i ≡ c.args.m = omega arith in
-    building_ended _ _ c.loop-i.invariant.1 (e ∙ p.2) (omega arith)
+    building_ended _ _ c.loop-i.invariant (e ∙ p.2) (omega arith)

@@ -6,9 +6,6 @@ use lib.ListN.{length, drop}
 use Rattle.overlap.specs.Trie.{upto}
 use Rattle.overlap.proofs.push.Given as goal
 
-abbrev pub invariant-loop-left : goal.invariant-loop-left
-invariant-loop-left l =
-    (l.left ≤ l.n) × (l.at + l.n ≡ l.top + l.left) × (length l.stack ≡ 64) × (drop l.at l.stack ≡ upto (l.base + l.left) (l.n - l.left) ++ drop l.top l.initial.stack)
-
-abbrev pub decreases-loop-left : goal.decreases-loop-left
-decreases-loop-left l = l.left
+abbrev pub invariant-loop-i : goal.invariant-loop-i
+invariant-loop-i l =
+    (l.i ≤ l.n) × (length l.stack ≡ 64) × (drop (l.at + l.i) l.stack ≡ upto (l.base + l.i) (l.n - l.i) ++ drop l.top l.initial.stack)

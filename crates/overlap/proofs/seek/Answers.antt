@@ -16,36 +16,30 @@ down {links} slot y s e n =
     (omega arith, omega arith, omega arith)
 
 pub loop-slot-init : goal.loop-slot-init
-loop-slot-init c = (omega arith, λ r l. rw c.index-turns.ensures.0 at l)
+loop-slot-init c = (omega arith, λ r l. rw c.from-turns.ensures at l)
 
 pub bounds-codes-y : goal.bounds-codes-y
 bounds-codes-y c =
-    (down c.loop-slot.slot c.offset-y.result c.requires.0 c.offset-y.ensures.0 c.loop-slot-test.true).1
+    (down c.loop-slot.slot c.from-y.result c.requires.0 c.from-y.ensures c.loop-slot-test.true).1
 
 pub returns-then-codes-y : goal.returns-then-codes-y
 returns-then-codes-y c =
     record {
       leads = c.loop-slot.invariant.1 _
-          (Leads.node c.offset-y.result (sym c.offset-y.ensures.0) (down c.loop-slot.slot c.offset-y.result c.requires.0 c.offset-y.ensures.0 c.loop-slot-test.true).0
+          (Leads.node c.from-y.result (sym c.from-y.ensures) (down c.loop-slot.slot c.from-y.result c.requires.0 c.from-y.ensures c.loop-slot-test.true).0
           c.if-codes-y.true);
       inside = tt;
     }
 
-pub overflow_add-slot : goal.overflow_add-slot
-overflow_add-slot c = let e = c.offset-y.ensures.1 in omega arith
-
-pub overflow_add-slot-in-loop-slot : goal.overflow_add-slot-in-loop-slot
-overflow_add-slot-in-loop-slot c = let e = c.offset-y.ensures.1 in omega arith
-
 pub loop-slot-smaller : goal.loop-slot-smaller
 loop-slot-smaller c =
-    let d = down c.loop-slot.slot c.offset-y.result c.requires.0 c.offset-y.ensures.0 c.loop-slot-test.true in
+    let d = down c.loop-slot.slot c.from-y.result c.requires.0 c.from-y.ensures c.loop-slot-test.true in
     omega arith
 
 pub loop-slot-preserved : goal.loop-slot-preserved
 loop-slot-preserved c =
-    let d = down c.loop-slot.slot c.offset-y.result c.requires.0 c.offset-y.ensures.0 c.loop-slot-test.true in
-    (omega arith, λ r k. c.loop-slot.invariant.1 r (Leads.on c.offset-y.result (sym c.offset-y.ensures.0) d.0 c.if-codes-y.false k))
+    let d = down c.loop-slot.slot c.from-y.result c.requires.0 c.from-y.ensures c.loop-slot-test.true in
+    (omega arith, λ r k. c.loop-slot.invariant.1 r (Leads.on c.from-y.result (sym c.from-y.ensures) d.0 c.if-codes-y.false k))
 
 pub returns : goal.returns
 returns c = record { leads = c.loop-slot.invariant.1 _ (Leads.free c.loop-slot-test.false); inside = c.loop-slot.invariant.0 }

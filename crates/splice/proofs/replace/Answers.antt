@@ -4,14 +4,14 @@ use Rattle.splice.proofs.replace.Goals as goal
 use Rattle.splice.proofs.replace.Goals.{then-a-n, else-a-n}
 
 -- where the two ways meet
-meet : (c : goal.After-copy-2) →
-    Opened c.args.symbols.now c.args.part.now c.args.len c.args.a c.args.e c.args.n c.if-a-n.symbols c.if-a-n.part
+meet : (c : goal.After-copy) →
+    Opened c.args.symbols.now c.args.len c.args.a c.args.e c.args.n c.if-a-n.symbols
 meet c =
     elim c.if-a-n.branch [
       | then-a-n w ↦
-          rw (w.symbols-is, w.part-is) (opened c.requires.0 c.requires.1 w.grow.ensures w.copy.ensures w.copy-then-a-n.ensures)
-      | else-a-n w ↦ rw (w.symbols-is, w.part-is) (open_already c.requires.0 c.requires.1 w.if-a-n.false)
+          rw w.symbols-is (opened c.requires.0 w.grow.ensures w.copy_within.ensures.after)
+      | else-a-n w ↦ rw w.symbols-is (open_already c.requires.0 w.if-a-n.false)
     ]
 
 pub returns : goal.returns
-returns c = replaced c.requires.0 c.requires.1 (meet c) c.copy-2.ensures
+returns c = replaced c.requires.0 c.requires.1 (meet c) c.copy.ensures

@@ -17,17 +17,15 @@ shift_units-requires c =
 pub returns-then-a-k : goal.returns-then-a-k
 returns-then-a-k c =
     let g = rw c.length-len.ensures at c.replace.ensures in
-    (applied g refl c.set_top.ensures c.shift_units.ensures, g.part_long)
+    applied g refl c.set_top.ensures c.shift_units.ensures
 
 -- nothing moves: as many symbols come as go, or there is one unit
 pub returns-else-count-gt1 : goal.returns-else-count-gt1
 returns-else-count-gt1 c =
-    let g = rw c.length-len.ensures at c.replace.ensures in (
-      applied g refl c.set_top.ensures
-          (elim c.else-count-gt1.branch [
-            | else-count-gt1-via-then-count-gt1+else-a-k w ↦ unmoved w.if-a-k.false c.set_top.ensures.fit
-            | else-count-gt1-via-else-count-gt1 w ↦
-                alone_unmoved c.requires.4 c.set_top.ensures refl (omega arith) _ _ c.requires.2
-          ]),
-      g.part_long,
-    )
+    let g = rw c.length-len.ensures at c.replace.ensures in
+    applied g refl c.set_top.ensures
+    (elim c.else-count-gt1.branch [
+      | else-count-gt1-via-then-count-gt1+else-a-k w ↦ unmoved w.if-a-k.false c.set_top.ensures.fit
+      | else-count-gt1-via-else-count-gt1 w ↦
+          alone_unmoved c.requires.4 c.set_top.ensures refl (omega arith) _ _ c.requires.2
+    ])

@@ -27,4 +27,4 @@ returns-in-Full c =
 pub returns-in-Fits : goal.returns-in-Fits
 returns-in-Fits c =
     let h = rw c.in-Fits.is at c.choose.ensures in
-    (rewrote _ c.args.p c.args.l _ c.requires.0 h.long h.is c.apply.ensures.0, c.apply.ensures.1)
+    (rewrote _ c.args.p c.args.l _ c.requires.0 h.long h.is c.apply.ensures, h.long)
