@@ -28,10 +28,8 @@ fn heights(cells: &[u32; 8], tops: &mut [usize; 8])
     requires { (length tops.old ≡ 8) × ((u : ℕ) → u < 8 → K.base u ≤ K.end_in cells.now u) }
     ensures { C.HeightsOf cells.now tops.new }
 {
-    let mut u = 0;
-    while u < 8 {
+    for u in 0..8 {
         tops[u] = height(cells, u);
-        u += 1;
     }
 }
 
@@ -47,9 +45,7 @@ fn highest_exit(work: &[u8], from: usize, h: usize) -> Highest
     requires { (from + 3 * h ≤ length work.now) × (h ≤ K.height) }
     ensures { (result ≡ P.highest_exit (K.stack_of work.now from h)) × C.FoundBelow h result }
 {
-    let mut k = h;
-    while 0 < k {
-        k -= 1;
+    for k in (0..h).rev() {
         match units::frames::frame_at(work, from + 3 * k) {
             Frame::Exit(exit) => {
                 return Highest::Exit(k, exit);
@@ -95,9 +91,7 @@ fn none_left(work: &[u8], units: usize, tops: &[usize; 8]) -> bool
     requires { (3 * (8 * K.height) ≤ length work.now) × (units ≤ 8) × C.TopsFit tops.now }
     ensures { result ≡ P.none_left work.now units tops.now }
 {
-    let mut v = units;
-    while 0 < v {
-        v -= 1;
+    for v in (0..units).rev() {
         match highest_exit(work, units::frames::base_of(v), tops[v]) {
             Highest::Exit(_, _) => {
                 return false;
@@ -115,12 +109,10 @@ pub fn order_good(work: &[u8], cells: &[u32; 8], units: usize, order: &[u16; 102
 {
     let mut tops = [0; 8];
     heights(cells, &mut tops);
-    let mut k = casts::offset(order[0]);
-    while 0 < k {
-        if !take_part(work, cells, units, &mut tops, casts::offset(order[k])) {
+    for k in (0..usize::from(order[0])).rev() {
+        if !take_part(work, cells, units, &mut tops, usize::from(order[k + 1])) {
             return false;
         }
-        k -= 1;
     }
     none_left(work, units, &tops)
 }
@@ -139,9 +131,7 @@ fn of_rank(cells: &[u32; 8], count: usize, r: usize) -> usize
     ensures { C.RankCounted cells.now count r result }
 {
     let mut n = 0;
-    let mut v = count;
-    while 0 < v {
-        v -= 1;
+    for v in (0..count).rev() {
         if rank(cells, v) == r {
             n += 1;
         }
@@ -154,12 +144,10 @@ fn each_once(cells: &[u32; 8], units: usize, n: usize) -> bool
     requires { units ≤ 8 }
     ensures { C.EachOnce cells.now units n result }
 {
-    let mut r = n;
-    while 0 < r {
-        if of_rank(cells, units, r) != 1 {
+    for r in (0..n).rev() {
+        if of_rank(cells, units, r + 1) != 1 {
             return false;
         }
-        r -= 1;
     }
     true
 }
@@ -170,9 +158,10 @@ fn operator_of(symbols: &[u32; 1024], a: usize) -> u8
     ensures { result ≡ get_or (operators_in symbols.now) a 0 }
 {
     if a < term::length(symbols) {
-        return term::operator_at(symbols, a);
+        term::operator_at(symbols, a)
+    } else {
+        0
     }
-    0
 }
 
 // Is step k of operator o a JOIN?
@@ -261,9 +250,7 @@ fn each_rank_good(
     requires { C.Readable operators.now symbols.now × U.StacksFit (K.store work.now cells.now) × (units ≤ 8) × C.IdleAre cells.now units n }
     ensures { C.EachRankDecided operators.now symbols.now (K.store work.now cells.now) units result }
 {
-    let mut v = units;
-    while 0 < v {
-        v -= 1;
+    for v in (0..units).rev() {
         if !rank_good(operators, symbols, work, cells, units, n, v) {
             return false;
         }

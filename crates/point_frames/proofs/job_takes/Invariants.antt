@@ -12,6 +12,3 @@ use Rattle.point_frames.proofs.job_takes.Given as goal
 abbrev pub invariant-loop-x : goal.invariant-loop-x
 invariant-loop-x l =
     (l.x ≤ l.n) × (l.p ≡ argument (arity_in l.operators) (operators_in l.symbols) l.b l.x) × (some_below (free l.operators l.symbols l.a l.b l.o l.k) l.x ≡ false)
-
-abbrev pub decreases-loop-x : goal.decreases-loop-x
-decreases-loop-x l = l.n - l.x

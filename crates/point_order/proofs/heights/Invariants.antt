@@ -5,6 +5,3 @@ use Rattle.point_order.proofs.heights.Given as goal
 
 abbrev pub invariant-loop-u : goal.invariant-loop-u
 invariant-loop-u l = (l.u ≤ 8) × HeightsBelow l.u l.cells l.tops
-
-abbrev pub decreases-loop-u : goal.decreases-loop-u
-decreases-loop-u l = 8 - l.u

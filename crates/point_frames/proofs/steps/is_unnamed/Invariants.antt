@@ -8,6 +8,3 @@ use Rattle.point_frames.proofs.steps.is_unnamed.Given as goal
 
 abbrev pub invariant-loop-i : goal.invariant-loop-i
 invariant-loop-i l = unnamed l.x (drop l.k (steps_in l.operators l.o)) ≡ unnamed l.x (drop l.i (steps_in l.operators l.o))
-
-abbrev pub decreases-loop-i : goal.decreases-loop-i
-decreases-loop-i l = 16 - l.i
