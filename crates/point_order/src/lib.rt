@@ -33,27 +33,24 @@ fn heights(cells: &[u32; 8], tops: &mut [usize; 8])
     }
 }
 
-// The highest EXIT of some frames, with its index.
-#[derive(Drop)]
-enum Highest {
-    Exit(usize, Exit),
-    None,
+// An EXIT among some frames, with its index.
+#[derive(Clone, Copy)]
+struct Held {
+    index: usize,
+    exit: Exit,
 }
 
-// Of the h frames from a place on.
-fn highest_exit(work: &[u8], from: usize, h: usize) -> Highest
+// The highest EXIT of the h frames from a place on.
+fn highest_exit(work: &[u8], from: usize, h: usize) -> Option<Held>
     requires { (from + 3 * h ≤ length work.now) × (h ≤ K.height) }
     ensures { (result ≡ P.highest_exit (K.stack_of work.now from h)) × C.FoundBelow h result }
 {
     for k in (0..h).rev() {
-        match units::frames::frame_at(work, from + 3 * k) {
-            Frame::Exit(exit) => {
-                return Highest::Exit(k, exit);
-            }
-            _ => {}
+        if let Frame::Exit(exit) = units::frames::frame_at(work, from + 3 * k) {
+            return Some(Held { index: k, exit });
         }
     }
-    Highest::None
+    None
 }
 
 // Does the job that an EXIT names stand below the parts that were taken off its unit's stack? It does if none was.
@@ -78,11 +75,11 @@ fn take_part(work: &[u8], cells: &[u32; 8], units: usize, tops: &mut [usize; 8],
         return false;
     }
     match highest_exit(work, units::frames::base_of(v), tops[v]) {
-        Highest::Exit(j, exit) => {
-            tops[v] = j;
-            stands(cells, tops, exit)
+        Some(held) => {
+            tops[v] = held.index;
+            stands(cells, tops, held.exit)
         }
-        Highest::None => false,
+        None => false,
     }
 }
 
@@ -92,11 +89,8 @@ fn none_left(work: &[u8], units: usize, tops: &[usize; 8]) -> bool
     ensures { result ≡ P.none_left work.now units tops.now }
 {
     for v in (0..units).rev() {
-        match highest_exit(work, units::frames::base_of(v), tops[v]) {
-            Highest::Exit(_, _) => {
-                return false;
-            }
-            Highest::None => {}
+        if highest_exit(work, units::frames::base_of(v), tops[v]).is_some() {
+            return false;
         }
     }
     true

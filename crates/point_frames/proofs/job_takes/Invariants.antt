@@ -1,7 +1,7 @@
 -- `point_frames::job_takes` meets its contract: the loop's invariant: p is where argument x stands, and none before it is taken. Assumes nothing.
 use mathlib.Core.Bool.{false}
 use mathlib.Core.Path.{◌≡◌}
-use Prim.Native.Nat.{◌-◌, ◌≤◌}
+use Prim.Native.Nat.{◌≤◌}
 use Rattle.flat.specs.Symbols.{argument}
 use Rattle.flat.specs.Tested.{some_below}
 use Rattle.tables.specs.Layout.{arity_in}

@@ -1,5 +1,5 @@
 -- `point_order::heights` meets its contract: the heights of the units below u stand. Assumes nothing.
-use Prim.Native.Nat.{◌-◌, ◌≤◌}
+use Prim.Native.Nat.{◌≤◌}
 use Rattle.point_order.proofs.Loops.{HeightsBelow}
 use Rattle.point_order.proofs.heights.Given as goal
 

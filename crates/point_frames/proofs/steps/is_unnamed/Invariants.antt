@@ -1,6 +1,5 @@
 -- `point_frames::steps::is_unnamed` meets its contract: the loop's invariant: the steps from step k on name the argument exactly if those from step i on do. Assumes nothing.
 use mathlib.Core.Path.{◌≡◌}
-use Prim.Native.Nat.{◌-◌}
 use lib.ListN.{drop}
 use Rattle.flat.specs.Tested.{unnamed}
 use Rattle.tables.specs.Layout.{steps_in}
