@@ -22,7 +22,6 @@ use Rattle.parking.specs.Form.{limits, only_if, read_run}
 use Rattle.point.specs.declared.Numbers.{Numbers}
 use Rattle.point.specs.Saved.{Arrays, state, saved, Standing}
 use Rattle.point_reader.specs.Loading.{LoadedAt}
-use Rattle.point_reader.specs.declared.Loaded as L
 use Rattle.point_reader.proofs.Loading.{none_there, saved_there}
 use Rattle.point_rules.specs.Promises as P
 use Rattle.opening.specs.Promises.{zero_to_byte, OfBook, RunIs}
@@ -67,13 +66,13 @@ module _ (B : Book) (bytes : List ℕ) where
 -- BY A BOOK'S TABLES
 
 module _ {B : Book} {operators : List ℕ} {n : ℕ} (o : OfBook operators n B) {part : List ℕ} (m : ℕ) (h : 4 + m ≤ length part) {a : Arrays} where
-  pub none_loaded : LoadedAt (arity_in operators) n part ((4 + m) * 8) a L.Loaded.None → RunIs B (drop (4 + m) part) operators m a None
+  pub none_loaded : LoadedAt (arity_in operators) n part ((4 + m) * 8) a None → RunIs B (drop (4 + m) part) operators m a None
   none_loaded l y e =
       let (z, f, t) = run_accepted B (drop (4 + m) part) y e in
       none_there B o.tables.operators_in o.count o.tables.good l z (ap (read_saved (arity B)) (bits_behind (4 + m) part h) ∙ f)
       ((point_tested_rules B (limits z.value.budget) z.value.parked.state).0 t)
 
-  module _ {x : Numbers} {next : ℕ} (l : LoadedAt (arity_in operators) n part ((4 + m) * 8) a (L.Loaded.Saved x next)) where
+  module _ {x : Numbers} {next : ℕ} (l : LoadedAt (arity_in operators) n part ((4 + m) * 8) a (Some (record { value = x; next = next }))) where
     -- so the rules can be tried
     pub of_point : P.OfBook operators x a B
     of_point = record {

@@ -6,10 +6,7 @@ ghost use Rattle.units.specs.Stacks.{store};
 ghost use Rattle.point.specs.Saved.{arrays};
 ghost use Rattle.opening.specs.Promises as C;
 
-use bits::Bits;
-use book::Book;
 use point::Numbers;
-use point_reader::Loaded;
 
 // A run's numbers and the length of its book.
 #[derive(Clone, Copy)]
@@ -24,13 +21,7 @@ fn padded(bytes: &[u8], at: usize) -> bool
     ensures { result ≡ C.zero_to_byte bytes.now at }
 {
     let n = at % 8;
-    if n == 0 {
-        return true;
-    }
-    match bits::field(bytes, at, 8 - n) {
-        Bits::Value(v, _) => v == 0,
-        Bits::Out => true,
-    }
+    n == 0 || bits::field(bytes, at, 8 - n).is_none_or(|f| f.value == 0)
 }
 
 // The run behind the book, which has m bytes and n operators; none if the bytes break a rule.
@@ -48,18 +39,14 @@ fn open_run(
     ensures { C.RunOpened part.now operators.now m n
         (arrays symbols.new work.new cells.new order.new) result }
 {
-    match point_reader::load(part, (4 + m) * 8, n, operators, symbols, work, cells, order) {
-        Loaded::None => None,
-        Loaded::Saved(numbers, next) => {
-            if !padded(part, next) {
-                return None;
-            }
-            point_rules::meets(operators, symbols, work, cells, order, numbers).then_some(Opened {
-                numbers,
-                book: m,
-            })
-        }
+    let run = point_reader::load(part, (4 + m) * 8, n, operators, symbols, work, cells, order)?;
+    if !padded(part, run.next) {
+        return None;
     }
+    point_rules::meets(operators, symbols, work, cells, order, run.value).then_some(Opened {
+        numbers: run.value,
+        book: m,
+    })
 }
 
 // The part of a slot behind the name: two bytes, the book's length; two bytes, the day; the book; the run's fields. None if they break a rule.
@@ -78,8 +65,6 @@ pub fn open(
 {
     let m = stream::pair(part, 0);
     let day = stream::pair(part, 2) as u16;
-    match book::read_book(part.get(4..4 + m)?, day, operators, rules) {
-        Book::Refused(_) => None,
-        Book::Read(n) => open_run(part, m, n, operators, symbols, work, cells, order),
-    }
+    let n = book::read_book(part.get(4..4 + m)?, day, operators, rules).ok()?;
+    open_run(part, m, n, operators, symbols, work, cells, order)
 }

@@ -16,12 +16,10 @@ ghost use Rattle.engine.specs.Promises as E;
 ghost use Rattle.points.specs.Spec as P;
 ghost use Rattle.points.specs.Promises as C;
 
-use book::Book;
 use engine::{Answer, Form};
 use point::Numbers;
 use refusal::Refusal;
 use run::{Ending, Run};
-use text::Text;
 use whole::Limits;
 
 // The length that a buffer of points must have; published in parking/specs/Points.
@@ -274,10 +272,10 @@ fn park_book(
     let mut rules = [0u32; tables::RULES];
     let mut line = [0u8; 1024];
     match book::read_book(book, day, &mut operators, &mut rules) {
-        Book::Refused(k) => Answer::Refused(k),
-        Book::Read(n) => match engine::read_term(form, given, n, &operators, &mut line) {
-            Text::Refused(k) => Answer::Refused(k),
-            Text::Read(length) => park_term(
+        Err(e) => Answer::Refused(e.number()),
+        Ok(n) => match engine::read_term(form, given, n, &operators, &mut line) {
+            Err(e) => Answer::Refused(e.number()),
+            Ok(length) => park_term(
                 book,
                 &operators,
                 &rules,
