@@ -77,14 +77,15 @@ fn try_case() -> bool {
     try_sizes(
         cases::number(head[0], head[1]),
         cases::number(head[2], head[3]),
-        casts::short(cases::number(head[4], head[5])),
+        cases::number(head[4], head[5]) as u16,
     )
 }
 
-// The turns are counted down from a number that no input uses up, so that the loop ends.
+// As many turns as no input uses up, so that the loop ends.
 fn main() {
-    let mut turns = u64::MAX;
-    while turns > 0 && try_case() {
-        turns -= 1;
+    for _ in 0..u64::MAX {
+        if !try_case() {
+            return;
+        }
     }
 }

@@ -27,7 +27,7 @@ post-run-requires c =
 
 pub put_run-requires : goal.put_run-requires
 put_run-requires c =
-    (c.post-run.ensures.posted.most, c.post-run.ensures.posted.long, omega arith)
+    (c.post-run.ensures.posted.most, omega arith)
 
 pub returns-in-Refused : goal.returns-in-Refused
 returns-in-Refused c =
