@@ -3,8 +3,6 @@
 
 ghost use Rattle.std.specs.Prelude.{◌≡◌, length};
 
-use book::Book;
-
 // 0, or the number of the refusal; 255 for a book of over 65,536 bytes.
 #[unsafe(no_mangle)]
 pub extern "C" fn bench_book_read(
@@ -19,7 +17,7 @@ pub extern "C" fn bench_book_read(
         return 255;
     }
     match book::read_book(bytes, day, operators, rules) {
-        Book::Read(_) => 0,
-        Book::Refused(k) => k,
+        Ok(_) => 0,
+        Err(e) => e.number(),
     }
 }

@@ -3,8 +3,6 @@
 
 ghost use Rattle.std.specs.Prelude.{◌≡◌, length};
 
-use text::Text;
-
 // The term's symbols at the front of symbols; how many, or 0 for a refusal.
 #[unsafe(no_mangle)]
 pub extern "C" fn bench_text_read(
@@ -15,8 +13,5 @@ pub extern "C" fn bench_text_read(
 ) -> usize
     requires { length symbols.old ≡ 1024 }
 {
-    match text::read_text(text, n, operators, symbols) {
-        Text::Read(m) => m,
-        Text::Refused(_) => 0,
-    }
+    text::read_text(text, n, operators, symbols).unwrap_or(0)
 }

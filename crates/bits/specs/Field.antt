@@ -1,22 +1,21 @@
 -- What a field that is read or written means, in the paper's terms. Assumes nothing.
-use Rattle.std.specs.Prelude.{List, ◌++◌, ◌≡◌, ℕ, ◌+◌, ◌*◌, ◌<◌, length, get_or, take, drop, replicate}
+use Rattle.std.specs.Prelude.{List, ◌++◌, Option, Some, None, ◌≡◌, ℕ, ◌+◌, ◌*◌, ◌<◌, length, get_or, take, drop, replicate}
 use Rattle.paper.specs.Result.{Result, refused, accepted, Read}
 use Rattle.paper.specs.Bits.{to_bits, bits_of, field}
-use Rattle.bits.specs.declared.Bits as D
-use Rattle.bits.specs.declared.Bits.TheVariants.{Value, Out}
+use Rattle.bits.specs.declared.Bits.{Bits}
 
 -- an answer about some bytes, as the paper's reader gives it: a position stands for the bits from there on
-abbrev pub answer : List ℕ → D.Bits → Result (Read ℕ)
-answer bytes (Value v next) = accepted (record { value = v; left = drop next (bits_of bytes) })
-answer bytes Out = refused 1
+abbrev pub answer : List ℕ → Option Bits → Result (Read ℕ)
+answer bytes (Some f) = accepted (record { value = f.value; left = drop f.next (bits_of bytes) })
+answer bytes None = refused 1
 
 -- the position behind the field, where there is one
-abbrev pub Ends : ℕ → D.Bits → Type 0
-Ends end (Value v next) = next ≡ end
-Ends end Out = Unit
+abbrev pub Ends : ℕ → Option Bits → Type 0
+Ends end (Some f) = f.next ≡ end
+Ends end None = Unit
 
 -- r answers for the n bits at position at: it is what the paper's reader of a field answers there, and ends behind them
-pub record Answers (bytes : List ℕ) (at n : ℕ) (r : D.Bits) : Type 0 where
+pub record Answers (bytes : List ℕ) (at n : ℕ) (r : Option Bits) : Type 0 where
   pub is : answer bytes r ≡ field n (drop at (bits_of bytes))
   pub ends : Ends (at + n) r
 

@@ -6,24 +6,18 @@ ghost use Rattle.std.specs.Prelude.{◌≡◌, ◌+◌, ◌-◌, ◌*◌, ◌/�
 ghost use Rattle.bits.specs.Field.{Answers, Pair, Nine, Written};
 ghost use Rattle.bits.specs.Window.{Window, renewed, set3};
 
-// A field's value and the position behind it, or that the bits run out.
-#[derive(Drop)]
-pub enum Bits {
-    Value(u16, usize),
-    Out,
-}
-
-fn wide(x: u8) -> usize
-    ensures { (result ≡ x) × (result < 256) }
-{
-    x as usize
+// A field's value, and the position behind it.
+#[derive(Clone, Copy, Debug, PartialEq, Eq)]
+pub struct Bits {
+    pub value: u16,
+    pub next: usize,
 }
 
 // The byte at i. Past the end it counts as 0.
 fn byte_at(s: &[u8], i: usize) -> usize
     ensures { (result ≡ get_or s.now i 0) × (result < 256) }
 {
-    if i < s.len() { wide(s[i]) } else { 0 }
+    if i < s.len() { usize::from(s[i]) } else { 0 }
 }
 
 // The three bytes from i on, as one number.
@@ -58,16 +52,19 @@ pub fn left(s: &[u8], at: usize) -> usize
     if at < all { all - at } else { 0 }
 }
 
-// The field of n bits at position at.
-pub fn field(s: &[u8], at: usize, n: usize) -> Bits
+// The field of n bits at position at; none if the bits run out.
+pub fn field(s: &[u8], at: usize, n: usize) -> Option<Bits>
     requires { (length s.now ≤ 2 ^ 60) × (n ≤ 16) }
     ensures { Answers s.now at n result }
 {
     if left(s, at) < n {
-        return Bits::Out;
+        return None;
     }
     let w = window(s, at / 8);
-    Bits::Value(middle(w, 24 - at % 8 - n, n), at + n)
+    Some(Bits {
+        value: middle(w, 24 - at % 8 - n, n),
+        next: at + n,
+    })
 }
 
 // The two bytes from i on, as one number. Where both are there, one test tells.
@@ -76,7 +73,7 @@ fn pair(s: &[u8], i: usize) -> usize
     ensures { Pair s.now i result }
 {
     if i + 1 < s.len() {
-        return wide(s[i]) * 256 + wide(s[i + 1]);
+        return usize::from(s[i]) * 256 + usize::from(s[i + 1]);
     }
     byte_at(s, i) * 256
 }

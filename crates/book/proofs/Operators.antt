@@ -15,13 +15,14 @@ use Rattle.paper.proofs.Readers.{bind_return}
 use Rattle.flat.proofs.Lengths.{few_steps}
 use Rattle.bits.proofs.Reading.{Got}
 use Rattle.tables.specs.Layout.{row, set_row}
-use Rattle.strategy.specs.declared.Strategy.{Strategy}
 use Rattle.strategy.specs.declared.Listed.{Listed}
 use Rattle.strategy.specs.Promises.{StrategyAt, LaidOut}
 use Rattle.strategy.proofs.Reading.{bind_refused, settled_items, strategy_refused, strategy_read}
 use Rattle.side.specs.Promises.{bits_at}
 use Rattle.book.specs.Promises.{OperatorTaken, OperatorsTaken}
-use Rattle.book.specs.declared.Part.{Part}
+use Rattle.std.specs.Prelude.{Ok, Err}
+use Rattle.refusal.specs.declared.Refusal.{Refusal}
+use Rattle.refusal.specs.Numbers.{number}
 use Rattle.book.proofs.Readers.{bind_assoc, repeat_next, repeat_stops}
 use Rattle.book.proofs.Grow.{operators_grow}
 
@@ -37,20 +38,20 @@ operator_strategy {bytes} {at} {a} {p} g =
     ∙ sym (bind_assoc (field 1) (read_strategy a) (made a) (bits_at bytes p))
 
 module _ {bytes : List ℕ} {at o : ℕ} {operators operators' : List ℕ} where
-  pub operator_out : field 3 (bits_at bytes at) ≡ refused 1 → OperatorTaken bytes at o operators operators' (Part.Refused 1)
+  pub operator_out : {e : Refusal} → field 3 (bits_at bytes at) ≡ refused (number e) → OperatorTaken bytes at o operators operators' (Err e)
   unfolding read_operator
-  operator_out h = record { is = bind_refused (field 3) _ (bits_at bytes at) 1 h }
+  operator_out h = record { is = bind_refused (field 3) _ (bits_at bytes at) _ h }
 
   module _ {a p : ℕ} (g : Got bytes at 3 a p) {given : List ℕ} where
-    pub operator_refused : {e : ℕ} → StrategyAt bytes p a given (Strategy.Refused e) → OperatorTaken bytes at o operators operators' (Part.Refused e)
+    pub operator_refused : {e : Refusal} → StrategyAt bytes p a given (Err e) → OperatorTaken bytes at o operators operators' (Err e)
     operator_refused {e} s = record {
       is =
           operator_strategy g
-          ∙ bind_refused (field 1 >>= read_strategy a) (made a) (bits_at bytes p) e (strategy_refused bytes p a given (Strategy.Refused e) s e refl);
+          ∙ bind_refused (field 1 >>= read_strategy a) (made a) (bits_at bytes p) (number e) (strategy_refused bytes p a given (Err e) s e refl);
     }
 
-    pub operator_read : {l : Listed} {laid : List ℕ} → StrategyAt bytes p a given (Strategy.Read l) → LaidOut given l.len operators o laid → o < 255 →
-        operators' ≡ set laid o a → OperatorTaken bytes at o operators operators' (Part.Read l.next)
+    pub operator_read : {l : Listed} {laid : List ℕ} → StrategyAt bytes p a given (Ok l) → LaidOut given l.len operators o laid → o < 255 →
+        operators' ≡ set laid o a → OperatorTaken bytes at o operators operators' (Ok l.next)
     unfolding made
     operator_read {l} {laid} s w k f =
         let x = s.settled.1 in
@@ -59,7 +60,7 @@ module _ {bytes : List ℕ} {at o : ℕ} {operators operators' : List ℕ} where
           is = (
             op,
             operator_strategy g ∙ bind_return (field 1 >>= read_strategy a) (made a) (bits_at bytes p) (bits_at bytes l.next) x.strategy
-                (strategy_read bytes p a given (Strategy.Read l) s l refl x),
+                (strategy_read bytes p a given (Ok l) s l refl x),
             operators_grow op o operators laid operators' k (few_steps op x.good)
                 (w.is ∙ ap (λ (js : List Item). set_row operators o (row (layout js))) (settled_items a _ x)) w.table f,
           );
@@ -68,15 +69,15 @@ module _ {bytes : List ℕ} {at o : ℕ} {operators operators' : List ℕ} where
 -- One by one
 
 module _ {bytes : List ℕ} {at : ℕ} {operators : List ℕ} where
-  pub operators_none : length operators ≡ 4352 → OperatorsTaken bytes at 0 operators (Part.Read at)
+  pub operators_none : length operators ≡ 4352 → OperatorsTaken bytes at 0 operators (Ok at)
   unfolding repeat
   operators_none e = record { are = ([], refl, (refl, record { each = λ o l. absurd (omega arith); long = e })) }
 
-  pub operators_all : {o n p : ℕ} → o ≤ n → n ≤ o → OperatorsTaken bytes at o operators (Part.Read p) → OperatorsTaken bytes at n operators (Part.Read p)
-  operators_all {p = p} h k = subst (λ (i : ℕ). OperatorsTaken bytes at i operators (Part.Read p)) (le_antisymm h k)
+  pub operators_all : {o n p : ℕ} → o ≤ n → n ≤ o → OperatorsTaken bytes at o operators (Ok p) → OperatorsTaken bytes at n operators (Ok p)
+  operators_all {p = p} h k = subst (λ (i : ℕ). OperatorsTaken bytes at i operators (Ok p)) (le_antisymm h k)
 
-  module _ {o p : ℕ} {operators' : List ℕ} (h : OperatorsTaken bytes at o operators (Part.Read p)) where
-    pub operators_next : {next : ℕ} → OperatorTaken bytes p o operators operators' (Part.Read next) → OperatorsTaken bytes at (o + 1) operators' (Part.Read next)
+  module _ {o p : ℕ} {operators' : List ℕ} (h : OperatorsTaken bytes at o operators (Ok p)) where
+    pub operators_next : {next : ℕ} → OperatorTaken bytes p o operators operators' (Ok next) → OperatorsTaken bytes at (o + 1) operators' (Ok next)
     operators_next {next} q =
         let (ops, are, (count, t)) = h.are in
         let (op, is, grow) = q.is in
@@ -88,7 +89,7 @@ module _ {bytes : List ℕ} {at : ℕ} {operators : List ℕ} where
           );
         }
 
-    pub operators_stop : {n k : ℕ} → o < n → OperatorTaken bytes p o operators operators' (Part.Refused k) → OperatorsTaken bytes at n operators' (Part.Refused k)
+    pub operators_stop : {n : ℕ} {k : Refusal} → o < n → OperatorTaken bytes p o operators operators' (Err k) → OperatorsTaken bytes at n operators' (Err k)
     operators_stop {n} {k} l q =
         let (ops, are, t) = h.are in
-        record { are = repeat_stops read_operator o (bits_at bytes at) (bits_at bytes p) ops are n k l q.is }
+        record { are = repeat_stops read_operator o (bits_at bytes at) (bits_at bytes p) ops are n (number k) l q.is }

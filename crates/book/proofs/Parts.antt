@@ -31,9 +31,9 @@ use Rattle.standing.specs.Dates.{Dates, dated_of, dated_book, rules_of, AllDated
 use Rattle.standing.specs.Promises.{Kept}
 use Rattle.book.specs.Promises.{OperatorsTaken, read_rule_of, undated_rules, RulesTaken, ended, EndsAt, read_tail, TailAt}
 use Rattle.book.specs.Promises.{begins, in_form, AllRead, StandingKept, BookAt}
-use Rattle.book.specs.declared.Part.{Part}
-use Rattle.book.specs.declared.Tail.{Tail}
-use Rattle.book.specs.declared.Book as D
+use Rattle.std.specs.Prelude.{Ok, Err}
+use Rattle.refusal.specs.declared.Refusal.{Refusal}
+use Rattle.refusal.specs.Numbers.{number}
 use Rattle.book.proofs.Forms.{read_parts, answer_of, any_parts, form_operators}
 use Rattle.book.proofs.Rules.{day_put}
 
@@ -90,17 +90,17 @@ unfolding read_tail
 tail_rules {bytes} {at} {m} {p} g dated ops = bind_return (field 8) _ (bits_at bytes at) (bits_at bytes p) m g.is
 
 module _ {bytes : List ℕ} {at n : ℕ} {dated : Bool} {operators rules : List ℕ} where
-  pub tail_out : field 8 (bits_at bytes at) ≡ refused 1 → TailAt bytes at dated n operators rules (Tail.Refused 1)
+  pub tail_out : {e : Refusal} → field 8 (bits_at bytes at) ≡ refused (number e) → TailAt bytes at dated n operators rules (Err e)
   unfolding read_tail
-  tail_out h = record { is = λ ops t. bind_refused (field 8) _ (bits_at bytes at) 1 h }
+  tail_out h = record { is = λ ops t. bind_refused (field 8) _ (bits_at bytes at) _ h }
 
   module _ {m p : ℕ} (g : Got bytes at 8 m p) where
-    pub tail_refused : {k : ℕ} → RulesTaken bytes p dated n operators m rules (Part.Refused k) → TailAt bytes at dated n operators rules (Tail.Refused k)
+    pub tail_refused : {k : Refusal} → RulesTaken bytes p dated n operators m rules (Err k) → TailAt bytes at dated n operators rules (Err k)
     tail_refused {k} q = record {
-      is = λ ops t. tail_rules g dated ops ∙ bind_refused (repeat m (read_rule_of dated ops)) _ (bits_at bytes p) k (q.are ops t);
+      is = λ ops t. tail_rules g dated ops ∙ bind_refused (repeat m (read_rule_of dated ops)) _ (bits_at bytes p) (number k) (q.are ops t);
     }
 
-    module _ {end : ℕ} (q : RulesTaken bytes p dated n operators m rules (Part.Read end)) {b : Bool} (e : EndsAt bytes end b) where
+    module _ {end : ℕ} (q : RulesTaken bytes p dated n operators m rules (Ok end)) {b : Bool} (e : EndsAt bytes end b) where
       tail_end : (ops : List Operator) (t : AritiesIn ops n operators) → read_tail dated ops (bits_at bytes at) ≡
           if b (return (with_rules ops (q.are ops t).0) (bits_at bytes end)) (refuse 9 (bits_at bytes end))
       tail_end ops t =
@@ -108,10 +108,10 @@ module _ {bytes : List ℕ} {at n : ℕ} {dated : Bool} {operators rules : List 
           ∙ bind_return (repeat m (read_rule_of dated ops)) _ (bits_at bytes p) (bits_at bytes end) (q.are ops t).0 (q.are ops t).1
           ∙ read_end_is _ (bits_at bytes end) ∙ rw e.is
 
-      pub tail_ends : b ≡ true → TailAt bytes at dated n operators rules (Tail.Rules m)
+      pub tail_ends : b ≡ true → TailAt bytes at dated n operators rules (Ok m)
       tail_ends f = record { is = λ ops t. let (rs, are, (count, u)) = q.are ops t in (rs, bits_at bytes end, rw f at (tail_end ops t), count, u) }
 
-      pub tail_goes_on : b ≡ false → TailAt bytes at dated n operators rules (Tail.Refused 9)
+      pub tail_goes_on : b ≡ false → TailAt bytes at dated n operators rules (Err Refusal.BookLeftOver)
       unfolding refuse
       tail_goes_on f = record { is = λ ops t. rw f at (tail_end ops t) }
 
@@ -179,20 +179,20 @@ module _ (bytes : List ℕ) {dated : Bool} {at : ℕ} (form : dated ≡ is_dated
   book_parts : read_any bytes ≡ answer_of dated (read_parts dated (bits_at bytes at))
   book_parts = any_parts bytes dated (sym form) ∙ ap (λ (k : ℕ). answer_of dated (read_parts dated (bits_at bytes k))) (sym starts)
 
-  refused_by : {day k : ℕ} {operators rules : List ℕ} → read_parts dated (bits_at bytes at) ≡ refused k → BookAt bytes day operators rules (D.Book.Refused k)
+  refused_by : {day : ℕ} {k : Refusal} {operators rules : List ℕ} → read_parts dated (bits_at bytes at) ≡ refused (number k) → BookAt bytes day operators rules (Err k)
   unfolding then
   refused_by h = record { is = book_parts ∙ ap (answer_of dated) h }
 
-  pub count_out : {day : ℕ} {operators rules : List ℕ} → field 8 (bits_at bytes at) ≡ refused 1 → BookAt bytes day operators rules (D.Book.Refused 1)
+  pub count_out : {day : ℕ} {e : Refusal} {operators rules : List ℕ} → field 8 (bits_at bytes at) ≡ refused (number e) → BookAt bytes day operators rules (Err e)
   unfolding read_count
-  count_out h = refused_by (bind_refused read_count _ (bits_at bytes at) 1 (bind_refused (field 8) _ (bits_at bytes at) 1 h))
+  count_out h = refused_by (bind_refused read_count _ (bits_at bytes at) _ (bind_refused (field 8) _ (bits_at bytes at) _ h))
 
   module _ {n p : ℕ} (g : Got bytes at 8 n p) where
     count_is : read_count (bits_at bytes at) ≡ if (eqb n 0) (refuse 2) (return n) (bits_at bytes p)
     unfolding read_count
     count_is = bind_return (field 8) _ (bits_at bytes at) (bits_at bytes p) n g.is
 
-    pub count_zero : {day : ℕ} {operators rules : List ℕ} → n ≡ 0 → BookAt bytes day operators rules (D.Book.Refused 2)
+    pub count_zero : {day : ℕ} {operators rules : List ℕ} → n ≡ 0 → BookAt bytes day operators rules (Err Refusal.NoOperator)
     unfolding refuse
     count_zero e = refused_by (bind_refused read_count _ (bits_at bytes at) 2 (count_is ∙ rw (eqb_true n 0 e)))
 
@@ -200,11 +200,11 @@ module _ (bytes : List ℕ) {dated : Bool} {at : ℕ} (form : dated ≡ is_dated
       book_operators : read_parts dated (bits_at bytes at) ≡ (repeat n read_operator >>= read_tail dated) (bits_at bytes p)
       book_operators = bind_return read_count _ (bits_at bytes at) (bits_at bytes p) n (count_is ∙ rw (eqb_false n 0 some))
 
-      pub operators_refused : {day k : ℕ} {operators rules : List ℕ} → OperatorsTaken bytes p n operators (Part.Refused k) →
-          BookAt bytes day operators rules (D.Book.Refused k)
-      operators_refused {k = k} q = refused_by (book_operators ∙ bind_refused (repeat n read_operator) (read_tail dated) (bits_at bytes p) k q.are)
+      pub operators_refused : {day : ℕ} {k : Refusal} {operators rules : List ℕ} → OperatorsTaken bytes p n operators (Err k) →
+          BookAt bytes day operators rules (Err k)
+      operators_refused {k = k} q = refused_by (book_operators ∙ bind_refused (repeat n read_operator) (read_tail dated) (bits_at bytes p) (number k) q.are)
 
-      module _ {operators : List ℕ} {next : ℕ} (q : OperatorsTaken bytes p n operators (Part.Read next)) where
+      module _ {operators : List ℕ} {next : ℕ} (q : OperatorsTaken bytes p n operators (Ok next)) where
         abbrev ops : List Operator
         ops = q.are.0
 
@@ -214,11 +214,11 @@ module _ (bytes : List ℕ) {dated : Bool} {at : ℕ} (form : dated ≡ is_dated
         arities : AritiesIn ops n operators
         arities = arities_of q.are.2.0 q.are.2.1
 
-        pub tail_refuses : {day k : ℕ} {rules : List ℕ} → TailAt bytes next dated n operators rules (Tail.Refused k) → BookAt bytes day operators rules (D.Book.Refused k)
+        pub tail_refuses : {day : ℕ} {k : Refusal} {rules : List ℕ} → TailAt bytes next dated n operators rules (Err k) → BookAt bytes day operators rules (Err k)
         tail_refuses t = refused_by (book_tail ∙ t.is ops arities)
 
         -- the book is accepted: it is the one that the bytes are
-        module _ {m : ℕ} {rules : List ℕ} (t : TailAt bytes next dated n operators rules (Tail.Rules m)) where
+        module _ {m : ℕ} {rules : List ℕ} (t : TailAt bytes next dated n operators rules (Ok m)) where
           abbrev B : DatedBook
           B = with_rules ops (t.is ops arities).0
 
@@ -243,7 +243,7 @@ module _ (bytes : List ℕ) {dated : Bool} {at : ℕ} (form : dated ≡ is_dated
               })
 
           pub book_is : {rules₁ rules₂ : List ℕ} {day k : ℕ} → StandingKept bytes day k rules₁ → rules₂ ≡ with_count rules₁ k →
-              BookAt bytes day operators rules₂ (D.Book.Read n)
+              BookAt bytes day operators rules₂ (Ok n)
           book_is {rules₁} {rules₂} {day} {k} s h =
               let d : day_in rules₂ ≡ day_in rules₁ = ap day_in h ∙ G.count_day rules₁ k in
               let e : book_of bytes rules₂ ≡ book_of bytes rules₁ = ap (λ (d : ℕ). on_day d (any_book bytes)) d in

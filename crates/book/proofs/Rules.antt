@@ -18,12 +18,13 @@ use Rattle.tables.proofs.Laws.{stand_inside}
 use Rattle.tables.proofs.Grow.{snoc_each, rules_grow, day_sides}
 use Rattle.side.specs.Promises as S
 use Rattle.side.specs.Promises.{bits_at}
-use Rattle.side.specs.declared.Rule as Ru
 use Rattle.side.specs.declared.RuleEnd.{RuleEnd}
 use Rattle.side.proofs.Symbols.{then_refused}
 use Rattle.standing.specs.Dates.{DatedIn, Dates}
 use Rattle.book.specs.Promises.{read_rule_of, DayIs, DayPassed, undated_rules, RulesIn, RuleTaken, RulesTaken}
-use Rattle.book.specs.declared.Part.{Part}
+use Rattle.std.specs.Prelude.{Ok, Err}
+use Rattle.refusal.specs.declared.Refusal.{Refusal}
+use Rattle.refusal.specs.Numbers.{number}
 use Rattle.book.proofs.Readers.{repeat_next, repeat_stops}
 
 map_append : {A C : Type 0} (f : A → C) (xs ys : List A) → map f (xs ++ ys) ≡ map f xs ++ map f ys
@@ -94,7 +95,7 @@ day_put {rs = rs} {rules = rules} day few u = record {
   };
 }
 
-module _ {bytes : List ℕ} {at n : ℕ} {operators : List ℕ} {e : RuleEnd} (q : S.RuleAt bytes at n operators (Ru.Rule.Read e)) where
+module _ {bytes : List ℕ} {at n : ℕ} {operators : List ℕ} {e : RuleEnd} (q : S.RuleAt bytes at n operators (Ok e)) where
   -- its positions are small
   pub rule_inside : length bytes ≤ 65536 → (at < 2 ^ 32) × (e.right < 2 ^ 32)
   rule_inside l =
@@ -106,12 +107,12 @@ module _ {bytes : List ℕ} {at n : ℕ} {operators : List ℕ} {e : RuleEnd} (q
       (omega arith, omega arith)
 
   -- behind its day, or with no day before it
-  pub rule_read : {i before : ℕ} {rules rules' : List ℕ} {dated : Bool} → DayPassed bytes before dated (Part.Read at) → i < 255 →
-      rules' ≡ with_sides rules i at e.right → RuleTaken bytes before dated n operators i rules rules' (Part.Read e.next)
+  pub rule_read : {i before : ℕ} {rules rules' : List ℕ} {dated : Bool} → DayPassed bytes before dated (Ok at) → i < 255 →
+      rules' ≡ with_sides rules i at e.right → RuleTaken bytes before dated n operators i rules rules' (Ok e.next)
   unfolding read_rule_of read_dated_rule ◌>>=◌ return
   rule_read {i} {before} {rules} {rules'} {dated} p l f = go dated p.is
     where
-      go : (dated : Bool) → DayIs dated bytes before (Part.Read at) → RuleTaken bytes before dated n operators i rules rules' (Part.Read e.next)
+      go : (dated : Bool) → DayIs dated bytes before (Ok at) → RuleTaken bytes before dated n operators i rules rules' (Ok e.next)
       go true (day, is, ends) = record {
         is = λ ops t.
             let s = q.is ops t in
@@ -134,28 +135,28 @@ module _ {bytes : List ℕ} {at n : ℕ} {operators : List ℕ} {e : RuleEnd} (q
             );
       }
 
-pub day_refused : {bytes : List ℕ} {at n i k : ℕ} {operators rules : List ℕ} {dated : Bool} → DayPassed bytes at dated (Part.Refused k) →
-    RuleTaken bytes at dated n operators i rules rules (Part.Refused k)
+pub day_refused : {bytes : List ℕ} {at n i : ℕ} {k : Refusal} {operators rules : List ℕ} {dated : Bool} → DayPassed bytes at dated (Err k) →
+    RuleTaken bytes at dated n operators i rules rules (Err k)
 unfolding read_rule_of read_dated_rule ◌>>=◌
 day_refused {bytes} {at} {n} {i} {k} {operators} {rules} {dated} p = go dated p.is
   where
-    go : (dated : Bool) → DayIs dated bytes at (Part.Refused k) → RuleTaken bytes at dated n operators i rules rules (Part.Refused k)
-    go true e = record { is = λ ops t. then_refused _ _ k e }
+    go : (dated : Bool) → DayIs dated bytes at (Err k) → RuleTaken bytes at dated n operators i rules rules (Err k)
+    go true e = record { is = λ ops t. then_refused _ _ (number k) e }
     go false e = absurd e
 
-pub rule_refused : {bytes : List ℕ} {at left n i k : ℕ} {operators rules : List ℕ} {dated : Bool} → DayPassed bytes at dated (Part.Read left) →
-    S.RuleAt bytes left n operators (Ru.Rule.Refused k) → RuleTaken bytes at dated n operators i rules rules (Part.Refused k)
+pub rule_refused : {bytes : List ℕ} {at left n i : ℕ} {k : Refusal} {operators rules : List ℕ} {dated : Bool} → DayPassed bytes at dated (Ok left) →
+    S.RuleAt bytes left n operators (Err k) → RuleTaken bytes at dated n operators i rules rules (Err k)
 unfolding read_rule_of read_dated_rule ◌>>=◌
 rule_refused {bytes} {at} {left} {n} {i} {k} {operators} {rules} {dated} p q = go dated p.is
   where
-    go : (dated : Bool) → DayIs dated bytes at (Part.Read left) → RuleTaken bytes at dated n operators i rules rules (Part.Refused k)
-    go true (day, is, ends) = record { is = λ ops t. then_is _ _ _ _ is (then_refused _ _ k (q.is ops t)) }
-    go false ends = record { is = λ ops t. then_refused _ _ k (rw ends at (q.is ops t)) }
+    go : (dated : Bool) → DayIs dated bytes at (Ok left) → RuleTaken bytes at dated n operators i rules rules (Err k)
+    go true (day, is, ends) = record { is = λ ops t. then_is _ _ _ _ is (then_refused _ _ (number k) (q.is ops t)) }
+    go false ends = record { is = λ ops t. then_refused _ _ (number k) (rw ends at (q.is ops t)) }
 
 -- One by one
 
 module _ {bytes : List ℕ} {at n : ℕ} {dated : Bool} {operators rules : List ℕ} where
-  pub rules_none : rules ≡ replicate 512 0 → RulesTaken bytes at dated n operators 0 rules (Part.Read at)
+  pub rules_none : rules ≡ replicate 512 0 → RulesTaken bytes at dated n operators 0 rules (Ok at)
   unfolding repeat
   rules_none e = rw e (record {
     are = λ ops t. (
@@ -171,12 +172,12 @@ module _ {bytes : List ℕ} {at n : ℕ} {dated : Bool} {operators rules : List 
     );
   })
 
-  pub rules_all : {i m p : ℕ} → i ≤ m → m ≤ i → RulesTaken bytes at dated n operators i rules (Part.Read p) → RulesTaken bytes at dated n operators m rules (Part.Read p)
-  rules_all {p = p} h k = subst (λ (j : ℕ). RulesTaken bytes at dated n operators j rules (Part.Read p)) (le_antisymm h k)
+  pub rules_all : {i m p : ℕ} → i ≤ m → m ≤ i → RulesTaken bytes at dated n operators i rules (Ok p) → RulesTaken bytes at dated n operators m rules (Ok p)
+  rules_all {p = p} h k = subst (λ (j : ℕ). RulesTaken bytes at dated n operators j rules (Ok p)) (le_antisymm h k)
 
-  module _ {i p : ℕ} {rules' : List ℕ} (h : RulesTaken bytes at dated n operators i rules (Part.Read p)) where
-    pub rules_next : {next : ℕ} → RuleTaken bytes p dated n operators i rules rules' (Part.Read next) →
-        RulesTaken bytes at dated n operators (i + 1) rules' (Part.Read next)
+  module _ {i p : ℕ} {rules' : List ℕ} (h : RulesTaken bytes at dated n operators i rules (Ok p)) where
+    pub rules_next : {next : ℕ} → RuleTaken bytes p dated n operators i rules rules' (Ok next) →
+        RulesTaken bytes at dated n operators (i + 1) rules' (Ok next)
     rules_next {next} q = record {
       are = λ ops t.
           let (rs, are, (count, u)) = h.are ops t in
@@ -187,8 +188,8 @@ module _ {bytes : List ℕ} {at n : ℕ} {dated : Bool} {operators rules : List 
           );
     }
 
-    pub rules_stop : {m k : ℕ} → i < m → RuleTaken bytes p dated n operators i rules rules' (Part.Refused k) →
-        RulesTaken bytes at dated n operators m rules' (Part.Refused k)
+    pub rules_stop : {m : ℕ} {k : Refusal} → i < m → RuleTaken bytes p dated n operators i rules rules' (Err k) →
+        RulesTaken bytes at dated n operators m rules' (Err k)
     rules_stop {m} {k} l q = record {
-      are = λ ops t. let (rs, are, u) = h.are ops t in repeat_stops (read_rule_of dated ops) i (bits_at bytes at) (bits_at bytes p) rs are m k l (q.is ops t);
+      are = λ ops t. let (rs, are, u) = h.are ops t in repeat_stops (read_rule_of dated ops) i (bits_at bytes at) (bits_at bytes p) rs are m (number k) l (q.is ops t);
     }

@@ -1,5 +1,5 @@
 -- What the answers mean, in the paper's terms: a position stands for the book's bits from there on. Promises of functions inside. Assumes nothing.
-use Rattle.std.specs.Prelude.{Bool, true, false, List, [], ◌∷◌, ◌++◌, map, ◌≡◌, ℕ, ◌+◌, ltb, length}
+use Rattle.std.specs.Prelude.{Ok, Err, Bool, true, false, List, [], ◌∷◌, ◌++◌, map, ◌≡◌, ℕ, ◌+◌, ltb, length}
 use Rattle.paper.specs.Result.{Result, refused, Read, Reader, if, return, ◌>>=◌, repeat}
 use Rattle.paper.specs.Bits.{field}
 use Rattle.paper.specs.Book.{Operator, Rule}
@@ -10,24 +10,24 @@ use Rattle.tables.specs.Layout.{day_in}
 use Rattle.tables.specs.Tables.{any_book, book_of, Operators, Sides, TablesOf}
 use Rattle.side.specs.Promises.{AritiesIn, bits_at}
 use Rattle.standing.specs.Dates.{Dates}
-use Rattle.book.specs.declared.Part.{Part}
-use Rattle.book.specs.declared.Tail.{Tail}
-use Rattle.book.specs.declared.Book as D
+use Rattle.std.specs.Prelude.{Result as Answer}
+use Rattle.refusal.specs.declared.Refusal.{Refusal}
+use Rattle.refusal.specs.Numbers.{number}
 
 -- the paper's reader answers as the code does; P holds of what is read
-abbrev pub PartIs : {A : Type 0} → List ℕ → Result (Read A) → (A → Type 0) → Part → Type 0
-PartIs {A} bytes x P (Part.Read next) = (a : A) × (x ≡ return a (bits_at bytes next)) × P a
-PartIs bytes x P (Part.Refused k) = x ≡ refused k
+abbrev pub PartIs : {A : Type 0} → List ℕ → Result (Read A) → (A → Type 0) → Answer ℕ Refusal → Type 0
+PartIs {A} bytes x P (Ok next) = (a : A) × (x ≡ return a (bits_at bytes next)) × P a
+PartIs bytes x P (Err k) = x ≡ refused (number k)
 
 -- OPERATORS
 
 -- operator o, which the table takes behind those that it holds
-pub record OperatorTaken (bytes : List ℕ) (at o : ℕ) (operators operators' : List ℕ) (r : Part) : Type 0 where
+pub record OperatorTaken (bytes : List ℕ) (at o : ℕ) (operators operators' : List ℕ) (r : Answer ℕ Refusal) : Type 0 where
   pub is : PartIs bytes (read_operator (bits_at bytes at))
       (λ op. (ops : List Operator) → length ops ≡ o → Operators ops operators → Operators (ops ++ (op ∷ [])) operators') r
 
 -- n operators
-pub record OperatorsTaken (bytes : List ℕ) (at n : ℕ) (operators : List ℕ) (r : Part) : Type 0 where
+pub record OperatorsTaken (bytes : List ℕ) (at n : ℕ) (operators : List ℕ) (r : Answer ℕ Refusal) : Type 0 where
   pub are : PartIs bytes (repeat n read_operator (bits_at bytes at)) (λ ops. (length ops ≡ n) × Operators ops operators) r
 
 -- RULES
@@ -41,13 +41,13 @@ read_rule_of false ops = do
   return (record { day = 0; rule = rule })
 
 -- the position behind the day, which a dated book has before a rule
-abbrev pub DayIs : Bool → List ℕ → ℕ → Part → Type 0
-DayIs true bytes at (Part.Read next) = (day : ℕ) × (field 16 (bits_at bytes at) ≡ return day (bits_at bytes next)) × (next ≡ at + 16)
-DayIs true bytes at (Part.Refused k) = field 16 (bits_at bytes at) ≡ refused k
-DayIs false bytes at (Part.Read next) = next ≡ at
-DayIs false bytes at (Part.Refused k) = ⊥
+abbrev pub DayIs : Bool → List ℕ → ℕ → Answer ℕ Refusal → Type 0
+DayIs true bytes at (Ok next) = (day : ℕ) × (field 16 (bits_at bytes at) ≡ return day (bits_at bytes next)) × (next ≡ at + 16)
+DayIs true bytes at (Err k) = field 16 (bits_at bytes at) ≡ refused (number k)
+DayIs false bytes at (Ok next) = next ≡ at
+DayIs false bytes at (Err k) = ⊥
 
-pub record DayPassed (bytes : List ℕ) (at : ℕ) (dated : Bool) (r : Part) : Type 0 where
+pub record DayPassed (bytes : List ℕ) (at : ℕ) (dated : Bool) (r : Answer ℕ Refusal) : Type 0 where
   pub is : DayIs dated bytes at r
 
 abbrev pub undated_rules : List DatedRule → List Rule
@@ -59,12 +59,12 @@ pub record RulesIn (dated : Bool) (bytes : List ℕ) (rs : List DatedRule) (rule
   pub dates : dated ≡ true → Dates bytes rs rules
 
 -- rule i, which the table takes behind those that it holds
-pub record RuleTaken (bytes : List ℕ) (at : ℕ) (dated : Bool) (n : ℕ) (operators : List ℕ) (i : ℕ) (rules rules' : List ℕ) (r : Part) : Type 0 where
+pub record RuleTaken (bytes : List ℕ) (at : ℕ) (dated : Bool) (n : ℕ) (operators : List ℕ) (i : ℕ) (rules rules' : List ℕ) (r : Answer ℕ Refusal) : Type 0 where
   pub is : (ops : List Operator) → AritiesIn ops n operators → PartIs bytes (read_rule_of dated ops (bits_at bytes at))
       (λ rule. (rs : List DatedRule) → length rs ≡ i → RulesIn dated bytes rs rules → RulesIn dated bytes (rs ++ (rule ∷ [])) rules') r
 
 -- m rules
-pub record RulesTaken (bytes : List ℕ) (at : ℕ) (dated : Bool) (n : ℕ) (operators : List ℕ) (m : ℕ) (rules : List ℕ) (r : Part) : Type 0 where
+pub record RulesTaken (bytes : List ℕ) (at : ℕ) (dated : Bool) (n : ℕ) (operators : List ℕ) (m : ℕ) (rules : List ℕ) (r : Answer ℕ Refusal) : Type 0 where
   pub are : (ops : List Operator) → AritiesIn ops n operators →
       PartIs bytes (repeat m (read_rule_of dated ops) (bits_at bytes at)) (λ rs. (length rs ≡ m) × RulesIn dated bytes rs rules) r
 
@@ -86,13 +86,13 @@ read_tail dated ops = do
   rs ← repeat m (read_rule_of dated ops)
   read_end (record { operators = ops; rules = rs })
 
-abbrev pub TailIs : Bool → List Operator → List ℕ → ℕ → List ℕ → Tail → Type 0
-TailIs dated ops bytes at rules (Tail.Rules m) =
+abbrev pub TailIs : Bool → List Operator → List ℕ → ℕ → List ℕ → Answer ℕ Refusal → Type 0
+TailIs dated ops bytes at rules (Ok m) =
     (rs : List DatedRule) × (left : List ℕ) × (read_tail dated ops (bits_at bytes at) ≡ return (record { operators = ops; rules = rs }) left)
     × (length rs ≡ m) × RulesIn dated bytes rs rules
-TailIs dated ops bytes at rules (Tail.Refused k) = read_tail dated ops (bits_at bytes at) ≡ refused k
+TailIs dated ops bytes at rules (Err k) = read_tail dated ops (bits_at bytes at) ≡ refused (number k)
 
-pub record TailAt (bytes : List ℕ) (at : ℕ) (dated : Bool) (n : ℕ) (operators rules : List ℕ) (r : Tail) : Type 0 where
+pub record TailAt (bytes : List ℕ) (at : ℕ) (dated : Bool) (n : ℕ) (operators rules : List ℕ) (r : Answer ℕ Refusal) : Type 0 where
   pub is : (ops : List Operator) → AritiesIn ops n operators → TailIs dated ops bytes at rules r
 
 -- THE WHOLE BOOK
@@ -124,10 +124,10 @@ pub record StandingKept (bytes : List ℕ) (day m : ℕ) (rules : List ℕ) : Ty
   pub day_is : day_in rules ≡ day
 
 -- a book that is read has its tables on the day and n operators
-abbrev pub BookIs : List ℕ → ℕ → List ℕ → List ℕ → D.Book → Type 0
-BookIs bytes day operators rules (D.Book.Read n) =
+abbrev pub BookIs : List ℕ → ℕ → List ℕ → List ℕ → Answer ℕ Refusal → Type 0
+BookIs bytes day operators rules (Ok n) =
     TablesOf bytes operators rules × (day_in rules ≡ day) × (n ≡ length (book_of bytes rules).operators)
-BookIs bytes day operators rules (D.Book.Refused k) = read_any bytes ≡ refused k
+BookIs bytes day operators rules (Err k) = read_any bytes ≡ refused (number k)
 
-pub record BookAt (bytes : List ℕ) (day : ℕ) (operators rules : List ℕ) (r : D.Book) : Type 0 where
+pub record BookAt (bytes : List ℕ) (day : ℕ) (operators rules : List ℕ) (r : Answer ℕ Refusal) : Type 0 where
   pub is : BookIs bytes day operators rules r

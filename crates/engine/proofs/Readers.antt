@@ -16,10 +16,13 @@ use Rattle.paper.proofs.Text.{length_chain, text_correct, text_line}
 use Rattle.tables.specs.Layout.{arity_in, day_in}
 use Rattle.tables.specs.Tables.{any_book, book_of, Operators, TablesOf}
 use Rattle.line.specs.Line.{judgement}
-use Rattle.line.specs.declared.Line as L
+use mathlib.Core.Option.{none, some}
+use Rattle.std.specs.Prelude.{Ok, Err}
+use Rattle.std.specs.Prelude.{Result as Checked}
+use Rattle.refusal.specs.declared.Refusal.{Refusal}
+use Rattle.refusal.specs.Numbers.{number}
 use Rattle.line.proofs.Checking as Lines
 use Rattle.text.specs.Promises.{TextRead}
-use Rattle.text.specs.declared.Text as T
 use Rattle.text.proofs.Laws as Texts
 use Rattle.engine.specs.Spec.{request, answered_by, ReducedBy, answered, Reduced}
 use Rattle.engine.specs.Promises.{Framed, Taken, ReadAs, TermRead}
@@ -35,10 +38,10 @@ module _ (B : Book) {operators : List ℕ} {n : ℕ} (count : length B.operators
   -- THE LINE, by the check's judgement, and behind load
 
   module _ (line : List ℕ) where
-    pub line_refused : (k : ℕ) → judgement n (arity_in operators) line ≡ L.Line.Refused k → read_line B line ≡ refused k
+    pub line_refused : (k : ℕ) → judgement n (arity_in operators) line ≡ some k → read_line B line ≡ refused k
     line_refused k e = Lines.refused_refused B count t line k e
 
-    module _ (e : judgement n (arity_in operators) line ≡ L.Line.Sound) where
+    module _ (e : judgement n (arity_in operators) line ≡ none) where
       line_accepted : (t : Term) × (read_line B line ≡ accepted t)
       line_accepted = Lines.sound_accepted B count t line e
 
@@ -63,7 +66,7 @@ module _ (B : Book) {operators : List ℕ} {n : ℕ} (count : length B.operators
   -- THE TEXT, by what the code reads of it
 
   module _ {text symbols symbols' : List ℕ} where
-    text_taken : {m : ℕ} → TextRead n (arity_in operators) text symbols symbols' (T.Text.Read m) → Taken read_text B text symbols' m
+    text_taken : {m : ℕ} → TextRead n (arity_in operators) text symbols symbols' (Ok m) → Taken read_text B text symbols' m
     text_taken q =
         let (e, l, p) = Texts.text_accepted B count t q refl in
         let u : Term = chain (squeezed text) in
@@ -78,12 +81,12 @@ module _ (B : Book) {operators : List ℕ} {n : ℕ} (count : length B.operators
           line_read = e;
         }
 
-    pub text_read : (r : T.Text) → TextRead n (arity_in operators) text symbols symbols' r → ReadAs read_text B text symbols' r
-    text_read (T.Text.Read m) q = text_taken q
-    text_read (T.Text.Refused k) q = Texts.text_refused B count t q refl
+    pub text_read : (r : Checked ℕ Refusal) → TextRead n (arity_in operators) text symbols symbols' r → ReadAs read_text B text symbols' r
+    text_read (Ok m) q = text_taken q
+    text_read (Err e) q = Texts.text_refused B count t q refl
 
 -- by the book that was read
-pub by_tables : {read : LineReader} {book operators rules line symbols : List ℕ} {n : ℕ} {r : T.Text} → TablesOf book operators rules →
+pub by_tables : {read : LineReader} {book operators rules line symbols : List ℕ} {n : ℕ} {r : Checked ℕ Refusal} → TablesOf book operators rules →
     n ≡ length (book_of book rules).operators → TermRead read n operators line symbols r → ReadAs read (book_of book rules) line symbols r
 by_tables {book = book} {rules = rules} tables e q = q.is (book_of book rules) (sym e) tables.tables.operators_in
 

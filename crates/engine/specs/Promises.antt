@@ -1,5 +1,5 @@
 -- What the functions behind the entry points ask of each other. Assumes nothing.
-use Rattle.std.specs.Prelude.{true, List, [], ◌≡◌, ℕ, ◌^◌, ◌≤◌, ◌<◌, length, take}
+use Rattle.std.specs.Prelude.{Ok, Err, true, List, [], ◌≡◌, ℕ, ◌^◌, ◌≤◌, ◌<◌, length, take}
 use Rattle.std.proofs.Math.Option.{Option, none, some}
 use Rattle.paper.specs.Result.{refused, accepted}
 use Rattle.paper.specs.Tree.{preorder}
@@ -11,7 +11,9 @@ use Rattle.flat.specs.Machine.{FlatState, flat_start}
 use Rattle.symbol.specs.Record.{operators}
 use Rattle.tables.specs.Layout.{day_in}
 use Rattle.tables.specs.Tables.{book_of, Operators, TablesOf}
-use Rattle.text.specs.declared.Text as T
+use Rattle.std.specs.Prelude.{Result as Checked}
+use Rattle.refusal.specs.declared.Refusal.{Refusal}
+use Rattle.refusal.specs.Numbers.{number}
 use Rattle.net.specs.Net.{NetOf}
 use Rattle.whole.specs.declared.Limits.{Limits}
 use Rattle.run.specs.declared.Run.{Run}
@@ -54,12 +56,12 @@ pub record Taken (read : LineReader) (B : Book) (line symbols : List ℕ) (n : �
   pub given : Given B symbols n
   pub line_read : read B line ≡ accepted given.term
 
-abbrev pub ReadAs : LineReader → Book → List ℕ → List ℕ → T.Text → Type 0
-ReadAs read B line symbols (T.Text.Read n) = Taken read B line symbols n
-ReadAs read B line symbols (T.Text.Refused k) = read B line ≡ refused k
+abbrev pub ReadAs : LineReader → Book → List ℕ → List ℕ → Checked ℕ Refusal → Type 0
+ReadAs read B line symbols (Ok n) = Taken read B line symbols n
+ReadAs read B line symbols (Err e) = read B line ≡ refused (number e)
 
 -- by every book of n operators with these arities
-pub record TermRead (read : LineReader) (n : ℕ) (operators line symbols : List ℕ) (r : T.Text) : Type 0 where
+pub record TermRead (read : LineReader) (n : ℕ) (operators line symbols : List ℕ) (r : Checked ℕ Refusal) : Type 0 where
   pub is : (B : Book) → length B.operators ≡ n → Operators B.operators operators → ReadAs read B line symbols r
   pub long : length symbols ≡ 1024
 

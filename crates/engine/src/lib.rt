@@ -15,10 +15,8 @@ ghost use Rattle.engine.specs.Spec as R;
 ghost use Rattle.engine.specs.Promises as C;
 ghost use Rattle.engine.specs.declared.Answer as D;
 
-use book::Book;
-use line::Line;
+use refusal::Refusal;
 use run::Run;
-use text::Text;
 use whole::Limits;
 
 // The published lengths of the work area and of the net's, and the length that an output must have; published in specs/Spec has the same numbers.
@@ -54,10 +52,8 @@ pub fn names_units(schedule: &[u8], units: usize) -> bool
     ensures { result ≡ all_below units schedule.now }
 {
     let mut most = 0;
-    let mut i = 0;
-    while i < schedule.len() {
-        most = larger(most, schedule[i]);
-        i += 1;
+    for &u in schedule {
+        most = larger(most, u);
     }
     casts::index(most) < units
 }
@@ -67,11 +63,7 @@ fn load(symbols: &mut [u8; 1024], line: &[u8])
     requires { (length symbols.old ≡ 1024) × (length line.now ≤ 1024) }
     ensures { symbols.new ≡ line.now ++ drop (length line.now) symbols.old }
 {
-    let mut i = 0;
-    while i < line.len() {
-        symbols[i] = line[i];
-        i += 1;
-    }
+    symbols[..line.len()].copy_from_slice(line);
 }
 
 // The operators of the first n symbols, to the front of the output.
@@ -79,10 +71,8 @@ pub fn hand_out(symbols: &[u32; 1024], n: usize, output: &mut [u8])
     requires { (length symbols.now ≡ 1024) × (n ≤ 1024) × (1024 ≤ length output.old) }
     ensures { output.new ≡ S.operators (take n symbols.now) ++ drop n output.old }
 {
-    let mut i = 0;
-    while i < n {
+    for i in 0..n {
         output[i] = symbol::operator(symbols[i]);
-        i += 1;
     }
 }
 
@@ -90,11 +80,7 @@ pub fn hand_out(symbols: &[u32; 1024], n: usize, output: &mut [u8])
 pub fn clear(area: &mut [u8])
     ensures { area.new ≡ replicate (length area.old) 0 }
 {
-    let mut at = 0;
-    while at < area.len() {
-        area[at] = 0;
-        at += 1;
-    }
+    area.fill(0);
 }
 
 // The run of the term that the line's first n symbols are, by a book's operators and the net of its rules. The arrays are left where the run stands, the present term
@@ -236,18 +222,16 @@ pub fn read_term(
     n: usize,
     operators: &[u8; 4352],
     symbols: &mut [u8; 1024],
-) -> Text
+) -> Result<usize, Refusal>
     requires { length symbols.old ≡ 1024 }
     ensures { C.TermRead (R.reader form) n operators.now line.now symbols.new result }
 {
     match form {
-        Form::Term => match line::check_line(line, n, operators) {
-            Line::Refused(k) => Text::Refused(k),
-            Line::Sound => {
-                load(symbols, line);
-                Text::Read(line.len())
-            }
-        },
+        Form::Term => {
+            line::check_line(line, n, operators)?;
+            load(symbols, line);
+            Ok(line.len())
+        }
         Form::Text => text::read_text(line, n, operators, symbols),
     }
 }
@@ -273,10 +257,10 @@ fn reduce_book(
     let mut rules = [0u32; tables::RULES];
     let mut line = [0u8; 1024];
     match book::read_book(book, day, &mut operators, &mut rules) {
-        Book::Refused(k) => Answer::Refused(k),
-        Book::Read(n) => match read_term(form, given, n, &operators, &mut line) {
-            Text::Refused(k) => Answer::Refused(k),
-            Text::Read(length) => run_checked(
+        Err(e) => Answer::Refused(e.number()),
+        Ok(n) => match read_term(form, given, n, &operators, &mut line) {
+            Err(e) => Answer::Refused(e.number()),
+            Ok(length) => run_checked(
                 book,
                 &operators,
                 &rules,

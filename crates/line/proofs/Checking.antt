@@ -16,10 +16,9 @@ use Rattle.paper.specs.Tree.{node, trees}
 use Rattle.paper.specs.Book.{Term, Book, arity}
 use Rattle.paper.specs.Sound.{All}
 use Rattle.paper.specs.Line.{symbol_limit, line_fault, unless_fault, read_line}
-use Rattle.line.specs.declared.Line.TheVariants.{Sound, Refused}
 use Rattle.tables.specs.Layout.{arity_in}
 use Rattle.tables.specs.Tables.{Operators}
-use Rattle.line.specs.Line.{fault, by_fault, judgement, verdict}
+use Rattle.line.specs.Line.{fault, judgement, verdict}
 
 -- the check of the line l from byte i on, by cases
 module _ (n : ℕ) (arity : ℕ → ℕ) (l : List ℕ) (i : ℕ) where
@@ -60,17 +59,13 @@ fault_known_all n arity (suc due) (o ∷ os) e = go (ltb o n) refl (λ d. fault_
     go true t rest f = (ltb-true o n t, rest (arity o + due) f)
     go false t rest f = let z : ◌≡◌ {A = ℕ} 0 1 = cc in absurd (omega arith)
 
-pub sound_known : (n : ℕ) (arity : ℕ → ℕ) (line : List ℕ) → judgement n arity line ≡ Sound → All (λ o. o < n) line × (length line ≤ 1024)
+pub sound_known : (n : ℕ) (arity : ℕ → ℕ) (line : List ℕ) → judgement n arity line ≡ none → All (λ o. o < n) line × (length line ≤ 1024)
 unfolding judgement
 sound_known n arity line e = go (ltb symbol_limit (length line)) refl e
   where
-    none_of : (f : Option ℕ) → by_fault f ≡ Sound → f ≡ none
-    none_of none h = refl
-    none_of (some r) h = let z : ◌≡◌ {A = ℕ} 0 1 = cc in absurd (omega arith)
-
-    go : (b : Bool) → ltb symbol_limit (length line) ≡ b → if b (Refused 12) (by_fault (fault n arity 1 line)) ≡ Sound → All (λ o. o < n) line × (length line ≤ 1024)
+    go : (b : Bool) → ltb symbol_limit (length line) ≡ b → if b (some 12) (fault n arity 1 line) ≡ none → All (λ o. o < n) line × (length line ≤ 1024)
     go true t h = let z : ◌≡◌ {A = ℕ} 0 1 = cc in absurd (omega arith)
-    go false t h = (fault_known_all n arity 1 line (none_of (fault n arity 1 line) h), ltb-false symbol_limit (length line) t)
+    go false t h = (fault_known_all n arity 1 line h, ltb-false symbol_limit (length line) t)
 
 module _ (B : Book) {n : ℕ} {operators : List ℕ} (count : length B.operators ≡ n) (t : Operators B.operators operators) where
   -- the paper's line_fault depends on the book only through the number of operators and their arities
@@ -88,7 +83,7 @@ module _ (B : Book) {n : ℕ} {operators : List ℕ} (count : length B.operators
           (ap (λ (k : ℕ). fault n (arity_in operators) (k + due) os) (t.each o (let l = ltb-true o n e in omega arith)).arity_is ∙ rest (arity B o + due))
       go false e rest = rw (count, e, fault, line_fault)
 
-  fault_verdict : (f : Option ℕ) (x : Term) → by_fault f ≡ verdict (unless_fault f x)
+  fault_verdict : (f : Option ℕ) (x : Term) → f ≡ verdict (unless_fault f x)
   unfolding unless_fault
   fault_verdict none x = refl
   fault_verdict (some r) x = refl
@@ -101,18 +96,18 @@ module _ (B : Book) {n : ℕ} {operators : List ℕ} (count : length B.operators
     where
       go : (b : Bool) → ltb symbol_limit (length (o ∷ os)) ≡ b → judgement n (arity_in operators) (o ∷ os) ≡ verdict (read_line B (o ∷ os))
       go true e = rw e
-      go false e = rw e (ap by_fault (fault_paper 1 (o ∷ os)) ∙ fault_verdict (line_fault B 1 (o ∷ os)) (node o (trees (arity B) os)))
+      go false e = rw e (fault_paper 1 (o ∷ os) ∙ fault_verdict (line_fault B 1 (o ∷ os)) (node o (trees (arity B) os)))
 
-  pub sound_accepted : (line : List ℕ) → judgement n (arity_in operators) line ≡ Sound → (x : Term) × (read_line B line ≡ accepted x)
+  pub sound_accepted : (line : List ℕ) → judgement n (arity_in operators) line ≡ none → (x : Term) × (read_line B line ≡ accepted x)
   sound_accepted line e = go (read_line B line) refl (sym (judgement_paper line) ∙ e)
     where
-      go : (a : Result Term) → read_line B line ≡ a → verdict a ≡ Sound → (x : Term) × (read_line B line ≡ accepted x)
+      go : (a : Result Term) → read_line B line ≡ a → verdict a ≡ none → (x : Term) × (read_line B line ≡ accepted x)
       go (refused r) p q = let z : ◌≡◌ {A = ℕ} 0 1 = cc in absurd (omega arith)
       go (accepted x) p q = (x, p)
 
-  pub refused_refused : (line : List ℕ) (r : ℕ) → judgement n (arity_in operators) line ≡ Refused r → read_line B line ≡ refused r
+  pub refused_refused : (line : List ℕ) (r : ℕ) → judgement n (arity_in operators) line ≡ some r → read_line B line ≡ refused r
   refused_refused line r e = go (read_line B line) refl (sym (judgement_paper line) ∙ e)
     where
-      go : (a : Result Term) → read_line B line ≡ a → verdict a ≡ Refused r → read_line B line ≡ refused r
+      go : (a : Result Term) → read_line B line ≡ a → verdict a ≡ some r → read_line B line ≡ refused r
       go (refused s) p q = let z : s ≡ r = cc in p ∙ ap refused z
       go (accepted x) p q = let z : ◌≡◌ {A = ℕ} 0 1 = cc in absurd (omega arith)

@@ -14,12 +14,14 @@ use Rattle.paper.proofs.Bytes.{bits_below}
 use Rattle.paper.proofs.Rules.{then_is}
 use Rattle.paper.proofs.Trees.{preorders_trees}
 use Rattle.side.specs.Promises.{bits_at, SymbolAt, check, StepAt, RestAt, LeftSideAt, RightSideAt, RuleAt}
-use Rattle.side.specs.declared.Symbol as Sy
-use Rattle.side.specs.declared.Taking as Ta
+use Rattle.std.specs.Prelude.{Ok, Err}
+use Rattle.std.specs.Prelude.{Result as Answer}
+use Rattle.refusal.specs.declared.Refusal.{Refusal}
+use Rattle.refusal.specs.Numbers as N
+use Rattle.side.specs.declared.Standing as Sd
 use Rattle.side.specs.declared.Taken.{Taken}
 use Rattle.side.specs.declared.SideEnd.{SideEnd}
-use Rattle.side.specs.declared.Side as Si
-use Rattle.side.specs.declared.Rule as Ru
+use Rattle.side.specs.declared.RuleEnd.{RuleEnd}
 use Rattle.side.proofs.Consumed.{left_consumed, right_consumed}
 use Rattle.side.proofs.Mask.{masks_none, has_append}
 use Rattle.side.proofs.Symbols.{then_refused}
@@ -58,7 +60,7 @@ has_behind v s ss vs on e =
 
 module _ (bytes : List ℕ) (at n : ℕ) (operators : List ℕ) (mask : ℕ) (left : Bool) where
   -- no term is due
-  pub rest_done : (due room : ℕ) → due ≡ 0 → RestAt bytes at n operators mask left due room (Si.Side.Read (record { met = mask; next = at }))
+  pub rest_done : (due room : ℕ) → due ≡ 0 → RestAt bytes at n operators mask left due room (Ok (record { met = mask; next = at }))
   unfolding read_symbols variables return
   rest_done due room z = record { is = λ ops t vs h. ([], rw z (go ops room vs), h) }
     where
@@ -67,28 +69,28 @@ module _ (bytes : List ℕ) (at n : ℕ) (operators : List ℕ) (mask : ℕ) (le
       go ops (suc room) vs = refl
 
   -- terms are due, and no symbol may follow
-  pub rest_full : (due room : ℕ) → (due ≡ 0 → ⊥) → room ≡ 0 → RestAt bytes at n operators mask left due room (Si.Side.Refused 8)
+  pub rest_full : (due room : ℕ) → (due ≡ 0 → ⊥) → room ≡ 0 → RestAt bytes at n operators mask left due room (Err Refusal.SideTooLong)
   unfolding read_symbols
   rest_full zero room d z = absurd (d refl)
   rest_full (suc due) room d z = record { is = λ ops t vs h. rw z }
 
   -- a symbol is refused
-  pub rest_refused : (due room k : ℕ) → (due ≡ 0 → ⊥) → 0 < room → StepAt bytes at n operators mask left (Ta.Taking.Refused k) →
-      RestAt bytes at n operators mask left due room (Si.Side.Refused k)
+  pub rest_refused : (due room : ℕ) (k : Refusal) → (due ≡ 0 → ⊥) → 0 < room → StepAt bytes at n operators mask left (Err k) →
+      RestAt bytes at n operators mask left due room (Err k)
   unfolding read_symbols
   rest_refused zero room k d l s = absurd (d refl)
   rest_refused (suc due) zero k d l s = absurd (omega arith)
-  rest_refused (suc due) (suc room) k d l s = record { is = λ ops t vs h. refused_on (read_symbol ops (bits_at bytes at)) _ _ k (s.is ops t vs h) }
+  rest_refused (suc due) (suc room) k d l s = record { is = λ ops t vs h. refused_on (read_symbol ops (bits_at bytes at)) _ _ (N.number k) (s.is ops t vs h) }
 
-  turn_taken : (due room due' : ℕ) (y : Taken) (r : Si.Side) → StepAt bytes at n operators mask left (Ta.Taking.Took y) → due' ≡ due + y.arity →
+  turn_taken : (due room due' : ℕ) (y : Taken) (r : Answer SideEnd Refusal) → StepAt bytes at n operators mask left (Ok y) → due' ≡ due + y.arity →
       RestAt bytes y.next n operators y.met left due' room r → RestAt bytes at n operators mask left (suc due) (suc room) r
   unfolding return then
-  turn_taken due room due' y (Si.Side.Refused k) s e q = record {
+  turn_taken due room due' y (Err k) s e q = record {
     is = λ ops t vs h.
         let (x, p, g, w) = s.is ops t vs h in
-        turn ops (check left) vs _ _ x w.on room due due' p (w.is _) (omega arith) ∙ then_refused _ _ k (q.is ops t w.on w.masks);
+        turn ops (check left) vs _ _ x w.on room due due' p (w.is _) (omega arith) ∙ then_refused _ _ (N.number k) (q.is ops t w.on w.masks);
   }
-  turn_taken due room due' y (Si.Side.Read z) s e q = record {
+  turn_taken due room due' y (Ok z) s e q = record {
     is = λ ops t vs h.
         let (x, p, g, w) = s.is ops t vs h in
         let (ss, i, k) = q.is ops t w.on w.masks in (
@@ -99,8 +101,8 @@ module _ (bytes : List ℕ) (at n : ℕ) (operators : List ℕ) (mask : ℕ) (le
   }
 
   -- a symbol is taken: what answers for those behind it answers for all
-  pub rest_took : (due room due' room' : ℕ) (y : Taken) (r : Si.Side) → (due ≡ 0 → ⊥) → 0 < room →
-      StepAt bytes at n operators mask left (Ta.Taking.Took y) → due' ≡ due - 1 + y.arity → room' ≡ room - 1 →
+  pub rest_took : (due room due' room' : ℕ) (y : Taken) (r : Answer SideEnd Refusal) → (due ≡ 0 → ⊥) → 0 < room →
+      StepAt bytes at n operators mask left (Ok y) → due' ≡ due - 1 + y.arity → room' ≡ room - 1 →
       RestAt bytes y.next n operators y.met left due' room' r → RestAt bytes at n operators mask left due room r
   rest_took zero room due' room' y r d l s e f q = absurd (d refl)
   rest_took (suc due) zero due' room' y r d l s e f q = absurd (omega arith)
@@ -111,22 +113,22 @@ module _ (bytes : List ℕ) (at n : ℕ) (operators : List ℕ) (mask : ℕ) (le
 -- Left sides
 
 module _ (bytes : List ℕ) (at n : ℕ) (operators : List ℕ) where
-  pub left_refused : (k : ℕ) → SymbolAt bytes at n (Sy.Symbol.Refused k) → LeftSideAt bytes at n operators (Si.Side.Refused k)
+  pub left_refused : (k : Refusal) → SymbolAt bytes at n (Err k) → LeftSideAt bytes at n operators (Err k)
   unfolding read_side
-  left_refused k s = record { is = λ ops t. then_refused _ _ k (sym (s.is ops t.count)) }
+  left_refused k s = record { is = λ ops t. then_refused _ _ (N.number k) (sym (s.is ops t.count)) }
 
-  pub left_variable : (v next : ℕ) → SymbolAt bytes at n (Sy.Symbol.Variable v next) → LeftSideAt bytes at n operators (Si.Side.Refused 5)
+  pub left_variable : (v next : ℕ) → SymbolAt bytes at n (Ok (Sd.Standing.Variable v next)) → LeftSideAt bytes at n operators (Err Refusal.LeftSideIsVariable)
   unfolding read_side left_root
   left_variable v next s = record { is = λ ops t. then_is _ _ _ _ (sym (s.is ops t.count)) refl }
 
-  module _ (o p a : ℕ) (s : SymbolAt bytes at n (Sy.Symbol.Operator o p)) (e : a ≡ arity_in operators o) where
-    pub left_rest : (r : Si.Side) → RestAt bytes p n operators 0 true a 63 r → LeftSideAt bytes at n operators r
+  module _ (o p a : ℕ) (s : SymbolAt bytes at n (Ok (Sd.Standing.Operator o p))) (e : a ≡ arity_in operators o) where
+    pub left_rest : (r : Answer SideEnd Refusal) → RestAt bytes p n operators 0 true a 63 r → LeftSideAt bytes at n operators r
     unfolding read_side left_root return preorder variables
-    left_rest (Si.Side.Refused k) q = record {
+    left_rest (Err k) q = record {
       is = λ ops t.
-          then_is _ _ _ _ (sym (s.is ops t.count)) (then_refused _ _ k (rw (e ∙ t.says o s.small) at (q.is ops t [] masks_none)));
+          then_is _ _ _ _ (sym (s.is ops t.count)) (then_refused _ _ (N.number k) (rw (e ∙ t.says o s.small) at (q.is ops t [] masks_none)));
     }
-    left_rest (Si.Side.Read z) q = record {
+    left_rest (Ok z) q = record {
       is = λ ops t.
           let (ss, i, k) = q.is ops t [] masks_none in (
             node (B.Symbol.operator o) (trees (symbol_arity ops) ss),
@@ -160,10 +162,10 @@ side_symbols ops meet vs xs =
     (then_map (read_symbols ops meet 63 (symbol_arity ops s.value) ws.value ws.left) _ _ _ λ (ss : Read (List B.Symbol)). refl)
 
 module _ (bytes : List ℕ) (at n : ℕ) (operators : List ℕ) (mask : ℕ) where
-  pub right_is : (r : Si.Side) → RestAt bytes at n operators mask false 1 64 r → RightSideAt bytes at n operators mask r
+  pub right_is : (r : Answer SideEnd Refusal) → RestAt bytes at n operators mask false 1 64 r → RightSideAt bytes at n operators mask r
   unfolding return
-  right_is (Si.Side.Refused k) q = record { is = λ ops t vs h. side_symbols ops right_symbol vs (bits_at bytes at) ∙ then_refused _ _ k (q.is ops t vs h) }
-  right_is (Si.Side.Read z) q = record {
+  right_is (Err k) q = record { is = λ ops t vs h. side_symbols ops right_symbol vs (bits_at bytes at) ∙ then_refused _ _ (N.number k) (q.is ops t vs h) }
+  right_is (Ok z) q = record {
     is = λ ops t vs h.
         let (ss, i, k) = q.is ops t vs h in
         (side_of ops ss, side_symbols ops right_symbol vs (bits_at bytes at) ∙ then_is _ _ _ _ i refl);
@@ -172,21 +174,21 @@ module _ (bytes : List ℕ) (at n : ℕ) (operators : List ℕ) (mask : ℕ) whe
 -- Rules
 
 module _ (bytes : List ℕ) (at n : ℕ) (operators : List ℕ) where
-  pub rule_left_refused : (k : ℕ) → LeftSideAt bytes at n operators (Si.Side.Refused k) → RuleAt bytes at n operators (Ru.Rule.Refused k)
+  pub rule_left_refused : (k : Refusal) → LeftSideAt bytes at n operators (Err k) → RuleAt bytes at n operators (Err k)
   unfolding read_rule
-  rule_left_refused k l = record { is = λ ops t. then_refused _ _ k (l.is ops t) }
+  rule_left_refused k l = record { is = λ ops t. then_refused _ _ (N.number k) (l.is ops t) }
 
-  module _ (y : SideEnd) (l : LeftSideAt bytes at n operators (Si.Side.Read y)) where
-    pub rule_right_refused : (k : ℕ) → RightSideAt bytes y.next n operators y.met (Si.Side.Refused k) → RuleAt bytes at n operators (Ru.Rule.Refused k)
+  module _ (y : SideEnd) (l : LeftSideAt bytes at n operators (Ok y)) where
+    pub rule_right_refused : (k : Refusal) → RightSideAt bytes y.next n operators y.met (Err k) → RuleAt bytes at n operators (Err k)
     unfolding read_rule
     rule_right_refused k r = record {
       is = λ ops t.
           let (left, i, m) = l.is ops t in
-          then_is _ _ _ _ i (then_refused _ _ k (r.is ops t _ m));
+          then_is _ _ _ _ i (then_refused _ _ (N.number k) (r.is ops t _ m));
     }
 
-    pub rule_read : (z : SideEnd) → RightSideAt bytes y.next n operators y.met (Si.Side.Read z) →
-        RuleAt bytes at n operators (Ru.Rule.Read (record { right = y.next; next = z.next }))
+    pub rule_read : (z : SideEnd) → RightSideAt bytes y.next n operators y.met (Ok z) →
+        RuleAt bytes at n operators (Ok (record { right = y.next; next = z.next }))
     unfolding read_rule return
     rule_read z r = record {
       is = λ ops t.

@@ -14,8 +14,12 @@ use Rattle.bits.proofs.Reading.{answers_out, ran_out}
 use Rattle.tables.specs.Layout.{arity_in}
 use Rattle.side.specs.Mask.{bit, Masks}
 use Rattle.side.specs.Promises.{bits_at, SymbolAt, Meets, MetAt, StepAt}
-use Rattle.side.specs.declared.Symbol as Sy
-use Rattle.side.specs.declared.Taking as Ta
+use Rattle.std.specs.Prelude.{Ok, Err}
+use Rattle.std.specs.Prelude.{Result as Answer}
+use Rattle.refusal.specs.declared.Refusal.{Refusal}
+use Rattle.refusal.specs.Numbers as N
+use Rattle.side.specs.declared.Standing as Sd
+use Rattle.side.specs.declared.Taken.{Taken}
 use Rattle.side.proofs.Mask.{bit_clear, masks_with, has_known}
 
 pub then_refused : {A C : Type 0} (x : Result A) (k : A → Result C) (n : ℕ) → x ≡ refused n → then x k ≡ refused n
@@ -40,7 +44,7 @@ module _ (bytes : List ℕ) (at n w : ℕ) (N : Nine bytes at w) where
   ]
 
   module _ (l : w < 256) where
-    pub operator_short : 8 * length bytes - at < 9 → SymbolAt bytes at n (Sy.Symbol.Refused 1)
+    pub operator_short : 8 * length bytes - at < 9 → SymbolAt bytes at n (Err Refusal.BookRunsOut)
     unfolding read_symbol return
     operator_short h =
         let z : w / 256 ≡ 0 = omega arith in
@@ -54,14 +58,14 @@ module _ (bytes : List ℕ) (at n w : ℕ) (N : Nine bytes at w) where
           ∙ append_assoc (to_bits 1 0) (to_bits 8 w) (bits_at bytes (at + 9)))
           ∙ field_to_bits 1 0 (to_bits 8 w ++ bits_at bytes (at + 9)) (omega arith)
 
-      pub operator_unknown : n ≤ w → SymbolAt bytes at n (Sy.Symbol.Refused 4)
+      pub operator_unknown : n ≤ w → SymbolAt bytes at n (Err Refusal.UnknownOperatorInRule)
       unfolding read_symbol return
       operator_unknown k = record {
         is = λ ops e. sym (rw (operator_kind, field_to_bits 8 w (bits_at bytes (at + 9)) (omega arith), ltb_false w (length ops) (omega arith)));
         small = tt;
       }
 
-      pub operator_known : (o next : ℕ) → w < n → o ≡ w → next ≡ at + 9 → SymbolAt bytes at n (Sy.Symbol.Operator o next)
+      pub operator_known : (o next : ℕ) → w < n → o ≡ w → next ≡ at + 9 → SymbolAt bytes at n (Ok (Sd.Standing.Operator o next))
       unfolding read_symbol return
       operator_known o next k p q = rw (p, q) (record {
         is = λ ops e. sym (rw (operator_kind, field_to_bits 8 w (bits_at bytes (at + 9)) (omega arith), ltb_true w (length ops) (omega arith)));
@@ -72,7 +76,7 @@ module _ (bytes : List ℕ) (at n w : ℕ) (N : Nine bytes at w) where
     abbrev number : ℕ
     number = w / 16 % 16
 
-    pub variable_short : 8 * length bytes - at < 5 → SymbolAt bytes at n (Sy.Symbol.Refused 1)
+    pub variable_short : 8 * length bytes - at < 5 → SymbolAt bytes at n (Err Refusal.BookRunsOut)
     unfolding read_symbol return
     variable_short h =
         let z : w / 256 ≡ 1 = omega (arith, N.small) in
@@ -86,7 +90,7 @@ module _ (bytes : List ℕ) (at n w : ℕ) (N : Nine bytes at w) where
           ∙ append_assoc (to_bits 1 1) (to_bits 4 number) (bits_at bytes (at + 5)))
           ∙ field_to_bits 1 1 (to_bits 4 number ++ bits_at bytes (at + 5)) (omega arith)
 
-      pub variable_known : (v next : ℕ) → v ≡ number → next ≡ at + 5 → SymbolAt bytes at n (Sy.Symbol.Variable v next)
+      pub variable_known : (v next : ℕ) → v ≡ number → next ≡ at + 5 → SymbolAt bytes at n (Ok (Sd.Standing.Variable v next))
       unfolding read_symbol return
       variable_known v next p q = rw (p, q) (record {
         is = λ ops e. sym (rw (variable_kind, field_to_bits 4 number (bits_at bytes (at + 5)) (omega arith)));
@@ -96,19 +100,19 @@ module _ (bytes : List ℕ) (at n w : ℕ) (N : Nine bytes at w) where
 -- Checking one
 
 module _ (mask v next : ℕ) where
-  pub met_known : (left : Bool) → eqb (bit v mask) 1 ≡ true → MetAt mask v left next (Ta.Taking.Took (record { arity = 0; met = mask; next = next }))
+  pub met_known : (left : Bool) → eqb (bit v mask) 1 ≡ true → MetAt mask v left next (Ok (record { arity = 0; met = mask; next = next }))
   unfolding left_symbol right_symbol variable_of
   met_known true e =
       (refl, refl, λ vs h. record { on = v ∷ vs; is = λ xs. refl; same = λ u. refl; masks = λ u. sym (has_known v vs (h v ∙ e) u) ∙ h u })
   met_known false e =
       (refl, refl, λ vs h. record { on = vs; is = λ xs. rw (h v ∙ e); same = has_known v vs (h v ∙ e); masks = h })
 
-  pub met_new : (m : ℕ) → eqb (bit v mask) 1 ≡ false → m ≡ mask + 2 ^ v → MetAt mask v true next (Ta.Taking.Took (record { arity = 0; met = m; next = next }))
+  pub met_new : (m : ℕ) → eqb (bit v mask) 1 ≡ false → m ≡ mask + 2 ^ v → MetAt mask v true next (Ok (record { arity = 0; met = m; next = next }))
   unfolding left_symbol variable_of
   met_new m e f =
       (refl, refl, λ vs h. record { on = v ∷ vs; is = λ xs. refl; same = λ u. refl; masks = rw f (masks_with mask v vs (bit_clear v mask e) h) })
 
-  pub met_unknown : eqb (bit v mask) 1 ≡ false → MetAt mask v false next (Ta.Taking.Refused 7)
+  pub met_unknown : eqb (bit v mask) 1 ≡ false → MetAt mask v false next (Err Refusal.RightSideAddsVariable)
   unfolding right_symbol refuse
   met_unknown e vs h xs = rw (h v ∙ e)
 
@@ -120,12 +124,12 @@ operator_meets true vs o m h = record { on = vs; is = λ xs. refl; same = λ v. 
 operator_meets false vs o m h = record { on = vs; is = λ xs. refl; same = λ v. refl; masks = h }
 
 module _ (bytes : List ℕ) (at n : ℕ) (operators : List ℕ) (mask : ℕ) (left : Bool) where
-  pub step_refused : (k : ℕ) → SymbolAt bytes at n (Sy.Symbol.Refused k) → StepAt bytes at n operators mask left (Ta.Taking.Refused k)
+  pub step_refused : (k : Refusal) → SymbolAt bytes at n (Err k) → StepAt bytes at n operators mask left (Err k)
   unfolding ◌>>=◌
-  step_refused k s = record { is = λ ops t vs h. then_refused _ _ k (sym (s.is ops t.count)); small = tt }
+  step_refused k s = record { is = λ ops t vs h. then_refused _ _ (N.number k) (sym (s.is ops t.count)); small = tt }
 
-  pub step_operator : (o next a : ℕ) → SymbolAt bytes at n (Sy.Symbol.Operator o next) → a ≡ arity_in operators o → a < 256 →
-      StepAt bytes at n operators mask left (Ta.Taking.Took (record { arity = a; met = mask; next = next }))
+  pub step_operator : (o next a : ℕ) → SymbolAt bytes at n (Ok (Sd.Standing.Operator o next)) → a ≡ arity_in operators o → a < 256 →
+      StepAt bytes at n operators mask left (Ok (record { arity = a; met = mask; next = next }))
   unfolding return
   step_operator o next a s e l =
       record {
@@ -133,12 +137,12 @@ module _ (bytes : List ℕ) (at n : ℕ) (operators : List ℕ) (mask : ℕ) (le
         small = l;
       }
 
-  pub step_variable : (v next : ℕ) (r : Ta.Taking) → SymbolAt bytes at n (Sy.Symbol.Variable v next) → MetAt mask v left next r →
+  pub step_variable : (v next : ℕ) (r : Answer Taken Refusal) → SymbolAt bytes at n (Ok (Sd.Standing.Variable v next)) → MetAt mask v left next r →
       StepAt bytes at n operators mask left r
   unfolding ◌>>=◌ return then
-  step_variable v next (Ta.Taking.Took t) s (z, e, f) =
+  step_variable v next (Ok t) s (z, e, f) =
       record {
         is = λ ops a vs h. (B.Symbol.variable v, rw e (sym (s.is ops a.count)), z, f vs h);
         small = omega arith;
       }
-  step_variable v next (Ta.Taking.Refused k) s f = record { is = λ ops t vs h. rw (sym (s.is ops t.count)) (f vs h (bits_at bytes next)); small = tt }
+  step_variable v next (Err k) s f = record { is = λ ops t vs h. rw (sym (s.is ops t.count)) (f vs h (bits_at bytes next)); small = tt }

@@ -1,5 +1,5 @@
 -- What the answers mean, in the paper's terms: a position stands for the book's bits from there on. Promises of functions inside. Assumes nothing.
-use Rattle.std.specs.Prelude.{◌≡◌, ℕ, ◌<◌, Bool, true, false, List, ◌++◌, length, drop}
+use Rattle.std.specs.Prelude.{Ok, Err, ◌≡◌, ℕ, ◌<◌, Bool, true, false, List, ◌++◌, length, drop}
 use Rattle.paper.specs.Result.{Result, refused, accepted, Read, Reader, return, ◌>>=◌}
 use Rattle.paper.specs.Bits.{bits_of}
 use Rattle.paper.specs.Tree.{preorder}
@@ -10,11 +10,12 @@ use Rattle.paper.specs.Reader.{read_symbol, read_symbols, read_side, left_root, 
 use Rattle.paper.specs.Writer.{write_symbol, write_side}
 use Rattle.tables.specs.Layout.{arity_in}
 use Rattle.side.specs.Mask.{Masks}
-use Rattle.side.specs.declared.Symbol as Sy
+use Rattle.std.specs.Prelude.{Result as Answer}
+use Rattle.refusal.specs.declared.Refusal.{Refusal}
+use Rattle.refusal.specs.Numbers.{number}
 use Rattle.side.specs.declared.Standing as Sd
-use Rattle.side.specs.declared.Taking as Ta
-use Rattle.side.specs.declared.Side as Si
-use Rattle.side.specs.declared.Rule as Ru
+use Rattle.side.specs.declared.Taken.{Taken}
+use Rattle.side.specs.declared.SideEnd.{SideEnd}
 use Rattle.side.specs.declared.RuleEnd.{RuleEnd}
 
 -- the table holds the arities of n operators
@@ -28,18 +29,18 @@ bits_at bytes at = drop at (bits_of bytes)
 -- SYMBOLS
 
 -- an answer as the paper's reader gives it
-abbrev pub symbol : List ℕ → Sy.Symbol → Result (Read B.Symbol)
-symbol bytes (Sy.Symbol.Operator o next) = accepted (record { value = B.Symbol.operator o; left = bits_at bytes next })
-symbol bytes (Sy.Symbol.Variable v next) = accepted (record { value = B.Symbol.variable v; left = bits_at bytes next })
-symbol bytes (Sy.Symbol.Refused k) = refused k
+abbrev pub symbol : List ℕ → Answer Sd.Standing Refusal → Result (Read B.Symbol)
+symbol bytes (Ok (Sd.Standing.Operator o next)) = accepted (record { value = B.Symbol.operator o; left = bits_at bytes next })
+symbol bytes (Ok (Sd.Standing.Variable v next)) = accepted (record { value = B.Symbol.variable v; left = bits_at bytes next })
+symbol bytes (Err k) = refused (number k)
 
 -- an operator is one of n, a variable one of 16
-abbrev pub NumberBelow : ℕ → Sy.Symbol → Type 0
-NumberBelow n (Sy.Symbol.Operator o next) = o < n
-NumberBelow n (Sy.Symbol.Variable v next) = v < 16
-NumberBelow n (Sy.Symbol.Refused k) = Unit
+abbrev pub NumberBelow : ℕ → Answer Sd.Standing Refusal → Type 0
+NumberBelow n (Ok (Sd.Standing.Operator o next)) = o < n
+NumberBelow n (Ok (Sd.Standing.Variable v next)) = v < 16
+NumberBelow n (Err k) = Unit
 
-pub record SymbolAt (bytes : List ℕ) (at n : ℕ) (r : Sy.Symbol) : Type 0 where
+pub record SymbolAt (bytes : List ℕ) (at n : ℕ) (r : Answer Sd.Standing Refusal) : Type 0 where
   pub is : (ops : List Operator) → length ops ≡ n → symbol bytes r ≡ read_symbol ops (bits_at bytes at)
   pub small : NumberBelow n r
 
@@ -77,53 +78,53 @@ pub record Meets (left : Bool) (vs : List ℕ) (s : B.Symbol) (m : ℕ) : Type 0
   pub masks : Masks m on
 
 -- r answers for the variable v, behind which the position next is, where those of mask were met
-abbrev pub MetAt : ℕ → ℕ → Bool → ℕ → Ta.Taking → Type 0
-MetAt mask v left next (Ta.Taking.Took t) =
+abbrev pub MetAt : ℕ → ℕ → Bool → ℕ → Answer Taken Refusal → Type 0
+MetAt mask v left next (Ok t) =
     (t.arity ≡ 0) × (t.next ≡ next) × ((vs : List ℕ) → Masks mask vs → Meets left vs (B.Symbol.variable v) t.met)
-MetAt mask v left next (Ta.Taking.Refused k) = (vs : List ℕ) → Masks mask vs → (xs : List ℕ) → check left vs (B.Symbol.variable v) xs ≡ refused k
+MetAt mask v left next (Err k) = (vs : List ℕ) → Masks mask vs → (xs : List ℕ) → check left vs (B.Symbol.variable v) xs ≡ refused (number k)
 
 -- r answers for the symbol at a position, by the variables vs
-abbrev pub StepIs : List Operator → Bool → List ℕ → List ℕ → ℕ → Ta.Taking → Type 0
-StepIs ops left vs bytes at (Ta.Taking.Took t) =
+abbrev pub StepIs : List Operator → Bool → List ℕ → List ℕ → ℕ → Answer Taken Refusal → Type 0
+StepIs ops left vs bytes at (Ok t) =
     (s : B.Symbol) × (read_symbol ops (bits_at bytes at) ≡ return s (bits_at bytes t.next)) × (t.arity ≡ symbol_arity ops s) × Meets left vs s t.met
-StepIs ops left vs bytes at (Ta.Taking.Refused k) = (read_symbol ops >>= check left vs) (bits_at bytes at) ≡ refused k
+StepIs ops left vs bytes at (Err k) = (read_symbol ops >>= check left vs) (bits_at bytes at) ≡ refused (number k)
 
-abbrev pub ArityFits : Ta.Taking → Type 0
-ArityFits (Ta.Taking.Took t) = t.arity < 256
-ArityFits (Ta.Taking.Refused k) = Unit
+abbrev pub ArityFits : Answer Taken Refusal → Type 0
+ArityFits (Ok t) = t.arity < 256
+ArityFits (Err k) = Unit
 
-pub record StepAt (bytes : List ℕ) (at n : ℕ) (operators : List ℕ) (mask : ℕ) (left : Bool) (r : Ta.Taking) : Type 0 where
+pub record StepAt (bytes : List ℕ) (at n : ℕ) (operators : List ℕ) (mask : ℕ) (left : Bool) (r : Answer Taken Refusal) : Type 0 where
   pub is : (ops : List Operator) → AritiesIn ops n operators → (vs : List ℕ) → Masks mask vs → StepIs ops left vs bytes at r
   pub small : ArityFits r
 
 -- SIDES
 
 -- r answers for the rest of a side: due terms are to come in up to room symbols
-abbrev pub RestIs : List Operator → Bool → List ℕ → ℕ → ℕ → List ℕ → ℕ → Si.Side → Type 0
-RestIs ops left vs due room bytes at (Si.Side.Read s) =
+abbrev pub RestIs : List Operator → Bool → List ℕ → ℕ → ℕ → List ℕ → ℕ → Answer SideEnd Refusal → Type 0
+RestIs ops left vs due room bytes at (Ok s) =
     (ss : List B.Symbol) × (read_symbols ops (check left) room due vs (bits_at bytes at) ≡ return ss (bits_at bytes s.next))
     × Masks s.met (variables ss ++ vs)
-RestIs ops left vs due room bytes at (Si.Side.Refused k) = read_symbols ops (check left) room due vs (bits_at bytes at) ≡ refused k
+RestIs ops left vs due room bytes at (Err k) = read_symbols ops (check left) room due vs (bits_at bytes at) ≡ refused (number k)
 
-pub record RestAt (bytes : List ℕ) (at n : ℕ) (operators : List ℕ) (mask : ℕ) (left : Bool) (due room : ℕ) (r : Si.Side) : Type 0 where
+pub record RestAt (bytes : List ℕ) (at n : ℕ) (operators : List ℕ) (mask : ℕ) (left : Bool) (due room : ℕ) (r : Answer SideEnd Refusal) : Type 0 where
   pub is : (ops : List Operator) → AritiesIn ops n operators → (vs : List ℕ) → Masks mask vs → RestIs ops left vs due room bytes at r
 
 -- a left side, and the mask of its variables
-abbrev pub LeftIs : List Operator → List ℕ → ℕ → Si.Side → Type 0
-LeftIs ops bytes at (Si.Side.Read s) =
+abbrev pub LeftIs : List Operator → List ℕ → ℕ → Answer SideEnd Refusal → Type 0
+LeftIs ops bytes at (Ok s) =
     (side : B.Side) × (read_side ops left_root left_symbol (bits_at bytes at) ≡ return side (bits_at bytes s.next)) × Masks s.met (variables (preorder side))
-LeftIs ops bytes at (Si.Side.Refused k) = read_side ops left_root left_symbol (bits_at bytes at) ≡ refused k
+LeftIs ops bytes at (Err k) = read_side ops left_root left_symbol (bits_at bytes at) ≡ refused (number k)
 
-pub record LeftSideAt (bytes : List ℕ) (at n : ℕ) (operators : List ℕ) (r : Si.Side) : Type 0 where
+pub record LeftSideAt (bytes : List ℕ) (at n : ℕ) (operators : List ℕ) (r : Answer SideEnd Refusal) : Type 0 where
   pub is : (ops : List Operator) → AritiesIn ops n operators → LeftIs ops bytes at r
 
 -- a right side whose variables are among vs
-abbrev pub RightIs : List Operator → List ℕ → List ℕ → ℕ → Si.Side → Type 0
-RightIs ops vs bytes at (Si.Side.Read s) =
+abbrev pub RightIs : List Operator → List ℕ → List ℕ → ℕ → Answer SideEnd Refusal → Type 0
+RightIs ops vs bytes at (Ok s) =
     (side : B.Side) × (read_side ops (right_symbol vs) right_symbol (bits_at bytes at) ≡ return side (bits_at bytes s.next))
-RightIs ops vs bytes at (Si.Side.Refused k) = read_side ops (right_symbol vs) right_symbol (bits_at bytes at) ≡ refused k
+RightIs ops vs bytes at (Err k) = read_side ops (right_symbol vs) right_symbol (bits_at bytes at) ≡ refused (number k)
 
-pub record RightSideAt (bytes : List ℕ) (at n : ℕ) (operators : List ℕ) (mask : ℕ) (r : Si.Side) : Type 0 where
+pub record RightSideAt (bytes : List ℕ) (at n : ℕ) (operators : List ℕ) (mask : ℕ) (r : Answer SideEnd Refusal) : Type 0 where
   pub is : (ops : List Operator) → AritiesIn ops n operators → (vs : List ℕ) → Masks mask vs → RightIs ops vs bytes at r
 
 -- RULES
@@ -135,9 +136,9 @@ pub record RuleRead (ops : List Operator) (bytes : List ℕ) (at : ℕ) (e : Rul
   pub left_written : bits_at bytes at ≡ write_side rule.left ++ bits_at bytes e.right
   pub right_written : bits_at bytes e.right ≡ write_side rule.right ++ bits_at bytes e.next
 
-abbrev pub RuleIs : List Operator → List ℕ → ℕ → Ru.Rule → Type 0
-RuleIs ops bytes at (Ru.Rule.Read e) = RuleRead ops bytes at e
-RuleIs ops bytes at (Ru.Rule.Refused k) = read_rule ops (bits_at bytes at) ≡ refused k
+abbrev pub RuleIs : List Operator → List ℕ → ℕ → Answer RuleEnd Refusal → Type 0
+RuleIs ops bytes at (Ok e) = RuleRead ops bytes at e
+RuleIs ops bytes at (Err k) = read_rule ops (bits_at bytes at) ≡ refused (number k)
 
-pub record RuleAt (bytes : List ℕ) (at n : ℕ) (operators : List ℕ) (r : Ru.Rule) : Type 0 where
+pub record RuleAt (bytes : List ℕ) (at n : ℕ) (operators : List ℕ) (r : Answer RuleEnd Refusal) : Type 0 where
   pub is : (ops : List Operator) → AritiesIn ops n operators → RuleIs ops bytes at r

@@ -15,7 +15,8 @@ use Rattle.paper.specs.Writer.{write_symbol}
 use Rattle.paper.specs.Bits.{to_bits}
 use Rattle.paper.proofs.Tests.{either, eqb_cases, eqb_true, eqb_false}
 use Rattle.standing.specs.Promises.{named, Names, SymbolsAre, NamesCompared}
-use Rattle.standing.specs.declared.Step.{Step}
+use Rattle.std.specs.Prelude.{Option, Some, None}
+use Rattle.standing.specs.declared.Same.{Same}
 
 -- A VARIABLE AMONG THOSE MET
 
@@ -108,11 +109,11 @@ unfolding write_symbol to_bits
 variable_bits v = refl
 
 abbrev Compared : ℕ → List ℕ → ℕ → List ℕ → List ℕ → List ℕ → ℕ → Type 0
-Compared v vs w ws names others met = SymbolsAre vs (Symbol.variable v) ws (Symbol.variable w) names others (Step.Same 5 met)
+Compared v vs w ws names others met = SymbolsAre vs (Symbol.variable v) ws (Symbol.variable w) names others (Some (record { width = 5; met = met }))
 
 module _ {v w : ℕ} {names others : List ℕ} {met : ℕ} (l : v < 16) (m : w < 16) where
   -- their numbers differ
-  pub names_differ : get_or names v 0 ≢ get_or others w 0 → NamesCompared v w names others met names others Step.Differs
+  pub names_differ : get_or names v 0 ≢ get_or others w 0 → NamesCompared v w names others met names others None
   unfolding same_symbol
   names_differ d = record { is = λ vs ws a b. go vs ws a b (met_cases v vs) (met_cases w ws) }
     where
@@ -124,7 +125,7 @@ module _ {v w : ℕ} {names others : List ℕ} {met : ℕ} (l : v < 16) (m : w <
       go vs ws a b (new e p f h) (new e' p' f' h') = absurd (d (a.each v l ∙ e ∙ sym e' ∙ sym (b.each w m)))
 
   -- both were met, with one number
-  pub names_known : get_or names v 0 ≡ get_or others w 0 → get_or names v 0 ≢ 0 → NamesCompared v w names others met names others (Step.Same 5 met)
+  pub names_known : get_or names v 0 ≡ get_or others w 0 → get_or names v 0 ≢ 0 → NamesCompared v w names others met names others (Some (record { width = 5; met = met }))
   unfolding same_symbol
   names_known s d = record { is = λ vs ws a b. go vs ws a b (met_cases v vs) (met_cases w ws) }
     where
@@ -142,7 +143,7 @@ module _ {v w : ℕ} {names others : List ℕ} {met : ℕ} (l : v < 16) (m : w <
 
   -- both are new
   pub names_new : get_or names v 0 ≡ get_or others w 0 → get_or names v 0 ≡ 0 →
-      NamesCompared v w names others met (set names v (met + 1)) (set others w (met + 1)) (Step.Same 5 (met + 1))
+      NamesCompared v w names others met (set names v (met + 1)) (set others w (met + 1)) (Some (record { width = 5; met = met + 1 }))
   unfolding same_symbol
   names_new s z = record { is = λ vs ws a b. go vs ws a b (met_cases v vs) (met_cases w ws) }
     where

@@ -15,7 +15,8 @@ use Rattle.bits.proofs.Reading.{bits_left}
 use Rattle.side.specs.Promises.{bits_at, NumberFits}
 use Rattle.standing.specs.Keys.{size}
 use Rattle.standing.specs.Promises.{named, Names, numbered, met_by, SymbolsCompared, Spans}
-use Rattle.standing.specs.declared.Step.{Step}
+use Rattle.std.specs.Prelude.{Option, Some, None}
+use Rattle.standing.specs.declared.Same.{Same}
 use Rattle.standing.proofs.Keys.{size_none, size_cons, symbol_size, symbol_most, span_end, span_first, span_rest, behind}
 
 -- one symbol of each
@@ -139,14 +140,14 @@ module _ {bytes : List ℕ} {at end other : ℕ} {names others : List ℕ} {met 
       ),
     )
 
-    module _ {names' others' : List ℕ} {r : Step} (c : SymbolsCompared bytes at other names others met names' others' r) where
-      pub walk_stops : r ≡ Step.Differs → answer ≡ false
+    module _ {names' others' : List ℕ} {r : Option Same} (c : SymbolsCompared bytes at other names others met names' others' r) where
+      pub walk_stops : r ≡ None → answer ≡ false
       walk_stops e =
           let d = rw e at (c.is t.s t.u _ _ t.left.fits.0 t.fits.0 (span_first t.left) second_first w.vs w.ws w.names_are w.others_are) in
           sym t.same ∙ same_stops w.vs w.ws t.s t.u t.ss t.us d
 
-      pub walk_goes_on : {n met' : ℕ} → r ≡ Step.Same n met' → Walk bytes (at + n) end (other + n) names' others' met' answer × (n ≤ 9) × (0 < n)
-      walk_goes_on {n} {met'} e =
+      pub walk_goes_on : {q : Same} → r ≡ Some q → Walk bytes (at + q.width) end (other + q.width) names' others' q.met answer × (q.width ≤ 9) × (0 < q.width)
+      walk_goes_on {q} e =
           let (d, a, b, x, y) = rw e at (c.is t.s t.u _ _ t.left.fits.0 t.fits.0 (span_first t.left) second_first w.vs w.ws w.names_are w.others_are) in (
             record {
               ss = t.ss;
@@ -154,8 +155,8 @@ module _ {bytes : List ℕ} {at end other : ℕ} {names others : List ℕ} {met 
               vs = met_by w.vs t.s;
               ws = met_by w.ws t.u;
               rest = w.rest;
-              left = span_rest t.left (behind bytes at n t.s _ (span_first t.left) a);
-              right = behind bytes other n t.u _ second_first b;
+              left = span_rest t.left (behind bytes at q.width t.s _ (span_first t.left) a);
+              right = behind bytes other q.width t.u _ second_first b;
               fits = t.fits.1;
               sizes = omega (arith, t.sizes, size_cons t.s t.ss, size_cons t.u t.us);
               names_are = x;

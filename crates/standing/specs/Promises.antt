@@ -1,5 +1,5 @@
 -- What the functions ask and ensure, by the definitions of document 02, Change 5. Promises of functions inside. Assumes nothing.
-use Rattle.std.specs.Prelude.{true, false, List, [], ◌∷◌, ◌++◌, ◌≡◌, ℕ, suc, ◌-◌, ◌*◌, ◌<◌, length, get_or}
+use Rattle.std.specs.Prelude.{Option, Some, None, true, false, List, [], ◌∷◌, ◌++◌, ◌≡◌, ℕ, suc, ◌-◌, ◌*◌, ◌<◌, length, get_or}
 use Rattle.paper.specs.Result.{if, return}
 use Rattle.paper.specs.Bits.{field}
 use Rattle.paper.specs.Tree.{preorder}
@@ -14,7 +14,7 @@ use Rattle.tables.specs.Tables.{Sides}
 use Rattle.side.specs.Promises.{bits_at, NumberFits}
 use Rattle.standing.specs.Keys.{second, key}
 use Rattle.standing.specs.Dates.{left_at, rules_of}
-use Rattle.standing.specs.declared.Step as S
+use Rattle.standing.specs.declared.Same.{Same}
 
 -- NAMES
 
@@ -40,19 +40,19 @@ abbrev pub met_by : List ℕ → Symbol → List ℕ
 met_by vs (Symbol.operator o) = vs
 met_by vs (Symbol.variable v) = meeting v vs
 
--- s where vs were met, and u where ws were: numbered, they are the same, take n bits, and the arrays hold who is met behind them; or they differ
-abbrev pub SymbolsAre : List ℕ → Symbol → List ℕ → Symbol → List ℕ → List ℕ → S.Step → Type 0
-SymbolsAre vs s ws u names others (S.Step.Same n met) =
-    (same_symbol (numbered vs s) (numbered ws u) ≡ true) × (length (write_symbol s) ≡ n) × (length (write_symbol u) ≡ n)
-    × Names names (met_by vs s) met × Names others (met_by ws u) met
-SymbolsAre vs s ws u names others S.Step.Differs = same_symbol (numbered vs s) (numbered ws u) ≡ false
+-- s where vs were met, and u where ws were: numbered, they are the same, take as many bits, and the arrays hold who is met behind them; or they differ
+abbrev pub SymbolsAre : List ℕ → Symbol → List ℕ → Symbol → List ℕ → List ℕ → Option Same → Type 0
+SymbolsAre vs s ws u names others (Some r) =
+    (same_symbol (numbered vs s) (numbered ws u) ≡ true) × (length (write_symbol s) ≡ r.width) × (length (write_symbol u) ≡ r.width)
+    × Names names (met_by vs s) r.met × Names others (met_by ws u) r.met
+SymbolsAre vs s ws u names others None = same_symbol (numbered vs s) (numbered ws u) ≡ false
 
 -- r answers for two variables
-pub record NamesCompared (v w : ℕ) (names others : List ℕ) (met : ℕ) (names' others' : List ℕ) (r : S.Step) : Type 0 where
+pub record NamesCompared (v w : ℕ) (names others : List ℕ) (met : ℕ) (names' others' : List ℕ) (r : Option Same) : Type 0 where
   pub is : (vs ws : List ℕ) → Names names vs met → Names others ws met → SymbolsAre vs (Symbol.variable v) ws (Symbol.variable w) names' others' r
 
 -- r answers for the symbols at two positions
-pub record SymbolsCompared (bytes : List ℕ) (at other : ℕ) (names others : List ℕ) (met : ℕ) (names' others' : List ℕ) (r : S.Step) : Type 0 where
+pub record SymbolsCompared (bytes : List ℕ) (at other : ℕ) (names others : List ℕ) (met : ℕ) (names' others' : List ℕ) (r : Option Same) : Type 0 where
   pub is : (s u : Symbol) (ys zs : List ℕ) → NumberFits s → NumberFits u → bits_at bytes at ≡ write_symbol s ++ ys → bits_at bytes other ≡ write_symbol u ++ zs →
       (vs ws : List ℕ) → Names names vs met → Names others ws met → SymbolsAre vs s ws u names' others' r
 

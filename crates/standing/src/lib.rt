@@ -12,18 +12,17 @@ ghost use Rattle.standing.specs.Keys.{key};
 ghost use Rattle.standing.specs.Dates.{dated_at, left_at, rules_of, AllDated};
 ghost use Rattle.standing.specs.Promises.{NamesCompared, SymbolsCompared, SecondOf, KeyOf, KeysIn, DayBefore, Kept};
 
-use bits::Bits;
 use side::Standing;
 
 // Two symbols, one of each side, that are the same but for names: how many bits each takes, and how many variables are met behind them.
-#[derive(Drop)]
-enum Step {
-    Same(usize, u8),
-    Differs,
+#[derive(Clone, Copy, Debug, PartialEq, Eq)]
+struct Same {
+    width: usize,
+    met: u8,
 }
 
 // The variables v and w, met where met ones were: both new, or both of one number. The arrays have the number of each, plus 1.
-fn same_name(v: u8, w: u8, names: &mut [u8; 16], others: &mut [u8; 16], met: u8) -> Step
+fn same_name(v: u8, w: u8, names: &mut [u8; 16], others: &mut [u8; 16], met: u8) -> Option<Same>
     requires { (v < 16) × (w < 16) × (met < 255) }
     ensures { NamesCompared v w names.old others.old met names.new others.new result }
 {
@@ -31,14 +30,17 @@ fn same_name(v: u8, w: u8, names: &mut [u8; 16], others: &mut [u8; 16], met: u8)
     let y = casts::index(w);
     let a = names[x];
     if a != others[y] {
-        return Step::Differs;
+        return None;
     }
     if a != 0 {
-        return Step::Same(5, met);
+        return Some(Same { width: 5, met });
     }
     names[x] = met + 1;
     others[y] = met + 1;
-    Step::Same(5, met + 1)
+    Some(Same {
+        width: 5,
+        met: met + 1,
+    })
 }
 
 // The variable of nine bits that begin with one.
@@ -56,7 +58,7 @@ fn compare(
     names: &mut [u8; 16],
     others: &mut [u8; 16],
     met: u8,
-) -> Step
+) -> Option<Same>
     requires { (length book.now ≤ 65536) × (at < 2 ^ 32) × (other < 2 ^ 32) × (met < 255) }
     ensures { SymbolsCompared book.now at other names.old others.old met names.new others.new result }
 {
@@ -64,12 +66,12 @@ fn compare(
     let u = bits::nine(book, other);
     if s < 256 {
         if s == u {
-            return Step::Same(9, met);
+            return Some(Same { width: 9, met });
         }
-        return Step::Differs;
+        return None;
     }
     if u < 256 {
-        return Step::Differs;
+        return None;
     }
     same_name(variable(s), variable(u), names, others, met)
 }
@@ -86,12 +88,12 @@ fn alike(book: &[u8], rules: &[u32; 512], i: usize, j: usize) -> bool
     let mut others = [0; 16];
     let mut met = 0;
     while at < end {
-        let Step::Same(n, now_met) = compare(book, at, other, &mut names, &mut others, met) else {
+        let Some(same) = compare(book, at, other, &mut names, &mut others, met) else {
             return false;
         };
-        at += n;
-        other += n;
-        met = now_met;
+        at += same.width;
+        other += same.width;
+        met = same.met;
     }
     true
 }
@@ -128,11 +130,9 @@ fn put_keys(book: &[u8], rules: &[u32; 512], m: usize, keys: &mut [usize; 256])
     requires { AllDated book.now rules.now × (m ≡ length (rules_of book.now)) × (length keys.old ≡ 256) }
     ensures { KeysIn book.now keys.new }
 {
-    let mut i = 0;
-    while i < m {
+    for i in 0..m {
         let left = tables::left_side(rules, i);
         keys[i] = key_of(book, left, tables::right_side(rules, i));
-        i += 1;
     }
 }
 
@@ -142,8 +142,8 @@ fn day_before(book: &[u8], left: usize) -> usize
     ensures { DayBefore book.now left result }
 {
     match bits::field(book, left - 16, 16) {
-        Bits::Value(day, _) => casts::offset(day),
-        Bits::Out => 0,
+        Some(day) => casts::offset(day.value),
+        None => 0,
     }
 }
 
@@ -177,14 +177,10 @@ fn replaced(
     ensures { result ≡ P.replaced first last (left_at (rules_of book.now) i) (drop from (take to (rules_of book.now))) }
 {
     let key = keys[i];
-    let mut j = from;
-    while j < to {
-        if keys[j] == key {
-            if replaces(book, rules, first, last, i, j) {
-                return true;
-            }
+    for j in from..to {
+        if keys[j] == key && replaces(book, rules, first, last, i, j) {
+            return true;
         }
-        j += 1;
     }
     false
 }
@@ -231,13 +227,11 @@ pub fn keep(book: &[u8], day: u16, m: usize, rules: &mut [u32; 512]) -> usize
     put_keys(book, &all, m, &mut keys);
     let today = casts::offset(day);
     let mut k = 0;
-    let mut i = 0;
-    while i < m {
+    for i in 0..m {
         if stands(book, &all, &keys, m, today, i) {
             copy_sides(&all, i, rules, k);
             k += 1;
         }
-        i += 1;
     }
     k
 }

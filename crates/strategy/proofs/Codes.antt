@@ -7,17 +7,19 @@ use native.Mathlib.Omega.{arith}
 use native.Mathlib.Numerals.{add-one}
 use borrow.Author.Tests.{ne_eqb, lt-ltb}
 use lib.Dec.{eqb, ltb, eqb-suc-zero}
-use lib.ListN.{length, get_or, take, drop, set, replicate, length-append, length-map, take-append-drop}
-use lib.Seq.{sets, drop-cons, get_or-drop, length-take-le}
+use borrow.Rule.Slice.PartMut.{mid_of, put_mid}
+use lib.ListN.{length, get_or, take, drop, set, replicate, length-append, length-drop, length-map, take-append-drop}
+use Rattle.std.proofs.lemmas.List.{length-replicate}
+use lib.Seq.{sets, sets-eq, drop-drop, drop-cons, get_or-drop, length-take-le}
+use Rattle.std.specs.Prelude.{Some, None}
 use Rattle.paper.specs.Result.{if}
 use Rattle.paper.specs.Strategy.{Item, Step, group_steps, layout}
 use Rattle.paper.specs.Writer.{numbers}
 use Rattle.paper.specs.Sound.{All}
 use Rattle.paper.specs.WellFormed.{ItemsWithin}
 use Rattle.tables.specs.Layout.{code}
-use Rattle.tables.proofs.Rows.{code_some}
 use Rattle.strategy.specs.declared.Placed.{Placed}
-use Rattle.strategy.specs.Codes.{placed, placing, unless_0, codes}
+use Rattle.strategy.specs.Codes.{placed, placing, listed, codes}
 
 -- a run of stores after another
 pub sets_append : (l : List ℕ) (i : ℕ) (us vs : List ℕ) → sets l i (us ++ vs) ≡ sets (sets l i us) (i + length us) vs
@@ -26,11 +28,16 @@ sets_append l i (u ∷ us) vs =
     let e : suc i + length us ≡ i + suc (length us) = omega arith in
     sets_append (set l i u) (suc i) us vs ∙ ap (λ (k : ℕ). sets (sets (set l i u) (suc i) us) k vs) e
 
-pub clear_more : (l : List ℕ) (i m n : ℕ) → m ≡ suc n → sets l i (replicate m 0) ≡ sets (set l i 0) (i + 1) (replicate n 0)
-clear_more l i m n z = rw (z, add-one i)
-
-pub clear_end : (l : List ℕ) (i m : ℕ) → m ≡ 0 → sets l i (replicate m 0) ≡ l
-clear_end l i m z = rw z
+-- a part that is filled with 0s
+pub filled : (l : List ℕ) (a e : ℕ) {ys : List ℕ} → ys ≡ replicate (length (mid_of a (e - a) l)) 0 → a ≤ e → e ≤ length l →
+    put_mid a (e - a) l ys ≡ sets l a (replicate (e - a) 0)
+filled l a e h p q =
+    let n : length (take (e - a) (drop a l)) ≡ e - a = length-take-le (e - a) (drop a l) (omega (arith, length-drop a l)) in
+    let zs : List ℕ = replicate (e - a) 0 in
+    let z : length zs ≡ e - a = length-replicate (e - a) 0 in
+    ap₂ (λ (ys r : List ℕ). take a l ++ (ys ++ r)) (h ∙ ap (λ (k : ℕ). replicate {A = ℕ} k 0) n) (drop-drop (e - a) a l ∙ ap (λ (k : ℕ). drop (a + k) l) (sym z))
+    ∙ sym (append_assoc (take a l) zs (drop (a + length zs) l))
+    ∙ sym (sets-eq zs l a (omega (arith, z)))
 
 -- One number
 
@@ -44,19 +51,18 @@ placing_forks v next g f =
     if_forks (eqb v 0) (placed _ g f) _ (f + 1) (omega arith)
     (if_forks (ltb v 8) _ _ (f + 1)
     (if_forks (if g (eqb next 9) true) (placed _ g f) (placed _ g (f + 1)) (f + 1) (omega arith) (omega arith))
-    (if_forks (eqb v 8) (placed 0 true 0) (placed _ false 0) (f + 1) (omega arith) (omega arith)))
+    (if_forks (eqb v 8) (placed None true 0) (placed _ false 0) (f + 1) (omega arith) (omega arith)))
 
 pub placed_forks : (p : Placed) (v next : ℕ) (g : Bool) (f : ℕ) → p ≡ placing v next g f → p.forks ≤ f + 1
 placed_forks p v next g f e = rw e (placing_forks v next g f)
 
 -- From numbers to codes
 
-codes_step : (g : Bool) (f n v : ℕ) (vs : List ℕ) (s : Step) (g' : Bool) (f' : ℕ) → placing v (get_or vs 0 0) g f ≡ placed (code s) g' f' →
+codes_step : (g : Bool) (f n v : ℕ) (vs : List ℕ) (s : Step) (g' : Bool) (f' : ℕ) → placing v (get_or vs 0 0) g f ≡ placed (Some (code s)) g' f' →
     codes g f (suc n) (v ∷ vs) ≡ code s ∷ codes g' f' n vs
 unfolding codes
 codes_step g f n v vs s g' f' e =
-    ap (λ (p : Placed). unless_0 p.code ++ codes p.grouped p.forks n vs) e
-    ∙ ap (λ (b : Bool). if b [] (code s ∷ []) ++ codes g' f' n vs) (ne_eqb (code s) 0 (code_some s))
+    ap (λ (p : Placed). listed p.code ++ codes p.grouped p.forks n vs) e
 
 codes_whole : (n : ℕ) (vs : List ℕ) → codes false 0 (suc n) (0 ∷ vs) ≡ code Step.whole ∷ codes false 0 n vs
 unfolding placing
@@ -127,14 +133,14 @@ codes_items its len is l w e =
 -- the turns of the loop
 module _ (its : List ℕ) (g : Bool) (f n i : ℕ) where
   codes_more : (m v next : ℕ) (p : Placed) → n ≡ suc m → i < length its → v ≡ get_or its i 0 → next ≡ get_or its (i + 1) 0 → p ≡ placing v next g f →
-      codes g f n (drop i its) ≡ unless_0 p.code ++ codes p.grouped p.forks m (drop (i + 1) its)
+      codes g f n (drop i its) ≡ listed p.code ++ codes p.grouped p.forks m (drop (i + 1) its)
   unfolding codes
   codes_more m v next p z h e q s =
       let k : i + 1 + 0 ≡ i + 1 = omega arith in
       let x : get_or (drop (i + 1) its) 0 0 ≡ next = get_or-drop (i + 1) its 0 0 ∙ ap (λ (j : ℕ). get_or its j 0) k ∙ sym q in
       let r : placing (get_or its i 0) (get_or (drop (i + 1) its) 0 0) g f ≡ p = ap₂ (λ (a b : ℕ). placing a b g f) (sym e) x ∙ sym s in
       ap₂ (codes g f) z (drop-cons its i 0 h ∙ ap (λ (j : ℕ). get_or its i 0 ∷ drop j its) (sym (add-one i)))
-      ∙ ap (λ (y : Placed). unless_0 y.code ++ codes y.grouped y.forks m (drop (i + 1) its)) r
+      ∙ ap (λ (y : Placed). listed y.code ++ codes y.grouped y.forks m (drop (i + 1) its)) r
 
   codes_end : n ≡ 0 → codes g f n (drop i its) ≡ []
   unfolding codes
@@ -147,14 +153,14 @@ pub record CodesLeft (all l₀ : List ℕ) (base : ℕ) (its : List ℕ) (n i : 
 
 module _ {all l₀ : List ℕ} {base : ℕ} {its : List ℕ} {n i : ℕ} {g : Bool} {f : ℕ} {l : List ℕ} {at : ℕ} (r : CodesLeft all l₀ base its n i g f l at) where
   pub left_more : (m v next : ℕ) (p : Placed) (l' : List ℕ) (at' : ℕ) → n ≡ suc m → i < length its → v ≡ get_or its i 0 → next ≡ get_or its (i + 1) 0 →
-      p ≡ placing v next g f → l' ≡ sets l at (unless_0 p.code) → at' ≡ at + length (unless_0 p.code) →
+      p ≡ placing v next g f → l' ≡ sets l at (listed p.code) → at' ≡ at + length (listed p.code) →
       CodesLeft all l₀ base its m (i + 1) p.grouped p.forks l' at'
   left_more m v next p l' at' z h e q w s t =
       let c = codes_more its g f n i m v next p z h e q w in
       let ks : List ℕ = codes p.grouped p.forks m (drop (i + 1) its) in
       record {
-        is = r.is ∙ ap (sets l at) c ∙ sets_append l at (unless_0 p.code) ks ∙ ap₂ (λ (k : List ℕ) (j : ℕ). sets k j ks) (sym s) (sym t);
-        ends = omega (arith, r.ends, ap length c, length-append (unless_0 p.code) ks);
+        is = r.is ∙ ap (sets l at) c ∙ sets_append l at (listed p.code) ks ∙ ap₂ (λ (k : List ℕ) (j : ℕ). sets k j ks) (sym s) (sym t);
+        ends = omega (arith, r.ends, ap length c, length-append (listed p.code) ks);
       }
 
   pub left_end : n ≡ 0 → (l ≡ sets l₀ base all) × (at ≡ base + length all)

@@ -1,7 +1,8 @@
 -- A list at the front of an array: how the code that settles reads and changes it. Assumes nothing.
-use mathlib.Core.Bool.{Bool, true, false}
+use mathlib.Core.Bool.{Bool, true}
 use mathlib.Core.List.{List, [], ◌∷◌, ◌++◌}
-use mathlib.Core.Path.{◌≡◌, sym, ap, ap₂, ◌∙◌}
+use mathlib.Core.Logic.{inl, inr}
+use mathlib.Core.Path.{◌≡◌, refl, sym, ap, ap₂, ◌∙◌}
 use Prim.Native.Nat.{ℕ, suc, ◌+◌, ◌-◌, ◌≤◌, ◌<◌}
 use native.Mathlib.Omega.{arith}
 use native.Mathlib.Numerals.{add-one}
@@ -9,12 +10,22 @@ use borrow.Author.Tests.{eq-eqb, ne_eqb, lt-ltb, le-ltb}
 use lib.Dec.{eqb}
 use lib.ListN.{length, get_or, take, drop, set, length-set, drop_of_length-le}
 use lib.Seq.{length-take-le, take-take, take-suc-set, get_or-take, drop-cons, get_or-drop, drop-drop, append_snoc}
+use Rattle.std.specs.List.{list_any}
 use Rattle.paper.specs.Result.{if}
+use Rattle.paper.proofs.Tests.{eqb_cases}
 use Rattle.paper.specs.Strategy.{has, upward, default}
 use Rattle.paper.specs.Writer.{numbers}
 use Rattle.strategy.specs.Settling.{ends_in_zero, closed, keeping, opening, settling, AtFront}
-use Rattle.tables.proofs.Rows.{get_d_any}
 use Rattle.strategy.proofs.OnePass.{has_cons}
+
+-- a number stands in a list if one of its numbers is equal
+pub any_has : (v : ℕ) (xs : List ℕ) → list_any (λ x. eqb x v) xs ≡ has v xs
+unfolding has
+any_has v [] = refl
+any_has v (x ∷ xs) = elim (eqb_cases v x) [
+  | inl p ↦ rw (eq-eqb x v (sym p.1)) (sym (has_cons v x xs ∙ ap (λ (b : Bool). if b true (has v xs)) p.0))
+  | inr p ↦ rw (ne_eqb x v (λ e. p.1 (sym e))) (any_has v xs ∙ sym (has_cons v x xs ∙ ap (λ (b : Bool). if b true (has v xs)) p.0))
+]
 
 module _ (kept : List ℕ) (len : ℕ) (h : length kept ≡ 32) where
   pub kept_push : (v : ℕ) → len < 32 → AtFront (take len kept ++ (v ∷ [])) (len + 1) (set kept len v)
@@ -24,36 +35,6 @@ module _ (kept : List ℕ) (len : ℕ) (h : length kept ≡ 32) where
   -- the list itself
   taken : len ≤ 32 → length (take len kept) ≡ len
   taken l = length-take-le len kept (omega arith)
-
-  pub ends_none : len ≡ 0 → false ≡ ends_in_zero (take len kept)
-  ends_none z = rw z
-
-  pub ends_last : len ≤ 32 → (len ≡ 0 → ⊥) → eqb (get_or kept (len - 1) 0) 0 ≡ ends_in_zero (take len kept)
-  ends_last l n =
-      let e : 0 < len = omega arith in
-      ap (λ (x : ℕ). eqb x 0)
-      (get_d_any kept (len - 1) 0 1 (omega arith) ∙ sym (get_or-take len kept (len - 1) 1 (omega arith))
-      ∙ ap (λ (n : ℕ). get_or (take len kept) (n - 1) 1) (sym (taken l)))
-
-  module _ (v i : ℕ) (l : len ≤ 32) where
-    next : i < len → drop i (take len kept) ≡ get_or kept i 0 ∷ drop (i + 1) (take len kept)
-    next k =
-        drop-cons (take len kept) i 0 (rw (taken l) k)
-        ∙ ap₂ (λ (x n : ℕ). x ∷ drop n (take len kept)) (get_or-take len kept i 0 k) (sym (add-one i))
-
-    pub found_yes : i < len → get_or kept i 0 ≡ v → has v (drop i (take len kept)) ≡ true
-    found_yes k e =
-        ap (has v) (next k) ∙ has_cons v (get_or kept i 0) (drop (i + 1) (take len kept))
-        ∙ ap (λ (b : Bool). if b true (has v (drop (i + 1) (take len kept)))) (eq-eqb v (get_or kept i 0) (sym e))
-
-    pub found_more : i < len → (get_or kept i 0 ≡ v → ⊥) → has v (drop i (take len kept)) ≡ has v (drop (i + 1) (take len kept))
-    found_more k n =
-        ap (has v) (next k) ∙ has_cons v (get_or kept i 0) (drop (i + 1) (take len kept))
-        ∙ ap (λ (b : Bool). if b true (has v (drop (i + 1) (take len kept)))) (ne_eqb v (get_or kept i 0) (λ e. n (sym e)))
-
-    pub found_end : len ≤ i → has v (drop i (take len kept)) ≡ false
-    unfolding has
-    found_end k = let t = taken l in ap (has v) (drop_of_length-le (take len kept) {i = i} (omega arith))
 
   -- the ways to close a group
   module _ (g : ℕ) (l : len < 32) where

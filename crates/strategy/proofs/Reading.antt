@@ -20,9 +20,10 @@ use Rattle.paper.proofs.Settling.{within_more}
 use Rattle.paper.specs.Sound.{All}
 use Rattle.paper.specs.WellFormed.{GoodOperator}
 use Rattle.paper.proofs.Operators.{rest, read_numbers_suc, rest_allowed, rest_refused, read_spelt, read_strategy_good, items_numbers}
-use Rattle.strategy.specs.declared.Turn.{Turn}
-use Rattle.strategy.specs.declared.Numbers.{Numbers}
-use Rattle.strategy.specs.declared.Strategy.{Strategy}
+use Rattle.std.specs.Prelude.{Ok, Err}
+use Rattle.std.specs.Prelude.{Result as Answer}
+use Rattle.refusal.specs.declared.Refusal.{Refusal}
+use Rattle.refusal.specs.Numbers.{number}
 use Rattle.strategy.specs.declared.Listed.{Listed}
 use Rattle.strategy.specs.Promises.{turn, spelt, SettledList, NumbersAt, GivenAt, StrategyAt}
 use Rattle.strategy.specs.Settling.{settling, AtFront}
@@ -57,27 +58,29 @@ prepend_bind p v xs = go (p xs)
     go (accepted r) = refl
 
 -- what a turn's answer says
-turn_cases : (b g h : Bool) → if b (Turn.Go g) Turn.Fault ≡ Turn.Go h → (b ≡ true) × (g ≡ h)
+turn_cases : (b g h : Bool) → ◌≡◌ {A = Answer Bool Refusal} (if b (Ok g) (Err Refusal.BadStrategy)) (Ok h) → (b ≡ true) × (g ≡ h)
 turn_cases true g h e = (refl, cc)
 turn_cases false g h e = let z : ◌≡◌ {A = ℕ} 0 1 = cc in absurd (omega arith)
 
-turn_none : (b g : Bool) → if b (Turn.Go g) Turn.Fault ≡ Turn.Fault → b ≡ false
-turn_none true g e = let z : ◌≡◌ {A = ℕ} 0 1 = cc in absurd (omega arith)
-turn_none false g e = refl
+turn_none : (b g : Bool) (d : Refusal) → ◌≡◌ {A = Answer Bool Refusal} (if b (Ok g) (Err Refusal.BadStrategy)) (Err d) → (b ≡ false) × (number d ≡ 3)
+turn_none true g d e = let z : ◌≡◌ {A = ℕ} 0 1 = cc in absurd (omega arith)
+turn_none false g d e = (refl, ap (λ (x : Answer Bool Refusal). elim x [ Ok _ ↦ 0 | Err r ↦ number r ]) (sym e))
 
 -- the turns of the loop, with us read so far
 module _ (a : ℕ) (g : Bool) (us xs : List ℕ) where
-  pub numbers_out : (m n : ℕ) → m ≡ suc n → field 4 xs ≡ refused 1 → prepend us (read_numbers a g m xs) ≡ refused 1
-  numbers_out m n z e = rw z (ap (prepend us) (read_numbers_suc a g n xs ∙ bind_refused (field 4) (rest a g n) xs 1 e))
+  pub numbers_out : (m n k : ℕ) → m ≡ suc n → field 4 xs ≡ refused k → prepend us (read_numbers a g m xs) ≡ refused k
+  numbers_out m n k z e = rw z (ap (prepend us) (read_numbers_suc a g n xs ∙ bind_refused (field 4) (rest a g n) xs k e))
 
   module _ (m n v : ℕ) (ys : List ℕ) (z : m ≡ suc n) (e : field 4 xs ≡ return v ys) where
     numbers_item : prepend us (read_numbers a g m xs) ≡ prepend us (rest a g n v ys)
     numbers_item = rw z (ap (prepend us) (read_numbers_suc a g n xs ∙ bind_return (field 4) (rest a g n) xs ys v e))
 
-    pub numbers_fault : turn a g n v ≡ Turn.Fault → prepend us (read_numbers a g m xs) ≡ refused 3
-    numbers_fault f = numbers_item ∙ ap (prepend us) (rest_refused a g n v ys (turn_none (allowed a g (eqb n 0) v) (grouped_after g v) f))
+    pub numbers_fault : (d : Refusal) → turn a g n v ≡ Err d → prepend us (read_numbers a g m xs) ≡ refused (number d)
+    numbers_fault d f =
+        let (out, k) = turn_none (allowed a g (eqb n 0) v) (grouped_after g v) d f in
+        numbers_item ∙ ap (prepend us) (rest_refused a g n v ys out) ∙ ap refused (sym k)
 
-    pub numbers_go : (inside : Bool) → turn a g n v ≡ Turn.Go inside →
+    pub numbers_go : (inside : Bool) → turn a g n v ≡ Ok inside →
         prepend us (read_numbers a g m xs) ≡ prepend (us ++ (v ∷ [])) (read_numbers a inside n ys)
     numbers_go inside f =
         let (p, r) = turn_cases (allowed a g (eqb n 0) v) (grouped_after g v) inside f in
@@ -121,8 +124,8 @@ unfolding read_strategy
 not_given a xs = refl
 
 module _ (a : ℕ) (xs : List ℕ) where
-  given_out : field 5 xs ≡ refused 1 → read_strategy a 1 xs ≡ refused 1
-  given_out e = given_suc a 0 xs ∙ bind_refused (field 5) (counted a) xs 1 e
+  given_out : (k : ℕ) → field 5 xs ≡ refused k → read_strategy a 1 xs ≡ refused k
+  given_out k e = given_suc a 0 xs ∙ bind_refused (field 5) (counted a) xs k e
 
   given_counted : (n : ℕ) (ys : List ℕ) → field 5 xs ≡ return n ys → read_strategy a 1 xs ≡ counted a n ys
   given_counted n ys e = given_suc a 0 xs ∙ bind_return (field 5) (counted a) xs ys n e
@@ -144,17 +147,17 @@ good_settled a g xs is zs vs l k bytes x e n =
 
 module _ (bytes : List ℕ) (at a : ℕ) (l : a < 8) where
   -- the ways through the reading of a given list
-  pub read_given_out : (kept : List ℕ) → length kept ≡ 32 → field 5 (drop at (bits_of bytes)) ≡ refused 1 → GivenAt bytes at a kept (Strategy.Refused 1)
-  read_given_out kept h e = record { is = sym (ap spelt (given_out a (drop at (bits_of bytes)) e)); settled = tt; long = h }
+  pub read_given_out : (kept : List ℕ) (d : Refusal) → length kept ≡ 32 → field 5 (drop at (bits_of bytes)) ≡ refused (number d) → GivenAt bytes at a kept (Err d)
+  read_given_out kept d h e = record { is = sym (ap spelt (given_out a (drop at (bits_of bytes)) (number d) e)); settled = tt; long = h }
 
-  pub read_given_refused : (n next f : ℕ) → field 5 (drop at (bits_of bytes)) ≡ return n (drop next (bits_of bytes)) →
-      (raw : List ℕ) (q : Numbers) → NumbersAt bytes next a n raw q → q ≡ Numbers.Refused f → GivenAt bytes at a raw (Strategy.Refused f)
-  read_given_refused n next f e raw q k z =
-      let r : refused f ≡ read_numbers a false n (drop next (bits_of bytes)) = rw z at k.is in
-      record { is = sym (ap spelt (given_refused a (drop at (bits_of bytes)) n (drop next (bits_of bytes)) f e (sym r))); settled = tt; long = k.long }
+  pub read_given_refused : (n next : ℕ) (d : Refusal) → field 5 (drop at (bits_of bytes)) ≡ return n (drop next (bits_of bytes)) →
+      (raw : List ℕ) (q : Answer ℕ Refusal) → NumbersAt bytes next a n raw q → q ≡ Err d → GivenAt bytes at a raw (Err d)
+  read_given_refused n next d e raw q k z =
+      let r : refused (number d) ≡ read_numbers a false n (drop next (bits_of bytes)) = rw z at k.is in
+      record { is = sym (ap spelt (given_refused a (drop at (bits_of bytes)) n (drop next (bits_of bytes)) (number d) e (sym r))); settled = tt; long = k.long }
 
   given_answer : (kept : List ℕ) (len end : ℕ) (is : List Item) → read_strategy a 1 (drop at (bits_of bytes)) ≡ return is (drop end (bits_of bytes)) →
-      take len kept ≡ numbers is → len ≤ 31 → length kept ≡ 32 → GivenAt bytes at a kept (Strategy.Read (record { len = len; next = end }))
+      take len kept ≡ numbers is → len ≤ 31 → length kept ≡ 32 → GivenAt bytes at a kept (Ok (record { len = len; next = end }))
   unfolding return
   given_answer kept len end is g q h k =
       record {
@@ -164,8 +167,8 @@ module _ (bytes : List ℕ) (at a : ℕ) (l : a < 8) where
       }
 
   pub read_given_read : (kept : List ℕ) (n next len end : ℕ) → field 5 (drop at (bits_of bytes)) ≡ return n (drop next (bits_of bytes)) →
-      (raw : List ℕ) (q : Numbers) → NumbersAt bytes next a n raw q → q ≡ Numbers.Read end → len ≤ 31 →
-      AtFront (settling [] 0 (take n raw)) len kept → GivenAt bytes at a kept (Strategy.Read (record { len = len; next = end }))
+      (raw : List ℕ) (q : Answer ℕ Refusal) → NumbersAt bytes next a n raw q → q ≡ Ok end → len ≤ 31 →
+      AtFront (settling [] 0 (take n raw)) len kept → GivenAt bytes at a kept (Ok (record { len = len; next = end }))
   unfolding return
   read_given_read kept n next len end e raw q nr z h k =
       let r : read_numbers a false n (drop next (bits_of bytes)) ≡ return (take n raw) (drop end (bits_of bytes)) = sym (rw z at nr.is) in
@@ -175,15 +178,15 @@ module _ (bytes : List ℕ) (at a : ℕ) (l : a < 8) where
       (k.is ∙ settles a (take n raw) is l p w) h k.long
 
   -- and through the reading of a strategy
-  pub read_out : (kept : List ℕ) → length kept ≡ 32 → field 1 (drop at (bits_of bytes)) ≡ refused 1 → StrategyAt bytes at a kept (Strategy.Refused 1)
-  read_out kept h e =
-      record { is = sym (ap spelt (bind_refused (field 1) (read_strategy a) (drop at (bits_of bytes)) 1 e)); settled = tt; long = h }
+  pub read_out : (kept : List ℕ) (d : Refusal) → length kept ≡ 32 → field 1 (drop at (bits_of bytes)) ≡ refused (number d) → StrategyAt bytes at a kept (Err d)
+  read_out kept d h e =
+      record { is = sym (ap spelt (bind_refused (field 1) (read_strategy a) (drop at (bits_of bytes)) (number d) e)); settled = tt; long = h }
 
   module _ (g next : ℕ) (e : field 1 (drop at (bits_of bytes)) ≡ return g (drop next (bits_of bytes))) where
     first : (field 1 >>= read_strategy a) (drop at (bits_of bytes)) ≡ read_strategy a g (drop next (bits_of bytes))
     first = bind_return (field 1) (read_strategy a) (drop at (bits_of bytes)) (drop next (bits_of bytes)) g e
 
-    pub read_default : (kept : List ℕ) (len : ℕ) → g ≡ 0 → len ≤ 31 → AtFront (numbers (default a)) len kept → StrategyAt bytes at a kept (Strategy.Read (record { len = len; next = next }))
+    pub read_default : (kept : List ℕ) (len : ℕ) → g ≡ 0 → len ≤ 31 → AtFront (numbers (default a)) len kept → StrategyAt bytes at a kept (Ok (record { len = len; next = next }))
     unfolding return
     read_default kept len z h k =
         let d = ap (λ (i : ℕ). read_strategy a i (drop next (bits_of bytes))) z ∙ not_given a (drop next (bits_of bytes)) in
@@ -193,7 +196,7 @@ module _ (bytes : List ℕ) (at a : ℕ) (l : a < 8) where
           long = k.long;
         }
 
-    pub read_list : (kept : List ℕ) (r : Strategy) → (g ≡ 0 → ⊥) → GivenAt bytes next a kept r → StrategyAt bytes at a kept r
+    pub read_list : (kept : List ℕ) (r : Answer Listed Refusal) → (g ≡ 0 → ⊥) → GivenAt bytes next a kept r → StrategyAt bytes at a kept r
     read_list kept r z k =
         record { is = k.is ∙ sym (ap spelt (first ∙ given_any a g (drop next (bits_of bytes)) z)); settled = k.settled; long = k.long }
 
@@ -226,11 +229,11 @@ reader_good a xs is ys l b e =
     let (g, p, q) = bind_accepted (field 1) (read_strategy a) xs _ e in
     (read_strategy_good a g.value g.left _ l (field_bounded 1 xs g b p).1 q).0
 
-module _ (bytes : List ℕ) (at a : ℕ) (its : List ℕ) (r : Strategy) (s : StrategyAt bytes at a its r) where
-  pub strategy_refused : (e : ℕ) → r ≡ Strategy.Refused e → (field 1 >>= read_strategy a) (drop at (bits_of bytes)) ≡ refused e
-  strategy_refused e z = spelt_refused ((field 1 >>= read_strategy a) (drop at (bits_of bytes))) e (rw z at s.is)
+module _ (bytes : List ℕ) (at a : ℕ) (its : List ℕ) (r : Answer Listed Refusal) (s : StrategyAt bytes at a its r) where
+  pub strategy_refused : (e : Refusal) → r ≡ Err e → (field 1 >>= read_strategy a) (drop at (bits_of bytes)) ≡ refused (number e)
+  strategy_refused e z = spelt_refused ((field 1 >>= read_strategy a) (drop at (bits_of bytes))) (number e) (rw z at s.is)
 
-  module _ (l : Listed) (z : r ≡ Strategy.Read l) where
+  module _ (l : Listed) (z : r ≡ Ok l) where
     pub strategy_settled : (l.len ≤ 31) × SettledList a (take l.len its)
     strategy_settled = rw z at s.settled
 

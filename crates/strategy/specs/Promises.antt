@@ -1,5 +1,5 @@
 -- What reading a strategy answers, in the paper's terms, and what laying one out leaves: contracts inside. Assumes nothing.
-use Rattle.std.specs.Prelude.{Bool, false, List, ◌≡◌, ℕ, ◌≤◌, ◌<◌, eqb, length, take, drop}
+use Rattle.std.specs.Prelude.{Ok, Err, Bool, false, List, ◌≡◌, ℕ, ◌≤◌, ◌<◌, eqb, length, take, drop}
 use Rattle.paper.specs.Result.{Result, refused, accepted, Read, if, ◌>>=◌}
 use Rattle.paper.specs.Bits.{bits_of, field}
 use Rattle.paper.specs.Strategy.{Item, layout}
@@ -7,23 +7,24 @@ use Rattle.paper.specs.Reader.{allowed, grouped_after, read_numbers, items, read
 use Rattle.paper.specs.Writer.{numbers}
 use Rattle.paper.specs.WellFormed.{GoodOperator}
 use Rattle.tables.specs.Layout.{row, set_row}
-use Rattle.strategy.specs.declared.Turn.{Turn}
-use Rattle.strategy.specs.declared.Numbers.{Numbers}
-use Rattle.strategy.specs.declared.Strategy.{Strategy}
+use Rattle.std.specs.Prelude.{Result as Answer}
+use Rattle.refusal.specs.declared.Refusal.{Refusal}
+use Rattle.refusal.specs.Numbers.{number}
+use Rattle.strategy.specs.declared.Listed.{Listed}
 
--- the item v of an operator of arity a, with a group open or not, where `left` more follow
-abbrev pub turn : ℕ → Bool → ℕ → ℕ → Turn
-turn a grouped left v = if (allowed a grouped (eqb left 0) v) (Turn.Go (grouped_after grouped v)) Turn.Fault
+-- whether a group is open behind the item v of an operator of arity a, with a group open or not, where `left` more follow
+abbrev pub turn : ℕ → Bool → ℕ → ℕ → Answer Bool Refusal
+turn a grouped left v = if (allowed a grouped (eqb left 0) v) (Ok (grouped_after grouped v)) (Err Refusal.BadStrategy)
 
 -- n numbers read into an array: a position stands for the bits from there on
-abbrev pub numbers_answer : List ℕ → ℕ → List ℕ → Numbers → Result (Read (List ℕ))
-numbers_answer bytes n raw (Numbers.Read next) = accepted (record { value = take n raw; left = drop next (bits_of bytes) })
-numbers_answer bytes n raw (Numbers.Refused e) = refused e
+abbrev pub numbers_answer : List ℕ → ℕ → List ℕ → Answer ℕ Refusal → Result (Read (List ℕ))
+numbers_answer bytes n raw (Ok next) = accepted (record { value = take n raw; left = drop next (bits_of bytes) })
+numbers_answer bytes n raw (Err e) = refused (number e)
 
 -- a strategy read into an array, as the numbers of its settled list
-abbrev pub strategy_answer : List ℕ → List ℕ → Strategy → Result (Read (List ℕ))
-strategy_answer bytes items (Strategy.Read s) = accepted (record { value = take s.len items; left = drop s.next (bits_of bytes) })
-strategy_answer bytes items (Strategy.Refused e) = refused e
+abbrev pub strategy_answer : List ℕ → List ℕ → Answer Listed Refusal → Result (Read (List ℕ))
+strategy_answer bytes items (Ok s) = accepted (record { value = take s.len items; left = drop s.next (bits_of bytes) })
+strategy_answer bytes items (Err e) = refused (number e)
 
 -- the same answer, with items as their numbers
 abbrev pub spelt : Result (Read (List Item)) → Result (Read (List ℕ))
@@ -37,23 +38,23 @@ pub record SettledList (a : ℕ) (vs : List ℕ) : Type 0 where
   pub good : GoodOperator (record { arity = a; strategy = strategy })
 
 -- what a list that is read has
-abbrev pub SettledIn : ℕ → List ℕ → Strategy → Type 0
-SettledIn a items (Strategy.Read s) = (s.len ≤ 31) × SettledList a (take s.len items)
-SettledIn a items (Strategy.Refused e) = Unit
+abbrev pub SettledIn : ℕ → List ℕ → Answer Listed Refusal → Type 0
+SettledIn a items (Ok s) = (s.len ≤ 31) × SettledList a (take s.len items)
+SettledIn a items (Err e) = Unit
 
 -- r answers for the n numbers at position at of an operator of arity a: it is what the paper's reader answers there
-pub record NumbersAt (bytes : List ℕ) (at a n : ℕ) (raw : List ℕ) (r : Numbers) : Type 0 where
+pub record NumbersAt (bytes : List ℕ) (at a n : ℕ) (raw : List ℕ) (r : Answer ℕ Refusal) : Type 0 where
   pub is : numbers_answer bytes n raw r ≡ read_numbers a false n (drop at (bits_of bytes))
   pub long : length raw ≡ 32
 
 -- r answers for the list that is given at position at
-pub record GivenAt (bytes : List ℕ) (at a : ℕ) (items : List ℕ) (r : Strategy) : Type 0 where
+pub record GivenAt (bytes : List ℕ) (at a : ℕ) (items : List ℕ) (r : Answer Listed Refusal) : Type 0 where
   pub is : strategy_answer bytes items r ≡ spelt (read_strategy a 1 (drop at (bits_of bytes)))
   pub settled : SettledIn a items r
   pub long : length items ≡ 32
 
 -- r answers for the strategy at position at, behind the arity a: it is what the paper's reader answers there
-pub record StrategyAt (bytes : List ℕ) (at a : ℕ) (items : List ℕ) (r : Strategy) : Type 0 where
+pub record StrategyAt (bytes : List ℕ) (at a : ℕ) (items : List ℕ) (r : Answer Listed Refusal) : Type 0 where
   pub is : strategy_answer bytes items r ≡ spelt ((field 1 >>= read_strategy a) (drop at (bits_of bytes)))
   pub settled : SettledIn a items r
   pub long : length items ≡ 32

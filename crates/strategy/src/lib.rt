@@ -5,107 +5,81 @@
 ghost use Rattle.std.specs.Prelude.{◌≡◌, [], ◌∷◌, ◌++◌, false, ◌+◌, ◌-◌, ◌^◌, ◌<◌, ◌≤◌, length, get_or, take, drop, replicate};
 ghost use Rattle.std.proofs.lemmas.List.Edits.{sets};
 ghost use Rattle.paper.specs.Strategy.{default, has};
+ghost use Rattle.paper.specs.Reader.{allowed, grouped_after};
 ghost use Rattle.paper.specs.Writer.{numbers};
 ghost use Rattle.strategy.specs.Settling.{ends_in_zero, closed, keeping, opening, settling, AtFront};
-ghost use Rattle.strategy.specs.Codes.{placing, unless_0, codes};
+ghost use Rattle.strategy.specs.Codes.{placing, listed, codes};
 ghost use Rattle.strategy.specs.Promises.{turn, NumbersAt, GivenAt, StrategyAt, Layable, LaidOut};
 
-use bits::Bits;
+use refusal::Refusal;
 
 // How long the settled list is, and the position behind the strategy.
-#[derive(Drop)]
+#[derive(Clone, Copy, Debug, PartialEq, Eq)]
 pub struct Listed {
     pub len: usize,
     pub next: usize,
 }
 
-// The settled list, or the number of the refusal.
-#[derive(Drop)]
-pub enum Strategy {
-    Read(Listed),
-    Refused(u8),
-}
-
-// Whether a group is open behind an item, or that the item may not stand there.
-#[derive(Drop)]
-pub enum Turn {
-    Go(bool),
-    Fault,
-}
-
-// The position behind the items of a list, or the number of the refusal.
-#[derive(Drop)]
-pub enum Numbers {
-    Read(usize),
-    Refused(u8),
-}
-
-// The item v, of 4 bits, with a group open or not, where left more follow: 0 is the whole term, 1 to 7 an argument, 8 opens a group,
-// 9 closes it, 10 to 15 are refused.
-fn item(v: u8, arity: u8, grouped: bool, left: usize) -> Turn
-    ensures { result ≡ turn arity grouped left v }
+// May the item v, of 4 bits, stand with a group open or not, last or not? 0 is the whole term, 1 to 7 an argument, 8 opens a group, 9 closes it, 10 to 15
+// are refused.
+#[tactic(auto, unfolding(paper::specs::Reader::allowed))]
+fn is_allowed(v: u8, arity: u8, grouped: bool, last: bool) -> bool
+    ensures { result ≡ allowed arity grouped last v }
 {
     match v {
-        0 => {
-            if grouped {
-                return Turn::Fault;
-            }
-            Turn::Go(false)
-        }
-        1..=7 => {
-            if left == 0 {
-                return Turn::Fault;
-            }
-            if arity < v {
-                return Turn::Fault;
-            }
-            Turn::Go(grouped)
-        }
-        8 => {
-            if left == 0 {
-                return Turn::Fault;
-            }
-            if grouped {
-                return Turn::Fault;
-            }
-            Turn::Go(true)
-        }
-        9 => {
-            if left == 0 {
-                return Turn::Fault;
-            }
-            if grouped {
-                return Turn::Go(false);
-            }
-            Turn::Fault
-        }
-        10..=15 => Turn::Fault,
-        _ => Turn::Fault,
+        0 => !grouped,
+        1..=7 => !last && v <= arity,
+        8 => !last && !grouped,
+        9 => !last && grouped,
+        10..=15 => false,
+        _ => false,
     }
 }
 
-// Reads count items from position at on.
-fn read_numbers(book: &[u8], at: usize, arity: u8, count: usize, items: &mut [u8; 32]) -> Numbers
+// Is a group open behind the item v?
+#[tactic(auto, unfolding(paper::specs::Reader::grouped_after))]
+fn is_grouped_after(grouped: bool, v: u8) -> bool
+    ensures { result ≡ grouped_after grouped v }
+{
+    match v {
+        8 => true,
+        9 => false,
+        _ => grouped,
+    }
+}
+
+// The item v, where left more follow: whether a group is open behind it.
+fn item(v: u8, arity: u8, grouped: bool, left: usize) -> Result<bool, Refusal>
+    ensures { result ≡ turn arity grouped left v }
+{
+    if is_allowed(v, arity, grouped, left == 0) {
+        Ok(is_grouped_after(grouped, v))
+    } else {
+        Err(Refusal::BadStrategy)
+    }
+}
+
+// Reads count items from position at on; the position behind them.
+fn read_numbers(
+    book: &[u8],
+    at: usize,
+    arity: u8,
+    count: usize,
+    items: &mut [u8; 32],
+) -> Result<usize, Refusal>
     requires { (length book.now ≤ 2 ^ 60) × (count ≤ 31) × (length items.old ≡ 32) }
     ensures { NumbersAt book.now at arity count items.new result }
 {
     let mut pos = at;
     let mut grouped = false;
-    let mut k = 0;
-    while k < count {
-        let Bits::Value(x, next) = reader::field(book, pos, 4) else {
-            return Numbers::Refused(1);
-        };
-        let v = casts::low_byte(x);
-        let Turn::Go(inside) = item(v, arity, grouped, count - k - 1) else {
-            return Numbers::Refused(3);
-        };
+    for k in 0..count {
+        let field = reader::field(book, pos, 4)?;
+        let v = casts::low_byte(field.value);
+        grouped = item(v, arity, grouped, count - k - 1)?;
         items[k] = v;
-        grouped = inside;
-        pos = next;
-        k += 1;
+        pos = field.next;
     }
-    Numbers::Read(pos)
+    Ok(pos)
 }
 
 // The default list: 1 2 .. arity 0.
@@ -114,10 +88,8 @@ fn put_default(arity: u8, items: &mut [u8; 32]) -> usize
     ensures { AtFront (numbers (default arity)) result items.new × (result ≡ arity + 1) }
 {
     let n = casts::index(arity);
-    let mut i = 0;
-    while i < n {
+    for i in 0..n {
         items[i] = casts::byte(i + 1);
-        i += 1;
     }
     items[n] = 0;
     n + 1
@@ -137,10 +109,7 @@ fn ends_in_zero(kept: &[u8; 32], len: usize) -> bool
     requires { (length kept.now ≡ 32) × (len ≤ 32) }
     ensures { result ≡ ends_in_zero (take len kept.now) }
 {
-    if len == 0 {
-        return false;
-    }
-    kept[len - 1] == 0
+    len != 0 && kept[len - 1] == 0
 }
 
 // Does v stand in the list?
@@ -148,14 +117,7 @@ fn found(kept: &[u8; 32], len: usize, v: u8) -> bool
     requires { (length kept.now ≡ 32) × (len ≤ 32) }
     ensures { result ≡ has v (take len kept.now) }
 {
-    let mut i = 0;
-    while i < len {
-        if kept[i] == v {
-            return true;
-        }
-        i += 1;
-    }
-    false
+    kept[..len].contains(&v)
 }
 
 // Closes the group that opened at index group: a group of none is dropped, a group of one becomes its argument.
@@ -217,93 +179,88 @@ fn settle(items: &mut [u8; 32], count: usize) -> usize
 {
     let mut len = 0;
     let mut group = 0;
-    let mut i = 0;
-    while i < count {
+    for i in 0..count {
         group = opened(items[i], len, group);
         len = keep(items, i, len, group);
-        i += 1;
     }
     len
 }
 
 // A strategy that is given: its length and its items.
-fn read_given(book: &[u8], at: usize, arity: u8, items: &mut [u8; 32]) -> Strategy
+fn read_given(book: &[u8], at: usize, arity: u8, items: &mut [u8; 32]) -> Result<Listed, Refusal>
     requires { (length book.now ≤ 2 ^ 60) × (arity < 8) × (length items.old ≡ 32) }
     ensures { GivenAt book.now at arity items.new result }
 {
-    let Bits::Value(count, next) = reader::field(book, at, 5) else {
-        return Strategy::Refused(1);
-    };
-    let n = casts::offset(count);
-    let numbers = read_numbers(book, next, arity, n, items);
-    match numbers {
-        Numbers::Read(end) => Strategy::Read(Listed {
-            len: settle(items, n),
-            next: end,
-        }),
-        Numbers::Refused(e) => Strategy::Refused(e),
-    }
+    let count = reader::field(book, at, 5)?;
+    let n = casts::offset(count.value);
+    let next = read_numbers(book, count.next, arity, n, items)?;
+    Ok(Listed {
+        len: settle(items, n),
+        next,
+    })
 }
 
 // The strategy of an operator, at the position behind its arity.
-pub fn read_strategy(book: &[u8], at: usize, arity: u8, items: &mut [u8; 32]) -> Strategy
+pub fn read_strategy(
+    book: &[u8],
+    at: usize,
+    arity: u8,
+    items: &mut [u8; 32],
+) -> Result<Listed, Refusal>
     requires { (length book.now ≤ 2 ^ 60) × (arity < 8) × (length items.old ≡ 32) }
     ensures { StrategyAt book.now at arity items.new result }
 {
-    let Bits::Value(given, next) = reader::field(book, at, 1) else {
-        return Strategy::Refused(1);
-    };
-    if given == 0 {
-        return Strategy::Read(Listed {
+    let given = reader::field(book, at, 1)?;
+    if given.value == 0 {
+        return Ok(Listed {
             len: put_default(arity, items),
-            next,
+            next: given.next,
         });
     }
-    read_given(book, next, arity, items)
+    read_given(book, given.next, arity, items)
 }
 
-// The code of a number's step, 0 for none; whether a group is open behind it, and how many FORKs the group has so far.
-#[derive(Drop)]
+// The code of a number's step, if it has one; whether a group is open behind it, and how many FORKs the group has so far.
+#[derive(Clone, Copy, Debug, PartialEq, Eq)]
 pub struct Placed {
-    pub code: u8,
+    pub code: Option<u8>,
     pub grouped: bool,
     pub forks: u8,
 }
 
 // The number v, where next follows: the last argument of a group is visited, the others are forked.
+#[tactic(auto, unfolding(crate::specs::Codes::placing))]
 fn place(v: u8, next: u8, grouped: bool, forks: u8) -> Placed
     requires { forks < 63 }
     ensures { result ≡ placing v next grouped forks }
 {
     match v {
         0 => Placed {
-            code: tables::WHOLE,
+            code: Some(tables::WHOLE),
             grouped,
             forks,
         },
         1..=7 => {
-            if grouped {
-                if next != 9 {
-                    return Placed {
-                        code: tables::fork_code(v - 1),
-                        grouped,
-                        forks: forks + 1,
-                    };
-                }
+            if grouped && next != 9 {
+                return Placed {
+                    code: Some(tables::fork_code(v - 1)),
+                    grouped,
+                    forks: forks + 1,
+                };
             }
             Placed {
-                code: tables::visit_code(v - 1),
+                code: Some(tables::visit_code(v - 1)),
                 grouped,
                 forks,
             }
         }
         8 => Placed {
-            code: 0,
+            code: None,
             grouped: true,
             forks: 0,
         },
         _ => Placed {
-            code: tables::join_code(forks),
+            code: Some(tables::join_code(forks)),
             grouped: false,
             forks: 0,
         },
@@ -311,14 +268,14 @@ fn place(v: u8, next: u8, grouped: bool, forks: u8) -> Placed
 }
 
 // Writes a code, where there is one, and answers the place behind it.
-fn put_code(operators: &mut [u8; 4352], at: usize, code: u8) -> usize
+fn put_code(operators: &mut [u8; 4352], at: usize, code: Option<u8>) -> usize
     requires { at < 4352 }
-    ensures { (operators.new ≡ sets operators.old at (unless_0 code)) × (result ≡ at + length (unless_0 code)) }
+    ensures { (operators.new ≡ sets operators.old at (listed code)) × (result ≡ at + length (listed code)) }
 {
-    if code == 0 {
+    let Some(c) = code else {
         return at;
-    }
-    operators[at] = code;
+    };
+    operators[at] = c;
     at + 1
 }
 
@@ -331,13 +288,11 @@ fn put_codes(items: &[u8; 32], len: usize, operators: &mut [u8; 4352], base: usi
     let mut at = base;
     let mut grouped = false;
     let mut forks = 0;
-    let mut i = 0;
-    while i < len {
+    for i in 0..len {
         let p = place(items[i], items[i + 1], grouped, forks);
         at = put_code(operators, at, p.code);
         grouped = p.grouped;
         forks = p.forks;
-        i += 1;
     }
     at
 }
@@ -347,11 +302,7 @@ fn clear(operators: &mut [u8; 4352], from: usize, end: usize)
     requires { (from ≤ end) × (end ≤ 4352) }
     ensures { operators.new ≡ sets operators.old from (replicate (end - from) 0) }
 {
-    let mut i = from;
-    while i < end {
-        operators[i] = 0;
-        i += 1;
-    }
+    operators[from..end].fill(0);
 }
 
 // Lays out the settled list of operator o: its codes, and 0s up to where those of the next operator begin.

@@ -14,8 +14,9 @@ use Rattle.paper.proofs.Tests.{ltb_cases, eqb_cases}
 use Rattle.paper.proofs.Text.{preorder_chain, length_chain}
 use Rattle.tables.specs.Layout.{arity_in}
 use Rattle.tables.specs.Tables.{Operators}
-use Rattle.text.specs.declared.Text as D
-use Rattle.text.specs.declared.Text.TheVariants.{Read, Refused}
+use Rattle.std.specs.Prelude.{Result, Ok, Err}
+use Rattle.refusal.specs.declared.Refusal.{Refusal}
+use Rattle.refusal.specs.Numbers.{number}
 use Rattle.text.specs.Promises.{Answered, TextRead}
 use Rattle.text.proofs.Operators.{few, end_other, end_none}
 
@@ -48,14 +49,14 @@ module _ (B : Book) {n : ℕ} {operators : List ℕ} (count : length B.operators
       text_fault_alike n (arity_in operators) (arity B) (λ o h. (t.each o (omega arith)).arity_is) text
       ∙ ap (λ (m : ℕ). text_fault m (arity B) text) (sym count)
 
-  module _ {text symbols symbols' : List ℕ} {r : D.Text} (told : TextRead n (arity_in operators) text symbols symbols' r) where
-    pub text_refused : {k : ℕ} → r ≡ Refused k → read_text B text ≡ refused k
+  module _ {text symbols symbols' : List ℕ} {r : Result ℕ Refusal} (told : TextRead n (arity_in operators) text symbols symbols' r) where
+    pub text_refused : {e : Refusal} → r ≡ Err e → read_text B text ≡ refused (number e)
     unfolding read_text
     text_refused e =
         let f = subst (Answered n (arity_in operators) text symbols symbols') e told.answered in
         rw (sym (text_fault_paper text) ∙ f)
 
-    pub text_accepted : {m : ℕ} → r ≡ Read m →
+    pub text_accepted : {m : ℕ} → r ≡ Ok m →
         (read_text B text ≡ accepted (chain (squeezed text)))
         × (m ≡ length (preorder (chain (squeezed text))))
         × (take m symbols' ≡ preorder (chain (squeezed text)))

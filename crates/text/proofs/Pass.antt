@@ -10,33 +10,35 @@ use lib.ListN.{length, get_or, take, drop, set, length-set, length-append, take-
 use lib.Seq.{length-take-le, length-sets, drop-cons, drop-drop, append_snoc, set_at, sets, sets-eq, take_at, drop_at}
 use borrow.Author.Tests.{lt-ltb, le-ltb}
 use Rattle.paper.specs.Text.{class, Before, separated, squeeze, squeezed, has_classes, text_fault}
-use Rattle.text.specs.declared.Text.TheVariants.{Read, Refused}
+use Rattle.std.specs.Prelude.{Option, Some, None, Ok, Err}
+use Rattle.refusal.specs.declared.Refusal.{Refusal}
 use Rattle.text.specs.Promises.{added, Put, Filled, TextRead}
 
 -- ONE LETTER OR DIGIT
 
 module _ (k c : ℕ) (symbols : List ℕ) (long : length symbols ≡ 1024) where
-  pub put_over : (gap : Bool) → 1024 ≤ k + length (added gap c) → Put k gap c symbols symbols 1024
-  put_over gap h = record { long = long; fits = λ l. absurd (omega arith); over = λ l. h }
+  pub put_over : (gap : Bool) → 1024 ≤ k + length (added gap c) → Put k gap c symbols symbols None
+  put_over gap h = record { long = long; is = h }
 
   pub put_fits : (gap : Bool) (symbols' : List ℕ) (r : ℕ) → r < 1024 → r ≡ k + length (added gap c) → symbols' ≡ sets symbols k (added gap c) →
-      Put k gap c symbols symbols' r
+      Put k gap c symbols symbols' (Some r)
   put_fits gap symbols' r l e s =
-      record { long = ap length s ∙ length-sets symbols k (added gap c) ∙ long; fits = λ _. (e, s); over = λ h. absurd (omega arith) }
+      record { long = ap length s ∙ length-sets symbols k (added gap c) ∙ long; is = (l, e, s) }
 
 added_some : (gap : Bool) (c : ℕ) → 0 < length (added gap c)
 added_some true c = omega arith
 added_some false c = omega arith
 
-module _ {k c r : ℕ} {gap : Bool} {symbols symbols' : List ℕ} (long : length symbols ≡ 1024) (q : Put k gap c symbols symbols' r) (l : r < 1024) where
+module _ {k c r : ℕ} {gap : Bool} {symbols symbols' : List ℕ} (long : length symbols ≡ 1024) (q : Put k gap c symbols symbols' (Some r)) where
   put_count : length (take k symbols ++ added gap c) ≡ r
   put_count =
-      let f = (q.fits l).0 in
+      let l = q.is.0 in
+      let f = q.is.1 in
       length-append (take k symbols) (added gap c) ∙ ap (λ (n : ℕ). n + length (added gap c)) (length-take-le k symbols (omega arith)) ∙ sym f
 
   put_split : symbols' ≡ (take k symbols ++ added gap c) ++ drop r symbols
   put_split =
-      let (f, s) = q.fits l in
+      let (l, f, s) = q.is in
       s ∙ sets-eq (added gap c) symbols k (omega arith) ∙ ap (λ (n : ℕ). (take k symbols ++ added gap c) ++ drop n symbols) (sym f)
 
   put_front : take r symbols' ≡ take k symbols ++ added gap c
@@ -48,7 +50,7 @@ module _ {k c r : ℕ} {gap : Bool} {symbols symbols' : List ℕ} (long : length
       ∙ further symbols ∙ ap (drop (length (added gap c))) e ∙ sym (further symbols₀)
     where
       further : (s : List ℕ) → drop r s ≡ drop (length (added gap c)) (drop k s)
-      further s = ap (λ (n : ℕ). drop n s) (q.fits l).0 ∙ sym (drop-drop (length (added gap c)) k s)
+      further s = ap (λ (n : ℕ). drop n s) q.is.1 ∙ sym (drop-drop (length (added gap c)) k s)
 
 -- THE PASS
 
@@ -93,17 +95,17 @@ before_letter (suc r) h = refl
 
 module _ (text symbols₀ symbols : List ℕ) (k : ℕ) (gap : Bool) (i : ℕ) (p : Passed text symbols₀ symbols k gap i) where
   -- the text's end
-  pub passed_all : length text ≤ i → Filled text symbols₀ symbols k
+  pub passed_all : length text ≤ i → Filled text symbols₀ symbols (Some k)
   unfolding squeeze
   passed_all h =
       let e : squeezed text ≡ take k symbols = p.symbols_are ∙ rw (drop_of_length-le text h) (append-nil (take k symbols)) in
       record {
         long = p.long;
-        fits = λ l. (
+        is = (
+          p.room,
           sym (ap length e ∙ length-take-le k symbols (omega arith)),
           sym (ap (λ (s : List ℕ). s ++ drop k symbols₀) e ∙ ap (λ (s : List ℕ). take k symbols ++ s) (sym p.others) ∙ take-append-drop k symbols),
         );
-        over = λ l. absurd (omega arith);
       }
 
   module _ (h : i < length text) where
@@ -123,64 +125,67 @@ module _ (text symbols₀ symbols : List ℕ) (k : ℕ) (gap : Bool) (i : ℕ) (
       others = p.others;
     }
 
-    module _ (symbols' : List ℕ) (c r : ℕ) (e : c ≡ class (get_or text i 0)) (z : c ≡ 0 → ⊥) (q : Put k gap c symbols symbols' r) where
+    module _ (symbols' : List ℕ) (c : ℕ) (e : c ≡ class (get_or text i 0)) (z : c ≡ 0 → ⊥) where
       letter : squeezed text ≡ (take k symbols ++ added gap c) ++ squeeze Before.letter (map class (drop (suc i) text))
       letter =
           next ∙ ap (λ (o : ℕ). take k symbols ++ squeeze (before gap k) (o ∷ map class (drop (suc i) text))) (sym e)
           ∙ ap (λ (s : List ℕ). take k symbols ++ s) (squeeze_letter k gap c (map class (drop (suc i) text)) z)
           ∙ sym (append_assoc (take k symbols) (added gap c) (squeeze Before.letter (map class (drop (suc i) text))))
 
-      pub passed_over : 1024 ≤ r → Filled text symbols₀ symbols' r
-      passed_over o =
+      pub passed_over : Put k gap c symbols symbols' None → Filled text symbols₀ symbols' None
+      passed_over q =
           let n = length-append (take k symbols ++ added gap c) (squeeze Before.letter (map class (drop (suc i) text))) in
           let m = length-append (take k symbols) (added gap c) in
           let t = length-take-le k symbols (omega arith) in
-          let u = q.over o in
-          record { long = q.long; fits = λ l. absurd (omega arith); over = λ _. omega (arith, ap length letter) }
+          let u = q.is in
+          record { long = q.long; is = omega (arith, ap length letter) }
 
-      pub passed_letter : r < 1024 → Passed text symbols₀ symbols' r false (i + 1)
-      passed_letter l =
-          let f = (q.fits l).0 in
+      pub passed_letter : {r : ℕ} → Put k gap c symbols symbols' (Some r) → Passed text symbols₀ symbols' r false (i + 1)
+      passed_letter {r} q =
+          let f = q.is.1 in
           let some = added_some gap c in
           record {
             long = q.long;
-            room = l;
+            room = q.is.0;
             within = omega arith;
             none_first = λ _. refl;
             symbols_are =
-                letter ∙ ap (λ (s : List ℕ). s ++ squeeze Before.letter (map class (drop (suc i) text))) (sym (put_front p.long q l))
+                letter ∙ ap (λ (s : List ℕ). s ++ squeeze Before.letter (map class (drop (suc i) text))) (sym (put_front p.long q))
                 ∙ ap (λ (b : Before). take r symbols' ++ squeeze b (map class (drop (suc i) text))) (sym (before_letter r (omega arith))) ∙ rw add-one;
-            others = put_others p.long q l symbols₀ p.others;
+            others = put_others p.long q symbols₀ p.others;
           }
 
 -- THE ANSWER
 
 module _ (n : ℕ) (arity : ℕ → ℕ) (text symbols : List ℕ) (long : length symbols ≡ 1024) where
-  pub told_19 : has_classes n arity ≡ false → TextRead n arity text symbols symbols (Refused 19)
+  pub told_19 : has_classes n arity ≡ false → TextRead n arity text symbols symbols (Err Refusal.NoLetters)
   unfolding text_fault
   told_19 e = record { answered = rw e; long = long }
 
-  module _ (symbols' : List ℕ) (m : ℕ) (e : has_classes n arity ≡ true) (f : Filled text symbols symbols' m) where
-    pub told_18 : 1024 ≤ m → TextRead n arity text symbols symbols' (Refused 18)
+  module _ (symbols' : List ℕ) (e : has_classes n arity ≡ true) where
+    pub told_18 : Filled text symbols symbols' None → TextRead n arity text symbols symbols' (Err Refusal.TextTooLong)
     unfolding text_fault
-    told_18 h = let o = f.over h in record { answered = rw (e, lt-ltb 1024 (suc (length (squeezed text))) (omega arith)); long = f.long }
+    told_18 f = let o = f.is in record { answered = rw (e, lt-ltb 1024 (suc (length (squeezed text))) (omega arith)); long = f.long }
 
-    closed : m < 1024 → set symbols' m 0 ≡ (squeezed text ++ (0 ∷ [])) ++ drop (m + 1) symbols
-    closed h =
-        ap (λ (s : List ℕ). set s m 0)
-        ((f.fits h).1 ∙ ap (λ (s : List ℕ). squeezed text ++ s) (drop-cons symbols m 0 (omega arith)))
-        ∙ set_at (squeezed text) (get_or symbols m 0) (drop (suc m) symbols) 0 m (sym (f.fits h).0)
-        ∙ sym (append_snoc (squeezed text) 0 (drop (suc m) symbols)) ∙ rw add-one
+    module _ (m : ℕ) (f : Filled text symbols symbols' (Some m)) where
+      closed : set symbols' m 0 ≡ (squeezed text ++ (0 ∷ [])) ++ drop (m + 1) symbols
+      closed =
+          let h = f.is.0 in
+          ap (λ (s : List ℕ). set s m 0)
+          (f.is.2 ∙ ap (λ (s : List ℕ). squeezed text ++ s) (drop-cons symbols m 0 (omega arith)))
+          ∙ set_at (squeezed text) (get_or symbols m 0) (drop (suc m) symbols) 0 m (sym f.is.1)
+          ∙ sym (append_snoc (squeezed text) 0 (drop (suc m) symbols)) ∙ rw add-one
 
-    pub told_read : m < 1024 → TextRead n arity text symbols (set symbols' m 0) (Read (m + 1))
-    unfolding text_fault
-    told_read h =
-        let c = (f.fits h).0 in
-        record {
-          answered = record {
-            sound = rw (e, le-ltb 1024 (suc (length (squeezed text))) (omega arith));
-            count = omega arith;
-            symbols_are = closed h;
-          };
-          long = length-set symbols' m 0 ∙ f.long;
-        }
+      pub told_read : TextRead n arity text symbols (set symbols' m 0) (Ok (m + 1))
+      unfolding text_fault
+      told_read =
+          let h = f.is.0 in
+          let c = f.is.1 in
+          record {
+            answered = record {
+              sound = rw (e, le-ltb 1024 (suc (length (squeezed text))) (omega arith));
+              count = omega arith;
+              symbols_are = closed;
+            };
+            long = length-set symbols' m 0 ∙ f.long;
+          }

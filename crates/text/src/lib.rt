@@ -6,6 +6,8 @@ ghost use Rattle.paper.specs.Text as T;
 ghost use Rattle.tables.specs.Layout.{arity_in};
 ghost use Rattle.text.specs.Promises.{Classed, Put, Filled, TextRead};
 
+use refusal::Refusal;
+
 // The class of each byte, in rows of 20 (hexadecimal), so that a small letter stands below its capital; 0 separates.
 const CLASSES: [u8; 256] = *b"\
     \x00\x00\x00\x00\x00\x00\x00\x00\x00\x00\x00\x00\x00\x00\x00\x00\x00\x00\x00\x00\x00\x00\x00\x00\x00\x00\x00\x00\x00\x00\x00\x00\
@@ -16,13 +18,6 @@ const CLASSES: [u8; 256] = *b"\
     \x00\x00\x00\x00\x00\x00\x00\x00\x00\x00\x00\x00\x00\x00\x00\x00\x00\x00\x00\x00\x00\x00\x00\x00\x00\x00\x00\x00\x00\x00\x00\x00\
     \x01\x01\x01\x01\x01\x01\x1b\x03\x05\x05\x05\x05\x09\x09\x09\x09\x1c\x0e\x0f\x0f\x0f\x0f\x0f\x00\x1d\x15\x15\x15\x15\x19\x1e\x1f\
     \x01\x01\x01\x01\x01\x01\x1b\x03\x05\x05\x05\x05\x09\x09\x09\x09\x1c\x0e\x0f\x0f\x0f\x0f\x0f\x00\x1d\x15\x15\x15\x15\x19\x1e\x19";
-
-// A text is read as so many symbols, or is refused by number.
-#[derive(Drop)]
-pub enum Text {
-    Read(usize),
-    Refused(u8),
-}
 
 // The table, made once for a text.
 fn classes() -> [u8; 256]
@@ -48,75 +43,71 @@ fn has_classes(n: usize, operators: &[u8; 4352]) -> bool
     if tables::arity(operators, 0) != 0 {
         return false;
     }
-    let mut o = 1;
-    while o < 43 {
+    for o in 1..43 {
         if tables::arity(operators, o) != 1 {
             return false;
         }
-        o += 1;
     }
     true
 }
 
-// A letter or digit of class c, and a gap in front of it, behind k symbols. Answers how many there are then; 1,024 if these were more than 1,023.
-fn put(symbols: &mut [u8; 1024], k: usize, gap: bool, c: u8) -> usize
+// A letter or digit of class c, and a gap in front of it, behind k symbols. Answers how many there are then; none if these were more than 1,023.
+fn put(symbols: &mut [u8; 1024], k: usize, gap: bool, c: u8) -> Option<usize>
     requires { (length symbols.old ≡ 1024) × (k < 1024) }
     ensures { Put k gap c symbols.old symbols.new result }
 {
     if gap {
         if 1021 < k {
-            return 1024;
+            return None;
         }
         symbols[k] = 42;
         symbols[k + 1] = c;
-        k + 2
+        Some(k + 2)
     } else {
         if 1022 < k {
-            return 1024;
+            return None;
         }
         symbols[k] = c;
-        k + 1
+        Some(k + 1)
     }
 }
 
-// The classes of the text, squeezed. Answers how many they are; 1,024 if they are more than 1,023.
-fn fill(text: &[u8], classes: &[u8; 256], symbols: &mut [u8; 1024]) -> usize
+// The classes of the text, squeezed. Answers how many they are; none if they are more than 1,023.
+fn fill(text: &[u8], classes: &[u8; 256], symbols: &mut [u8; 1024]) -> Option<usize>
     requires { Classed classes.now × (length symbols.old ≡ 1024) }
     ensures { Filled text.now symbols.old symbols.new result }
 {
     let mut k = 0;
     let mut gap = false;
-    let mut i = 0;
-    while i < text.len() {
-        let c = class(classes, text[i]);
-        i += 1;
+    for &b in text {
+        let c = class(classes, b);
         if c == 0 {
             gap = 0 < k;
-        } else {
-            k = put(symbols, k, gap, c);
-            if 1023 < k {
-                return k;
-            }
-            gap = false;
+            continue;
         }
+        k = put(symbols, k, gap, c)?;
+        gap = false;
     }
-    k
+    Some(k)
 }
 
-// A text against n operators. Refused: 19, operators 0 to 42 lack their arities; then 18, the term would pass 1,024 symbols.
-pub fn read_text(text: &[u8], n: usize, operators: &[u8; 4352], symbols: &mut [u8; 1024]) -> Text
+// A text against n operators: how many symbols its term has. Refused: 19, operators 0 to 42 lack their arities; then 18, the term would pass 1,024 symbols.
+pub fn read_text(
+    text: &[u8],
+    n: usize,
+    operators: &[u8; 4352],
+    symbols: &mut [u8; 1024],
+) -> Result<usize, Refusal>
     requires { length symbols.old ≡ 1024 }
     ensures { TextRead n (arity_in operators.now) text.now symbols.old symbols.new result }
 {
-    if has_classes(n, operators) {
-        let table = classes();
-        let m = fill(text, &table, symbols);
-        if 1023 < m {
-            return Text::Refused(18);
-        }
-        symbols[m] = 0;
-        Text::Read(m + 1)
-    } else {
-        Text::Refused(19)
+    if !has_classes(n, operators) {
+        return Err(Refusal::NoLetters);
     }
+    let table = classes();
+    let Some(m) = fill(text, &table, symbols) else {
+        return Err(Refusal::TextTooLong);
+    };
+    symbols[m] = 0;
+    Ok(m + 1)
 }

@@ -24,9 +24,11 @@ use Rattle.tables.specs.Tables.{any_book}
 use Rattle.tables.proofs.Laws.{arity_at}
 use Rattle.side.specs.Promises.{AritiesIn}
 use Rattle.book.specs.Promises.{BookAt}
-use Rattle.book.specs.declared.Book as B
-use Rattle.writer.specs.declared.Written as D
-use Rattle.writer.specs.Spec.{Outcome, writing, Answers}
+use Rattle.std.specs.Prelude.{Ok, Err}
+use Rattle.std.specs.Prelude.{Result as Answer}
+use Rattle.refusal.specs.declared.Refusal.{Refusal}
+use Rattle.refusal.specs.Numbers.{number}
+use Rattle.writer.specs.Spec.{told, Outcome, writing, Answers}
 use Rattle.writer.specs.Promises.{operators_of, AcceptedBook}
 
 -- what is written for a reading
@@ -38,24 +40,24 @@ unfolding written_of
 writing_of bytes output x e = ap (λ (y : Result AnyBook). writing (of y) output) e
 
 module _ (bytes output : List ℕ) where
-  pub answers_refused : (k : ℕ) → read_any bytes ≡ refused k → Answers bytes output output (D.Written.Refused k)
+  pub answers_refused : (k : Refusal) → read_any bytes ≡ refused (number k) → Answers bytes output output (Err k)
   unfolding writing then
-  answers_refused k e = record { is = writing_of bytes output (refused k) e }
+  answers_refused k e = record { is = writing_of bytes output (refused (number k)) e }
 
   module _ (B : AnyBook) (e : read_any bytes ≡ accepted B) (size : ℕ) (s : size ≡ length (write_any B)) where
-    pub answers_short : length output < size → Answers bytes output output (D.Written.Refused 16)
+    pub answers_short : length output < size → Answers bytes output output (Err Refusal.OutputTooShort)
     unfolding writing then
     answers_short h = record { is = writing_of bytes output (accepted B) e ∙ rw (ltb_true (length output) (length (write_any B)) (omega arith)) }
 
     pub answers_written : (output' : List ℕ) (r : ℕ) → r ≡ length (write_any B) → size ≤ length output → output' ≡ write_any B ++ drop r output →
-        Answers bytes output output' (D.Written.Length r)
+        Answers bytes output output' (Ok r)
     unfolding writing then
     answers_written output' r f h g = record {
       is = writing_of bytes output (accepted B) e ∙ rw (ltb_false (length output) (length (write_any B)) (omega arith), g, f);
     }
 
 -- what stands behind a book's first 65,536 bytes is not looked at
-pub answers_prefix : (bytes output output' : List ℕ) (r : D.Written) → 65536 ≤ length bytes → Answers (take 65536 bytes) output output' r →
+pub answers_prefix : (bytes output output' : List ℕ) (r : Answer ℕ Refusal) → 65536 ≤ length bytes → Answers (take 65536 bytes) output output' r →
     Answers bytes output output' r
 unfolding written_of
 answers_prefix bytes output output' r h a = record { is = writing_of bytes output (read_any (take 65536 bytes)) (read_any_prefix bytes h) ∙ a.is }
@@ -67,7 +69,7 @@ day_operators d (AnyBook.undated B) = refl
 day_operators d (AnyBook.dated D) = refl
 
 -- what the book's reader gives
-pub accepted_of : {bytes operators rules : List ℕ} {day n : ℕ} → BookAt bytes day operators rules (B.Book.Read n) → AcceptedBook bytes n operators
+pub accepted_of : {bytes operators rules : List ℕ} {day n : ℕ} → BookAt bytes day operators rules (Ok n) → AcceptedBook bytes n operators
 accepted_of {bytes} {operators} {rules} {n = n} h =
     let t = h.is.0 in
     let c = h.is.2 in
@@ -99,7 +101,7 @@ abbrev pub LongEnough : List ℕ → List ℕ → Type 0
 LongEnough book output = (length book ≤ length output) ⊎ (41473 ≤ length output)
 
 module _ {book output output' : List ℕ} where
-  pub returned : {n : ℕ} → Answers book output output' (D.Written.Length n) → Returned book output output' n
+  pub returned : {n : ℕ} → Answers book output output' (Ok n) → Returned book output output' n
   unfolding writing then
   returned {n} a = go (read_any book) refl
     where
@@ -129,7 +131,7 @@ module _ {book output output' : List ℕ} where
           absurd (omega arith)
       go (accepted B) e = sized B e (ltb (length output) (length (write_any B))) refl
 
-  pub untouched : {k : ℕ} → Answers book output output' (D.Written.Refused k) → output' ≡ output
+  pub untouched : {k : Refusal} → Answers book output output' (Err k) → output' ≡ output
   unfolding writing then
   untouched {k} a = go (read_any book) refl
     where
@@ -146,20 +148,24 @@ module _ {book output output' : List ℕ} where
               absurd (omega arith)
 
   -- an output that is long enough is never refused by 16: a refusal is the book's own, by 1 to 9 but 6
-  pub own_refusal : {k : ℕ} → LongEnough book output → Answers book output output' (D.Written.Refused k) →
-      (read_any book ≡ refused k) × (0 < k) × (k < 10) × (k ≢ 6)
+  pub own_refusal : {k : Refusal} → LongEnough book output → Answers book output output' (Err k) →
+      (read_any book ≡ refused (number k)) × (0 < number k) × (number k < 10) × (number k ≢ 6)
+  unfolding writing then
   own_refusal {k} h a = go (read_any book) refl
     where
       fits : (B : AnyBook) → read_any book ≡ accepted B → LongEnough book output → length (write_any B) ≤ length output
       fits B e (inl l) = omega (arith, any_no_longer book B e)
       fits B e (inr l) = omega (arith, any_no_longer book B e, longest_any book B e)
 
-      go : (x : Result AnyBook) → read_any book ≡ x → (read_any book ≡ refused k) × (0 < k) × (k < 10) × (k ≢ 6)
+      go : (x : Result AnyBook) → read_any book ≡ x → (read_any book ≡ refused (number k)) × (0 < number k) × (number k < 10) × (number k ≢ 6)
       go (refused j) e =
-          let i = ap (λ (o : Outcome). o.answer) (sym (answers_refused book output j e).is ∙ a.is) in
-          let f : read_any book ≡ refused k = e ∙ cc in
-          let (l, m, n) = any_refused_by book k f in
+          let i = ap (λ (o : Outcome). o.answer) (sym (writing_of book output (refused j) e) ∙ a.is) in
+          let f : read_any book ≡ refused (number k) = e ∙ i_refused i in
+          let (l, m, n) = any_refused_by book (number k) f in
           (f, l, m, n)
+        where
+          i_refused : ◌≡◌ {A = Result ℕ} (refused j) (refused (number k)) → ◌≡◌ {A = Result AnyBook} (refused j) (refused (number k))
+          i_refused q = cc
       go (accepted B) e =
           let w = answers_written book output B e _ refl _ _ refl (fits B e h) refl in
           let i = ap (λ (o : Outcome). o.answer) (sym w.is ∙ a.is) in
@@ -167,7 +173,7 @@ module _ {book output output' : List ℕ} where
           absurd (omega arith)
 
   -- whatever the output
-  pub write_not_six : {r : D.Written} → Answers book output output' r → r ≢ D.Written.Refused 6
+  pub write_not_six : {r : Answer ℕ Refusal} → Answers book output output' r → told r ≢ refused 6
   unfolding writing then
   write_not_six {r} a e = go (read_any book) refl
     where

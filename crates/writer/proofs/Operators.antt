@@ -9,7 +9,9 @@ use Rattle.paper.specs.Reader.{read_strategy, read_operator}
 use Rattle.paper.specs.Writer.{concat, write_strategy, write_operator}
 use Rattle.paper.proofs.Readers.{accepted_injective, refused_accepted, bind_accepted, bind_return}
 use Rattle.bits.proofs.Reading.{Got}
-use Rattle.strategy.specs.declared.Strategy.{Strategy}
+use Rattle.std.specs.Prelude.{Ok, Err}
+use Rattle.refusal.specs.declared.Refusal.{Refusal}
+use Rattle.refusal.specs.Numbers.{number}
 use Rattle.strategy.specs.declared.Listed.{Listed}
 use Rattle.strategy.specs.Promises.{StrategyAt}
 use Rattle.strategy.proofs.Reading.{bind_refused, strategy_refused, strategy_read}
@@ -55,27 +57,27 @@ module _ {A : Type 0} where
 -- One operator
 
 module _ (bytes : List ℕ) (at to : ℕ) (out out' : List ℕ) (at' to' : ℕ) where
-  pub operator_out : field 3 (bits_at bytes at) ≡ refused 1 → OperatorWritten bytes at to out out' at' to'
+  pub operator_out : {k : ℕ} → field 3 (bits_at bytes at) ≡ refused k → OperatorWritten bytes at to out out' at' to'
   unfolding read_operator return
-  operator_out h = record { is = λ op left e. absurd (refused_accepted (sym (bind_refused (field 3) _ (bits_at bytes at) 1 h) ∙ e)) }
+  operator_out h = record { is = λ op left e. absurd (refused_accepted (sym (bind_refused (field 3) _ (bits_at bytes at) _ h) ∙ e)) }
 
   module _ (a p : ℕ) (g : Got bytes at 3 a p) (items : List ℕ) where
-    pub operator_refused : (k : ℕ) → StrategyAt bytes p a items (Strategy.Refused k) → OperatorWritten bytes at to out out' at' to'
+    pub operator_refused : (k : Refusal) → StrategyAt bytes p a items (Err k) → OperatorWritten bytes at to out out' at' to'
     unfolding return
     operator_refused k s = record {
       is = λ op left e.
-          let f = bind_refused (field 1 >>= read_strategy a) (made a) (bits_at bytes p) k (strategy_refused bytes p a items (Strategy.Refused k) s k refl) in
+          let f = bind_refused (field 1 >>= read_strategy a) (made a) (bits_at bytes p) (number k) (strategy_refused bytes p a items (Err k) s k refl) in
           absurd (refused_accepted (sym (operator_strategy g ∙ f) ∙ e));
     }
 
-    pub operator_read : (l : Listed) (v : ℕ) → StrategyAt bytes p a items (Strategy.Read l) → l.next ≡ at' → a ≡ v →
+    pub operator_read : (l : Listed) (v : ℕ) → StrategyAt bytes p a items (Ok l) → l.next ≡ at' → a ≡ v →
         BitsPut to (to_bits 3 v ++ list_bits a (take l.len items)) out out' to' → OperatorWritten bytes at to out out' at' to'
     unfolding made write_operator write_strategy list_bits
     operator_read l v s q h w = record {
       is = λ op left e.
           let k = s.settled.1 in
           let f = bind_return (field 1 >>= read_strategy a) (made a) (bits_at bytes p) (bits_at bytes l.next) k.strategy
-          (strategy_read bytes p a items (Strategy.Read l) s l refl k) in
+          (strategy_read bytes p a items (Ok l) s l refl k) in
           let (x, y) = return_same (sym (operator_strategy g ∙ f) ∙ e) in
           (ap (bits_at bytes) (sym q) ∙ y, put_as (ap₂ (λ (j : ℕ) (vs : List ℕ). to_bits 3 j ++ list_bits a vs) (sym h) k.are ∙ ap write_operator x) w);
     }

@@ -95,7 +95,7 @@ module _ {bytes : List ℕ} {at n v next : ℕ} (g : Got bytes at n v next) wher
       ∙ ap (λ (i : ℕ). take i (bits_at bytes at)) (sym e)
 
 -- bits that are there do not run out
-pub there : (bytes : List ℕ) (at n : ℕ) → n ≤ 8 * length bytes - at → field n (bits_at bytes at) ≡ refused 1 → ⊥
+pub there : (bytes : List ℕ) (at n : ℕ) {k : ℕ} → n ≤ 8 * length bytes - at → field n (bits_at bytes at) ≡ refused k → ⊥
 unfolding return
 there bytes at n h e =
     refused_accepted (sym e ∙ field_there n (bits_at bytes at) (length-take-le n (bits_at bytes at) (omega (arith, bits_left bytes at))))

@@ -13,7 +13,9 @@ use Rattle.paper.specs.Writer.{concat, write_side, write_rule}
 use Rattle.paper.specs.Dated.{DatedRule}
 use Rattle.paper.proofs.Readers.{refused_accepted, bind_accepted, bind_return}
 use Rattle.bits.proofs.Reading.{Got, bits_left}
-use Rattle.side.specs.declared.Rule as Ru
+use Rattle.std.specs.Prelude.{Ok, Err}
+use Rattle.refusal.specs.declared.Refusal.{Refusal}
+use Rattle.refusal.specs.Numbers.{number}
 use Rattle.side.specs.declared.RuleEnd.{RuleEnd}
 use Rattle.side.specs.Promises.{bits_at, RuleAt, RuleRead}
 use Rattle.strategy.proofs.Reading.{bind_refused}
@@ -36,12 +38,12 @@ module _ (bytes : List ℕ) (at d n : ℕ) (operators : List ℕ) (k : ℕ) wher
     first ops rules left e =
         split (read_rule_at d ops) k' (bits_at bytes at) rules left (ap (λ (i : ℕ). repeat i (read_rule_at d ops) (bits_at bytes at)) (sym h) ∙ e)
 
-    pub rules_out_of_bits : (end : ℕ) → field d (bits_at bytes at) ≡ refused 1 → RulesEnd bytes at d n operators k end
+    pub rules_out_of_bits : (end : ℕ) {r : ℕ} → field d (bits_at bytes at) ≡ refused r → RulesEnd bytes at d n operators k end
     unfolding read_rule_at return
     rules_out_of_bits end q = record {
       are = λ ops t rules left e.
           let s = first ops rules left e in
-          absurd (refused_accepted (sym (bind_refused (field d) _ (bits_at bytes at) 1 q) ∙ s.first_is));
+          absurd (refused_accepted (sym (bind_refused (field d) _ (bits_at bytes at) _ q) ∙ s.first_is));
     }
 
     module _ (v p : ℕ) (g : Got bytes at d v p) where
@@ -53,12 +55,12 @@ module _ (bytes : List ℕ) (at d n : ℕ) (operators : List ℕ) (k : ℕ) wher
       unfolding read_rule_at dated
       behind ops = bind_return (field d) _ (bits_at bytes at) (bits_at bytes p) v g.is
 
-      pub rules_refused : (r end : ℕ) → RuleAt bytes p n operators (Ru.Rule.Refused r) → RulesEnd bytes at d n operators k end
+      pub rules_refused : (r : Refusal) (end : ℕ) → RuleAt bytes p n operators (Err r) → RulesEnd bytes at d n operators k end
       unfolding return
       rules_refused r end q = record {
         are = λ ops t rules left e.
             let s = first ops rules left e in
-            absurd (refused_accepted (sym (behind ops ∙ bind_refused (read_rule ops) dated (bits_at bytes p) r (q.is ops t)) ∙ s.first_is));
+            absurd (refused_accepted (sym (behind ops ∙ bind_refused (read_rule ops) dated (bits_at bytes p) (number r) (q.is ops t)) ∙ s.first_is));
       }
 
       -- a rule's bits, its day before them
@@ -76,7 +78,7 @@ module _ (bytes : List ℕ) (at d n : ℕ) (operators : List ℕ) (k : ℕ) wher
           ∙ sym (append_assoc (write_side one.left) (write_side one.right) next))
           ∙ sym (append_assoc (to_bits d v) (write_rule one) next)
 
-      pub rules_more : (x : RuleEnd) (end : ℕ) → RuleAt bytes p n operators (Ru.Rule.Read x) → RulesEnd bytes x.next d n operators k' end →
+      pub rules_more : (x : RuleEnd) (end : ℕ) → RuleAt bytes p n operators (Ok x) → RulesEnd bytes x.next d n operators k' end →
           RulesEnd bytes at d n operators k end
       unfolding concat dated
       rules_more x end q w = record {
@@ -95,9 +97,9 @@ module _ (bytes : List ℕ) (at d n : ℕ) (operators : List ℕ) (k : ℕ) wher
       }
 
 module _ (bytes : List ℕ) (at d n : ℕ) (operators : List ℕ) (to : ℕ) (out out' : List ℕ) (to' : ℕ) where
-  pub rules_out : field 8 (bits_at bytes at) ≡ refused 1 → RulesWritten bytes at d n operators to out out' to'
+  pub rules_out : {k : ℕ} → field 8 (bits_at bytes at) ≡ refused k → RulesWritten bytes at d n operators to out out' to'
   unfolding read_rules return
-  rules_out h = record { are = λ ops t rules left e. absurd (refused_accepted (sym (bind_refused (field 8) _ (bits_at bytes at) 1 h) ∙ e)) }
+  rules_out h = record { are = λ ops t rules left e. absurd (refused_accepted (sym (bind_refused (field 8) _ (bits_at bytes at) _ h) ∙ e)) }
 
   pub rules_copied : (v m p end k : ℕ) → Got bytes at 8 v p → m ≡ v → RulesEnd bytes p d n operators m end →
       k ≡ (8 * length bytes - at) - (8 * length bytes - end) → BitsPut to (take k (bits_at bytes at)) out out' to' →

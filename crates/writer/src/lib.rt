@@ -11,27 +11,17 @@ ghost use Rattle.writer.specs.Spec.{Answers};
 ghost use Rattle.writer.specs.Promises.{BitsPut, list_bits, OperatorWritten, OperatorsWritten, FormIs, RulesEnd, RulesWritten};
 ghost use Rattle.writer.specs.Promises.{AcceptedBook, BookWritten};
 
-use bits::Bits;
-use book::Book;
-use side::Rule;
-use strategy::Strategy;
-
-// How many bytes are written, or a refusal.
-#[derive(Drop)]
-pub enum Written {
-    Length(usize),
-    Refused(u8),
-}
+use refusal::Refusal;
 
 // The positions behind what is read and behind what is written.
-#[derive(Drop)]
+#[derive(Clone, Copy, Debug, PartialEq, Eq)]
 struct Places {
     from: usize,
     to: usize,
 }
 
 // Where a book's count stands in its bits, and how many bits of a day stand before each of its rules.
-#[derive(Drop)]
+#[derive(Clone, Copy, Debug, PartialEq, Eq)]
 struct Form {
     count: usize,
     day: usize,
@@ -80,12 +70,10 @@ fn is_default(arity: u8, items: &[u8; 32], len: usize) -> bool
     if len != n + 1 {
         return false;
     }
-    let mut i = 0;
-    while i < n {
+    for i in 0..n {
         if casts::index(items[i]) != i + 1 {
             return false;
         }
-        i += 1;
     }
     items[n] == 0
 }
@@ -96,10 +84,8 @@ fn write_items(items: &[u8; 32], len: usize, out: &mut [u8], at: usize) -> usize
     ensures { BitsPut at (concat (to_bits 4) (take len items.now)) out.old out.new result × (result ≤ at + 124) }
 {
     let mut to = at;
-    let mut i = 0;
-    while i < len {
+    for i in 0..len {
         to = emit(out, to, 4, low(items[i]));
-        i += 1;
     }
     to
 }
@@ -122,21 +108,18 @@ fn write_operator(book: &[u8], at: usize, out: &mut [u8], to: usize) -> Places
     requires { (length book.now ≤ 65536) × (to ≤ 2 ^ 37) }
     ensures { OperatorWritten book.now at to out.old out.new result.from result.to × (result.to ≤ to + 133) }
 {
-    let Bits::Value(a, p) = reader::field(book, at, 3) else {
+    let Ok(field) = reader::field(book, at, 3) else {
         return Places { from: at, to };
     };
-    let arity = casts::low_byte(a);
+    let arity = casts::low_byte(field.value);
     let mut items = [0u8; 32];
-    match strategy::read_strategy(book, p, arity, &mut items) {
-        Strategy::Refused(_) => Places { from: at, to },
-        Strategy::Read(list) => {
-            let q = emit(out, to, 3, a);
-            let end = write_strategy(arity, &items, list.len, out, q);
-            Places {
-                from: list.next,
-                to: end,
-            }
-        }
+    let Ok(list) = strategy::read_strategy(book, field.next, arity, &mut items) else {
+        return Places { from: at, to };
+    };
+    let q = emit(out, to, 3, field.value);
+    Places {
+        from: list.next,
+        to: write_strategy(arity, &items, list.len, out, q),
     }
 }
 
@@ -145,16 +128,11 @@ fn write_operators(book: &[u8], at: usize, n: usize, out: &mut [u8], to: usize) 
     requires { (length book.now ≤ 65536) × (n < 256) × (to ≤ 2 ^ 36) }
     ensures { OperatorsWritten book.now at n to out.old out.new result.from result.to × (result.to ≤ to + 133 * 255) }
 {
-    let mut p = at;
-    let mut q = to;
-    let mut o = 0;
-    while o < n {
-        let next = write_operator(book, p, out, q);
-        p = next.from;
-        q = next.to;
-        o += 1;
+    let mut places = Places { from: at, to };
+    for _o in 0..n {
+        places = write_operator(book, places.from, out, places.to);
     }
-    Places { from: p, to: q }
+    places
 }
 
 // The form of a book: a dated one has a byte 0 before its count.
@@ -180,16 +158,14 @@ fn rules_end(
     ensures { RulesEnd book.now at day n operators.now m result }
 {
     let mut p = at;
-    let mut i = 0;
-    while i < m {
-        let Bits::Value(_, left) = reader::field(book, p, day) else {
+    for _i in 0..m {
+        let Ok(left) = reader::field(book, p, day) else {
             return p;
         };
-        let Rule::Read(rule) = side::read_rule(book, left, n, operators) else {
+        let Ok(rule) = side::read_rule(book, left.next, n, operators) else {
             return p;
         };
         p = rule.next;
-        i += 1;
     }
     p
 }
@@ -204,11 +180,11 @@ fn copy(book: &[u8], from: usize, k: usize, out: &mut [u8], to: usize) -> usize
     let mut left = k;
     while 0 < left {
         let n = some_of(left);
-        let Bits::Value(v, next) = reader::field(book, p, n) else {
+        let Ok(field) = reader::field(book, p, n) else {
             return q;
         };
-        q = emit(out, q, n, v);
-        p = next;
+        q = emit(out, q, n, field.value);
+        p = field.next;
         left -= n;
     }
     q
@@ -227,10 +203,11 @@ fn write_rules(
     requires { (length book.now ≤ 65536) × (day ≤ 16) × (to ≤ 2 ^ 37) }
     ensures { RulesWritten book.now at day n operators.now to out.old out.new result × (result ≤ to + 524288) }
 {
-    let Bits::Value(m, p) = reader::field(book, at, 8) else {
+    let Ok(count) = reader::field(book, at, 8) else {
         return to;
     };
-    let end = rules_end(book, p, day, n, operators, casts::offset(m));
+    let m = casts::offset(count.value);
+    let end = rules_end(book, count.next, day, n, operators, m);
     let k = less(bits::left(book, at), bits::left(book, end));
     copy(book, at, k, out, to)
 }
@@ -253,41 +230,39 @@ fn write_accepted(book: &[u8], n: usize, operators: &[u8; 4352], out: &mut [u8])
     all / 8
 }
 
-// The written book where it fits: its length is found by writing it nowhere, to bytes of no use.
+// The written book where it fits, and its length, which is found by writing it nowhere, to bytes of no use.
 fn write_fitting(
     book: &[u8],
     n: usize,
     operators: &[u8; 4352],
     nowhere: &mut [u8],
     output: &mut [u8],
-) -> Written
+) -> Result<usize, Refusal>
     requires { (length book.now ≤ 65536) × AcceptedBook book.now n operators.now }
     ensures { Answers book.now output.old output.new result }
 {
     let size = write_accepted(book, n, operators, nowhere);
     if output.len() < size {
-        return Written::Refused(16);
+        return Err(Refusal::OutputTooShort);
     }
     let length = write_accepted(book, n, operators, output);
-    Written::Length(length)
+    Ok(length)
 }
 
 // A book of at most 65,536 bytes. No rule is asked for, so any day will do.
-fn write_short(book: &[u8], output: &mut [u8]) -> Written
+fn write_short(book: &[u8], output: &mut [u8]) -> Result<usize, Refusal>
     requires { length book.now ≤ 65536 }
     ensures { Answers book.now output.old output.new result }
 {
     let mut operators = [0u8; 4352];
     let mut rules = [0u32; 512];
     let mut nowhere = [0u8; 1];
-    match book::read_book(book, 0, &mut operators, &mut rules) {
-        Book::Refused(k) => Written::Refused(k),
-        Book::Read(n) => write_fitting(book, n, &operators, &mut nowhere, output),
-    }
+    let n = book::read_book(book, 0, &mut operators, &mut rules)?;
+    write_fitting(book, n, &operators, &mut nowhere, output)
 }
 
 // Any book and any output. What stands behind a book's first 65,536 bytes does not change what it reads as.
-pub fn write_book(book: &[u8], output: &mut [u8]) -> Written
+pub fn write_book(book: &[u8], output: &mut [u8]) -> Result<usize, Refusal>
     ensures { Answers book.now output.old output.new result }
 {
     if 65536 < book.len() {

@@ -11,4 +11,4 @@ returns-in_default c = ended_out _ _ _ c.left-k.ensures (ran_out c.field.ensures
 
 pub returns : goal.returns
 returns c =
-    ended_value _ _ _ _ _ c.left-k.ensures c.if-k-ge8.false (got c.field.ensures c.in-Value.is)
+    ended_value _ _ _ _ _ c.left-k.ensures c.if-k-ge8.false (got c.field.ensures c.in-Some.is)

@@ -8,6 +8,3 @@ use Rattle.engine.proofs.hand_out.Given as goal
 
 abbrev pub invariant-loop-i : goal.invariant-loop-i
 invariant-loop-i l = (l.i ≤ l.n) × (length l.output ≡ length l.initial.output) × (l.output ≡ take l.i (operators l.symbols) ++ drop l.i l.initial.output)
-
-abbrev pub decreases-loop-i : goal.decreases-loop-i
-decreases-loop-i l = l.n - l.i

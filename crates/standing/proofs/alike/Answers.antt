@@ -32,24 +32,24 @@ returns-in_default c =
 
 pub overflow_add-at : goal.overflow_add-at
 overflow_add-at c =
-    let g = walk_goes_on c.loop-at.invariant c.loop-at-test.true c.compare.ensures c.in-Same.is in
+    let g = walk_goes_on c.loop-at.invariant c.loop-at-test.true c.compare.ensures c.in-Some.is in
     omega (arith, g.1, c.loop-at-test.true)
 
 pub overflow_add-other : goal.overflow_add-other
 overflow_add-other c =
     let p = c.requires in
-    let g = walk_goes_on c.loop-at.invariant c.loop-at-test.true c.compare.ensures c.in-Same.is in
+    let g = walk_goes_on c.loop-at.invariant c.loop-at-test.true c.compare.ensures c.in-Some.is in
     let w = walk_small c.loop-at.invariant c.loop-at-test.true in
     omega (arith, g.1, w.1, p.0.short)
 
 pub loop-at-smaller : goal.loop-at-smaller
 loop-at-smaller c =
-    let g = walk_goes_on c.loop-at.invariant c.loop-at-test.true c.compare.ensures c.in-Same.is in
+    let g = walk_goes_on c.loop-at.invariant c.loop-at-test.true c.compare.ensures c.in-Some.is in
     omega (arith, g.2, c.loop-at-test.true)
 
 pub loop-at-preserved : goal.loop-at-preserved
 loop-at-preserved c =
-    (walk_goes_on c.loop-at.invariant c.loop-at-test.true c.compare.ensures c.in-Same.is).0
+    (walk_goes_on c.loop-at.invariant c.loop-at-test.true c.compare.ensures c.in-Some.is).0
 
 pub returns : goal.returns
 returns c = sym (walk_ends c.loop-at.invariant (omega (arith, c.loop-at-test.false)))

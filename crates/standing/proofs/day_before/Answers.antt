@@ -8,18 +8,18 @@ use Rattle.paper.specs.Result.{return}
 use Rattle.bits.proofs.Reading.{got, ran_out}
 use Rattle.standing.proofs.day_before.Goals as goal
 
-pub returns-in-Value : goal.returns-in-Value
+pub returns-in-Some : goal.returns-in-Some
 unfolding return
-returns-in-Value c =
-    let g = got c.field.ensures c.in-Value.is in
+returns-in-Some c =
+    let g = got c.field.ensures c.in-Some.is in
     record {
       is = λ x xs e. c.offset.ensures.0 ∙ ap (λ (r : Read ℕ). r.value) (accepted_injective (sym g.is ∙ e));
       small = c.offset.ensures.1;
     }
 
-pub returns-in-Out : goal.returns-in-Out
+pub returns-in-None : goal.returns-in-None
 unfolding return
-returns-in-Out c = record {
-  is = λ x xs e. absurd (refused_accepted (sym (ran_out c.field.ensures c.in-Out.is) ∙ e));
+returns-in-None c = record {
+  is = λ x xs e. absurd (refused_accepted (sym (ran_out c.field.ensures c.in-None.is) ∙ e));
   small = omega arith;
 }

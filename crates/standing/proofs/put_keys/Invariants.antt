@@ -1,4 +1,4 @@
--- `standing::put_keys` meets its contract. The loop's invariant: the first i keys are put. The measure is how many are left. Assumes nothing.
+-- `standing::put_keys` meets its contract. The loop's invariant: the first i keys are put. Assumes nothing.
 use mathlib.Core.Path.{◌≡◌}
 use Prim.Native.Nat.{◌-◌, ◌≤◌}
 use lib.ListN.{length}
@@ -7,6 +7,3 @@ use Rattle.standing.proofs.put_keys.Given as goal
 
 abbrev pub invariant-loop-i : goal.invariant-loop-i
 invariant-loop-i l = (l.i ≤ l.m) × (length l.keys ≡ 256) × KeysUpTo l.book l.keys l.i
-
-abbrev pub decreases-loop-i : goal.decreases-loop-i
-decreases-loop-i l = l.m - l.i

@@ -6,7 +6,7 @@ use lib.ListN.{length}
 use Rattle.standing.specs.Dates.{rules_of}
 use Rattle.standing.proofs.Rules.{number_small, replaces_other, replaced_found, replaced_next, replaced_none}
 use Rattle.standing.proofs.replaced.Goals as goal
-use Rattle.standing.proofs.replaced.Goals.{then-keys-j+else-replaces, else-keys-j}
+use Rattle.standing.proofs.replaced.Goals.{else-keys-j-via-then-keys-j+else-replaces, else-keys-j-via-else-keys-j}
 
 -- the number i is small
 pub bounds-keys-i : goal.bounds-keys-i
@@ -44,9 +44,9 @@ loop-j-preserved c =
     let p = c.requires in
     let h : c.loop-j.j < length (rules_of c.args.book.now) = omega (arith, p.3, c.loop-j-test.true) in
     c.loop-j.invariant ∙ replaced_next _ _ _ _ _ _ p.3 c.loop-j-test.true
-    (elim c.if-keys-j.branch [
-      | then-keys-j+else-replaces w ↦ sym w.replaces.ensures ∙ w.if-replaces.false
-      | else-keys-j w ↦ replaces_other _ _ _ _ (λ e. w.if-keys-j.false (p.1.each c.loop-j.j h ∙ e ∙ sym (p.1.each _ p.2)))
+    (elim c.else-keys-j.branch [
+      | else-keys-j-via-then-keys-j+else-replaces w ↦ sym w.replaces.ensures ∙ w.if-replaces.false
+      | else-keys-j-via-else-keys-j w ↦ replaces_other _ _ _ _ (λ e. w.if-keys-j.false (p.1.each c.loop-j.j h ∙ e ∙ sym (p.1.each _ p.2)))
     ])
 
 pub returns : goal.returns

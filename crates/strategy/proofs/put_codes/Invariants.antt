@@ -8,6 +8,3 @@ use Rattle.strategy.proofs.put_codes.Given as goal
 abbrev pub invariant-loop-i : goal.invariant-loop-i
 invariant-loop-i l =
     (l.i ≤ l.len) × (l.forks ≤ l.i) × CodesLeft (codes false 0 l.len l.items) l.initial.operators l.base l.items (l.len - l.i) l.i l.grouped l.forks l.operators l.at
-
-abbrev pub decreases-loop-i : goal.decreases-loop-i
-decreases-loop-i l = l.len - l.i

@@ -10,6 +10,3 @@ use Rattle.strategy.proofs.put_default.Given as goal
 abbrev pub invariant-loop-i : goal.invariant-loop-i
 invariant-loop-i l =
     (l.i ≤ l.n) × (length l.items ≡ 32) × (numbers (default l.arity) ≡ take l.i l.items ++ numbers (upward l.i (l.n - l.i)))
-
-abbrev pub decreases-loop-i : goal.decreases-loop-i
-decreases-loop-i l = l.n - l.i

@@ -2,7 +2,7 @@
 -- Assumes nothing.
 use mathlib.Core.Bool.{false}
 use mathlib.Core.Path.{◌≡◌}
-use Prim.Native.Nat.{◌-◌, ◌≤◌}
+use Prim.Native.Nat.{◌-◌}
 use lib.ListN.{length, take, drop}
 use Rattle.paper.specs.Bits.{bits_of}
 use Rattle.paper.specs.Reader.{read_numbers}
@@ -11,8 +11,5 @@ use Rattle.strategy.proofs.read_numbers.Given as goal
 
 abbrev pub invariant-loop-k : goal.invariant-loop-k
 invariant-loop-k l =
-    (l.k ≤ l.count) × (length l.items ≡ 32)
+    (length l.items ≡ 32)
     × (read_numbers l.arity false l.count (drop l.at (bits_of l.book)) ≡ prepend (take l.k l.items) (read_numbers l.arity l.grouped (l.count - l.k) (drop l.pos (bits_of l.book))))
-
-abbrev pub decreases-loop-k : goal.decreases-loop-k
-decreases-loop-k l = l.count - l.k

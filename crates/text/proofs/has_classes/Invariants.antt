@@ -8,6 +8,3 @@ use Rattle.text.proofs.has_classes.Given as goal
 abbrev pub invariant-loop-o : goal.invariant-loop-o
 invariant-loop-o l =
     (0 < l.o) × (l.o ≤ 43) × (has_classes l.n (arity_in l.operators) ≡ one_argument (arity_in l.operators) (43 - l.o) l.o)
-
-abbrev pub decreases-loop-o : goal.decreases-loop-o
-decreases-loop-o l = 43 - l.o

@@ -1,5 +1,5 @@
 -- Answers of `copy`. Assumes nothing.
-use Rattle.bits.proofs.Reading.{got, ran_out}
+use Rattle.reader.proofs.Reading.{got, ran_out}
 use Rattle.writer.proofs.Puts.{put_no_bits, put_as, put_both, copy_more, there}
 use mathlib.Core.Path.{refl, ◌∙◌}
 use Prim.Native.Nat.{◌-◌}
@@ -16,13 +16,13 @@ returns-in_default c =
 
 pub emit-q-requires : goal.emit-q-requires
 emit-q-requires c =
-    let s = (got c.field.ensures c.in-Value.is).small in
+    let s = (got c.field.ensures c.in-Ok.is).small in
     (omega arith, s, omega arith)
 
 pub loop-left-preserved : goal.loop-left-preserved
 loop-left-preserved c =
     let e = c.emit-q.ensures in
-    let g = got c.field.ensures c.in-Value.is in
+    let g = got c.field.ensures c.in-Ok.is in
     let n = c.some_of-n in
     let l = c.loop-left in
     let f = g.ends in (

@@ -1,5 +1,4 @@
--- `writer::is_default` meets its contract. The loop's invariant: the list is the default if the numbers from i on are the default's. The measure
--- is how many arguments are left. Assumes nothing.
+-- `writer::is_default` meets its contract. The loop's invariant: the list is the default if the numbers from i on are the default's. Assumes nothing.
 use Rattle.paper.specs.Strategy.{upward, default}
 use Rattle.paper.specs.Writer.{numbers, same}
 use mathlib.Core.Path.{◌≡◌}
@@ -10,6 +9,3 @@ use Rattle.writer.proofs.is_default.Given as goal
 abbrev pub invariant-loop-i : goal.invariant-loop-i
 invariant-loop-i l =
     (l.i ≤ l.n) × (same (take l.len l.items) (numbers (default l.arity)) ≡ same (drop l.i (take l.len l.items)) (numbers (upward l.i (l.n - l.i))))
-
-abbrev pub decreases-loop-i : goal.decreases-loop-i
-decreases-loop-i l = l.n - l.i

@@ -1,5 +1,5 @@
 -- Answers of `rules_end`. Assumes nothing.
-use Rattle.bits.proofs.Reading.{got, ran_out}
+use Rattle.reader.proofs.Reading.{got, ran_out}
 use Rattle.writer.proofs.Rules.{rules_none, rules_out_of_bits, rules_refused, rules_more}
 use Prim.Native.Nat.{◌+◌, ◌-◌}
 use native.Mathlib.Omega.{arith}
@@ -12,13 +12,13 @@ loop-i-init c = (omega arith, λ end h. simp unary_clauses at h)
 pub returns-in_default : goal.returns-in_default
 returns-in_default c =
     let l = c.loop-i in
-    l.invariant.1 _ (rules_out_of_bits _ _ _ _ _ _ (c.args.m - (l.i + 1)) (omega arith) _ (ran_out c.field.ensures c.in_default.is))
+    l.invariant.1 _ (rules_out_of_bits _ _ _ _ _ _ (c.args.m - (l._i + 1)) (omega arith) _ (ran_out c.field.ensures c.in_default.is))
 
 pub returns-in_default-read_rule : goal.returns-in_default-read_rule
 returns-in_default-read_rule c =
     let l = c.loop-i in
     l.invariant.1 _
-    (rules_refused _ _ _ _ _ _ (c.args.m - (l.i + 1)) (omega arith) _ _ (got c.field.ensures c.in-Value.is) _ _
+    (rules_refused _ _ _ _ _ _ (c.args.m - (l._i + 1)) (omega arith) _ _ (got c.field.ensures c.in-Ok.is) _ _
     (rw c.in_default-read_rule.is at c.read_rule.ensures))
 
 pub loop-i-preserved : goal.loop-i-preserved
@@ -26,8 +26,8 @@ loop-i-preserved c =
     let l = c.loop-i in (
       omega arith,
       λ end h. l.invariant.1 end
-          (rules_more _ _ _ _ _ _ (c.args.m - (l.i + 1)) (omega arith) _ _ (got c.field.ensures c.in-Value.is) _ _
-          (rw c.in-Read.is at c.read_rule.ensures) h),
+          (rules_more _ _ _ _ _ _ (c.args.m - (l._i + 1)) (omega arith) _ _ (got c.field.ensures c.in-Ok.is) _ _
+          (rw c.in-Ok-read_rule.is at c.read_rule.ensures) h),
     )
 
 pub returns : goal.returns

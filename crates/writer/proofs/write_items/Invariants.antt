@@ -1,5 +1,4 @@
--- `writer::write_items` meets its contract. The loop's invariant: what puts the numbers that are left puts them all. The measure is how many are
--- left. Assumes nothing.
+-- `writer::write_items` meets its contract. The loop's invariant: what puts the numbers that are left puts them all. Assumes nothing.
 use mathlib.Core.List.{List}
 use Rattle.paper.specs.Bits.{to_bits}
 use Rattle.paper.specs.Writer.{concat}
@@ -13,6 +12,3 @@ abbrev pub invariant-loop-i : goal.invariant-loop-i
 invariant-loop-i l =
     (l.i ≤ l.len) × (l.to ≡ l.at + 4 * l.i) × (length l.out ≡ length l.initial.out)
     × ((out' : List ℕ) (r : ℕ) → BitsPut l.to (concat (to_bits 4) (drop l.i (take l.len l.items))) l.out out' r → BitsPut l.at (concat (to_bits 4) (take l.len l.items)) l.initial.out out' r)
-
-abbrev pub decreases-loop-i : goal.decreases-loop-i
-decreases-loop-i l = l.len - l.i

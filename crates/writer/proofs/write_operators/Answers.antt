@@ -11,11 +11,11 @@ loop-o-init c = (omega arith, omega arith, refl, λ at' to' out' h. simp unary_c
 
 pub loop-o-preserved : goal.loop-o-preserved
 loop-o-preserved c =
-    let w = c.write_operator-next.ensures in (
+    let w = c.write_operator-places.ensures in (
       omega arith,
       omega arith,
       c.out-1.given ∙ c.loop-o.invariant.2,
-      λ at' to' out' h. c.loop-o.invariant.3 at' to' out' (operators_more _ _ _ _ _ (c.args.n - (c.loop-o.o + 1)) _ _ _ (omega arith) w.0 h),
+      λ at' to' out' h. c.loop-o.invariant.3 at' to' out' (operators_more _ _ _ _ _ (c.args.n - (c.loop-o._o + 1)) _ _ _ (omega arith) w.0 h),
     )
 
 pub returns : goal.returns
