@@ -4,9 +4,7 @@
 
 ghost use Rattle.std.specs.Prelude.{◌≡◌, ◌<◌, ◌≤◌, length};
 
-use book::Book;
 use cases::{say, say_number, say_refused};
-use writer::Written;
 
 // What the reader answers.
 fn try_reader(bytes: &[u8], day: u16)
@@ -15,8 +13,8 @@ fn try_reader(bytes: &[u8], day: u16)
     let mut operators = [0u8; 4352];
     let mut rules = [0u32; 512];
     match book::read_book(bytes, day, &mut operators, &mut rules) {
-        Book::Refused(k) => say_refused(k),
-        Book::Read(n) => {
+        Err(e) => say_refused(e.number()),
+        Ok(n) => {
             say(b"read ");
             say_number(n);
             say(b" ");
@@ -28,8 +26,8 @@ fn try_reader(bytes: &[u8], day: u16)
 // What the writer answers, and its output.
 fn try_writer(bytes: &[u8], output: &mut [u8]) {
     match writer::write_book(bytes, output) {
-        Written::Refused(k) => say_refused(k),
-        Written::Length(n) => {
+        Err(e) => say_refused(e.number()),
+        Ok(n) => {
             say(b"written ");
             say_number(n);
         }

@@ -33,6 +33,11 @@ frame units work net output =
 abbrev pub fault : ℕ → ℕ → ℕ → ℕ → ℕ
 fault units work net output = fault_number (frame_fault published (frame units work net output))
 
+-- the number of what the code answers of a frame, or 0
+abbrev pub frame_number : Checked Unit Refusal → ℕ
+frame_number (Ok u) = 0
+frame_number (Err e) = number e
+
 -- the run's frame is without fault, and the book no longer than any book is
 pub record Framed (book : List ℕ) (units : ℕ) (work net output : List ℕ) : Type 0 where
   pub faultless : fault units (length work) (length net) (length output) ≡ 0

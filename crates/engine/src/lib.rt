@@ -279,23 +279,30 @@ fn reduce_book(
     }
 }
 
-// The refusal's number of the run's frame, or 0: 13, units not 1 to 8; 15, work area or net too short; 16, output too short.
+// Checks the run's frame: units not 1 to 8, work area or net too short, output too short.
+pub fn check_frame(units: u8, work: usize, net: usize, output: usize) -> Result<(), Refusal>
+    ensures { C.frame_number result ≡ C.fault units work net output }
+{
+    if units == 0 || 8 < units {
+        return Err(Refusal::BadUnits);
+    }
+    if work < WORK || net < NET {
+        return Err(Refusal::WorkTooShort);
+    }
+    if output < OUTPUT {
+        return Err(Refusal::OutputTooShort);
+    }
+    Ok(())
+}
+
+// The refusal's number of the run's frame, or 0.
 pub fn frame_fault(units: u8, work: usize, net: usize, output: usize) -> u8
     ensures { result ≡ C.fault units work net output }
 {
-    if units == 0 {
-        return 13;
+    match check_frame(units, work, net, output) {
+        Ok(()) => 0,
+        Err(e) => e.number(),
     }
-    if 8 < units {
-        return 13;
-    }
-    if work < WORK || net < NET {
-        return 15;
-    }
-    if output < OUTPUT {
-        return 16;
-    }
-    0
 }
 
 // The run of a line or text by the rules of a book that stand on a day: `units` units share the work as the schedule says, and make at most `budget`
