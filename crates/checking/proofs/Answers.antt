@@ -2,8 +2,8 @@
 use mathlib.Core.Bool.{true, false, false≢true, true≢false}
 use mathlib.Core.List.{List}
 use mathlib.Core.Option.{none, some}
-use mathlib.Core.Path.{◌≡◌, refl, ap, ◌∙◌, subst}
-use Prim.Native.Nat.{ℕ, zero, suc, ◌≤◌, ◌<◌}
+use mathlib.Core.Path.{◌≡◌, refl, sym, ap, ◌∙◌, subst}
+use Prim.Native.Nat.{ℕ, ◌≤◌, ◌<◌}
 use native.Mathlib.Omega.{arith}
 use borrow.Author.Tests.{le-leb, lt-leb}
 use lib.ListN.{length}
@@ -15,9 +15,12 @@ use Rattle.parking.specs.Points.{points_length, slot, read_slots, all_good, name
 use Rattle.parking.proofs.Buffer.{slot_at}
 use Rattle.parking.proofs.Slots.{Whole, good_slots}
 use Rattle.parking.proofs.Checks.{Ready, points_ready, ready_points, place_passes}
-use Rattle.names.specs.Promises.{HasSlots, free_slot, bears, First, NamesDiffer}
+use Rattle.names.specs.Promises.{HasSlots, free_slot, bears, First, Found, NamesDiffer}
 use Rattle.names.proofs.Names.{Unbroken, broken_bad, differ_good, found, not_found, free_found, none_free, placed_there, placed_new}
-use Rattle.checking.specs.declared.Slot as D
+use Rattle.refusal.specs.declared.Refusal.{Refusal}
+use Rattle.refusal.specs.declared.Refusal.TheVariants.{BadPointOrName, NinthName}
+use Rattle.std.specs.Prelude.{Option, Some, None, MatchOption, Result as Answer, Ok, Err}
+use Rattle.std.specs.Option.{ok_or}
 use Rattle.checking.specs.Promises.{whole, SlotsJudged, as_fault, Inside, Placed, FoundAs}
 
 -- SLOTS
@@ -76,20 +79,16 @@ module _ (name points : List ℕ) where
 
 -- ANSWERS
 
-some_fault : (r : ℕ) → (r ≡ 0 → ⊥) → as_fault r ≡ some r
-some_fault zero d = absurd (d refl)
-some_fault (suc n) d = refl
-
-module _ (name points : List ℕ) (r : ℕ) (f : points_fault name points ≡ as_fault r) where
-  pub ready : r ≡ 0 → Ready name points
+module _ (name points : List ℕ) (r : Answer (Unit {0}) Refusal) (f : points_fault name points ≡ as_fault r) where
+  pub ready : {u : Unit {0}} → r ≡ Ok u → Ready name points
   ready e = points_ready name points (f ∙ ap as_fault e)
 
-  module _ (d : r ≡ 0 → ⊥) where
-    pub place_refused : Placed name points (D.Slot.Refused r)
-    place_refused = record { is = unfold place_checked unless in rw (f ∙ some_fault r d) refl }
+  module _ {e : Refusal} (is : r ≡ Err e) where
+    pub place_refused : Placed name points (Err e)
+    place_refused = record { is = unfold place_checked unless in rw (f ∙ ap as_fault is) refl }
 
-    pub find_refused : FoundAs name points (D.Slot.Refused r)
-    find_refused = record { is = unfold find_checked unless in rw (f ∙ some_fault r d) refl }
+    pub find_refused : FoundAs name points (Err e)
+    find_refused = record { is = unfold find_checked unless in rw (f ∙ ap as_fault is) refl }
 
 module _ (name points : List ℕ) (r : Ready name points) where
   pub has_slots : HasSlots points
@@ -101,25 +100,27 @@ module _ (name points : List ℕ) (r : Ready name points) where
   inside : (k : ℕ) → k < 8 → Inside points k
   inside k l = record { slot = l; long = r.enough }
 
-  module _ (k : ℕ) (b : First (bears name) points 0 k) where
-    pub place_known : k < 8 → Placed name points (D.Slot.At k)
-    place_known l = record { is = (place_passes name points k r (placed_there points has_slots entire name r.some_name k b l), inside k l) }
+  pub found_as : (o : Option ℕ) → Found (bears name) points 0 o → (a : Answer ℕ Refusal) → a ≡ ok_or o BadPointOrName → FoundAs name points a
+  found_as o f a e = subst (FoundAs name points) (sym e) (go o f)
+    where
+      go : (o : Option ℕ) → Found (bears name) points 0 o → FoundAs name points (ok_or o BadPointOrName)
+      go (Some k) f =
+          let (P, e, q) = found points has_slots entire name r.some_name k f.0 f.1 in
+          record { is = record { point = P; read = e; found = unfold find_checked unless or_refuse in rw (ready_points name points r, q) refl; inside = inside k f.1 } }
+      go None f = record { is = unfold find_checked unless or_refuse in rw (ready_points name points r, not_found points has_slots entire name r.some_name 8 f (omega arith)) refl }
 
-    pub find_known : k < 8 → FoundAs name points (D.Slot.At k)
-    find_known l =
-        let (P, e, q) = found points has_slots entire name r.some_name k b l in
-        record { is = record { point = P; read = e; found = unfold find_checked unless or_refuse in rw (ready_points name points r, q) refl; inside = inside k l } }
-
-    pub find_unknown : 8 ≤ k → FoundAs name points (D.Slot.Refused 20)
-    find_unknown l = record { is = unfold find_checked unless or_refuse in rw (ready_points name points r, not_found points has_slots entire name r.some_name k b l) refl }
-
-    module _ (new : 8 ≤ k) (m : ℕ) (f : First free_slot points 0 m) where
-      pub place_new : m < 8 → Placed name points (D.Slot.At m)
-      place_new l = record {
-        is = (place_passes name points m r (placed_new points has_slots entire name r.some_name k b new ∙ free_found points has_slots entire m f l), inside m l);
+  -- the slot that bears the name, or else the lowest free one
+  pub placed_as : (o p : Option ℕ) → Found (bears name) points 0 o → MatchOption o (Found free_slot points 0 p) (λ k. p ≡ Some k) → (a : Answer ℕ Refusal) → a ≡ ok_or p NinthName → Placed name points a
+  placed_as o p f g a e = subst (Placed name points) (sym e) (go o f g)
+    where
+      new : (p : Option ℕ) → First (bears name) points 0 8 → Found free_slot points 0 p → Placed name points (ok_or p NinthName)
+      new (Some m) f g = record {
+        is = (place_passes name points m r (placed_new points has_slots entire name r.some_name 8 f (omega arith) ∙ free_found points has_slots entire m g.0 g.1), inside m g.1);
+      }
+      new None f g = record {
+        is = unfold place_checked unless or_refuse in rw (ready_points name points r, placed_new points has_slots entire name r.some_name 8 f (omega arith) ∙ none_free points has_slots entire 8 g (omega arith)) refl;
       }
 
-      pub place_full : 8 ≤ m → Placed name points (D.Slot.Refused 21)
-      place_full l = record {
-        is = unfold place_checked unless or_refuse in rw (ready_points name points r, placed_new points has_slots entire name r.some_name k b new ∙ none_free points has_slots entire m f l) refl;
-      }
+      go : (o : Option ℕ) → Found (bears name) points 0 o → MatchOption o (Found free_slot points 0 p) (λ k. p ≡ Some k) → Placed name points (ok_or p NinthName)
+      go (Some k) f g = rw g (record { is = (place_passes name points k r (placed_there points has_slots entire name r.some_name k f.0 f.1), inside k f.1) })
+      go None f g = new p f g

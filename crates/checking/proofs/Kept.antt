@@ -1,66 +1,52 @@
 -- One slot: the zeros behind its name byte by byte, whether it is broken, by its name and what stands behind, and what its part is opened as; slots in a row. Assumes nothing.
 use mathlib.Core.Bool.{Bool, true, false}
-use mathlib.Core.List.{List, ◌∷◌}
+use mathlib.Core.List.{List, [], ◌∷◌}
 use mathlib.Core.Logic.{inl, inr}
 use mathlib.Core.Path.{◌≡◌, refl, sym, ap, ◌∙◌}
 use Prim.Native.Nat.{ℕ, ◌+◌, ◌*◌, ◌-◌, ◌≤◌, ◌<◌}
-use native.Mathlib.Numerals.{add-one}
 use native.Mathlib.Omega.{arith}
 use borrow.Author.Tests.{le-leb, lt-leb}
-use lib.Dec.{leb}
-use lib.ListN.{length, get_or, take, drop, length-drop, drop_of_length-le}
-use lib.Seq.{drop-cons, drop-drop, get_or-take, get_or-drop, length-take-le, take_all}
+use lib.Dec.{leb, eqb}
+use Rattle.std.specs.List.{list_all}
+use lib.ListN.{length, get_or, take, drop, length-drop}
+use lib.Seq.{drop-drop, take_all}
 use Rattle.paper.specs.Result.{Result, refused, accepted, Read, Reader, return, refuse, then, ◌>>=◌}
 use Rattle.paper.specs.Reader.{all_zero}
 use Rattle.paper.specs.Page.{read_bytes, read_number}
 use Rattle.paper.proofs.Readers.{bind_return, bind_accepted}
-use Rattle.paper.proofs.Tests.{eqb_cases, eqb_true, eqb_false}
+use Rattle.paper.proofs.Tests.{either, eqb_true, eqb_false}
 use Rattle.flat.specs.Tested.{and}
 use Rattle.book.proofs.Readers.{bind_assoc}
 use Rattle.parking.specs.Form.{name_length, Point, read_fields, only_if, read_point, Slot, slot_of, read_slot}
 use Rattle.parking.specs.Points.{slot}
 use Rattle.names.proofs.Told.{take_drop}
 use Rattle.names.proofs.Reading.{behind_name, read_behind}
-use Rattle.point.specs.declared.Numbers.{Numbers}
 use Rattle.point.specs.Saved.{Arrays, saved}
-use Rattle.opening.specs.declared.Opened as D
+use Rattle.opening.specs.declared.Opened.{Opened}
+use Rattle.std.specs.Prelude.{Option, Some, None, is_some, MatchBool}
 use Rattle.opening.specs.Promises.{Part, read_part, book_in, day_of, OpenedAs}
-use Rattle.checking.specs.Promises.{name_kept, accepts, whole}
+use Rattle.checking.specs.Promises.{name_kept, accepts, whole, SlotsJudged}
 
 -- THE NAME
 
-module _ (bytes : List ℕ) (long : 17 ≤ length bytes) where
-  -- the 16 bytes of the name from byte i on are 0
-  abbrev pub padded : ℕ → Bool
-  padded i = all_zero (drop i (take name_length (drop 1 bytes)))
+-- `all` over bytes, as the paper says it
+all_zeros : (xs : List ℕ) → list_all (λ b. eqb b 0) xs ≡ all_zero xs
+unfolding all_zero
+all_zeros [] = refl
+all_zeros (x ∷ xs) = elim (either (eqb x 0)) [ inl e ↦ rw (e, all_zero) (all_zeros xs) | inr e ↦ rw (e, all_zero) refl ]
 
-  long_name : length (take name_length (drop 1 bytes)) ≡ 16
-  long_name = length-take-le name_length (drop 1 bytes) (rw length-drop (omega arith))
-
-  byte : (i : ℕ) → i < 16 → drop i (take name_length (drop 1 bytes)) ≡ get_or bytes (i + 1) 0 ∷ drop (i + 1) (take name_length (drop 1 bytes))
-  byte i l =
-      let z : 1 + i ≡ i + 1 = omega arith in
-      rw (drop-cons (take name_length (drop 1 bytes)) i 0 (omega (arith, long_name)), ← add-one i, get_or-take name_length (drop 1 bytes) i 0 l, get_or-drop 1 bytes i 0, z) refl
-
-  pub padded_next : (i : ℕ) → i < 16 → get_or bytes (i + 1) 0 ≡ 0 → padded i ≡ padded (i + 1)
-  unfolding all_zero
-  padded_next i l e = ap all_zero (byte i l) ∙ rw (eqb_true (get_or bytes (i + 1) 0) 0 e) refl
-
-  pub padded_not : (i : ℕ) → i < 16 → (get_or bytes (i + 1) 0 ≡ 0 → ⊥) → padded i ≡ false
-  unfolding all_zero
-  padded_not i l d = ap all_zero (byte i l) ∙ rw (eqb_false (get_or bytes (i + 1) 0) 0 d) refl
-
-  pub padded_end : (i : ℕ) → 16 ≤ i → padded i ≡ true
-  unfolding all_zero
-  padded_end i l = ap all_zero (let e : length (take name_length (drop 1 bytes)) ≤ i = omega (arith, long_name) in drop_of_length-le (take name_length (drop 1 bytes)) e)
-
-  pub kept_short : get_or bytes 0 0 ≤ 16 → name_kept bytes ≡ padded (get_or bytes 0 0)
+module _ (bytes : List ℕ) where
+  pub kept_short : (n : ℕ) → n ≡ get_or bytes 0 0 → n ≤ 16 → list_all (λ b. eqb b 0) (take (17 - (n + 1)) (drop (n + 1) bytes)) ≡ name_kept bytes
   unfolding name_kept and
-  kept_short l = rw (le-leb (get_or bytes 0 0) 16 l) refl
+  kept_short n e l =
+      let z : 1 + n ≡ n + 1 = omega arith in
+      rw (← e, le-leb n 16 l, ← z) (all_zeros (take (17 - (1 + n)) (drop (1 + n) bytes))
+      ∙ ap (λ (xs : List ℕ). all_zero (take (17 - (1 + n)) xs)) (sym (drop-drop n 1 bytes))
+      ∙ ap all_zero (take_drop n (17 - (1 + n)) 16 (drop 1 bytes) (omega arith)))
 
-  pub kept_long : 16 < get_or bytes 0 0 → name_kept bytes ≡ false
+  pub kept_long : (n : ℕ) → n ≡ get_or bytes 0 0 → 16 < n → false ≡ name_kept bytes
   unfolding name_kept and
-  kept_long l = rw (lt-leb (get_or bytes 0 0) 16 l) refl
+  kept_long n e l = rw (← e, lt-leb n 16 l) refl
 
 -- THE SLOT
 
@@ -126,13 +112,11 @@ module _ (bytes : List ℕ) (long : 17 ≤ length bytes) (d : get_or bytes 0 0 �
 -- THE PART
 
 -- by what it is opened as
-module _ (part operators rules : List ℕ) (a : Arrays) (r : D.Opened) (o : OpenedAs part operators rules a r) where
-  pub part_run : (x : Numbers) (m : ℕ) → r ≡ D.Opened.Run x m → true ≡ accepts (read_part part)
+module _ (part operators rules : List ℕ) (a : Arrays) where
+  pub part_opened : (r : Option Opened) → OpenedAs part operators rules a r → is_some r ≡ accepts (read_part part)
   unfolding return
-  part_run x m e = sym (ap accepts (rw e at o.is).is)
-
-  pub part_broken : r ≡ D.Opened.Broken → false ≡ accepts (read_part part)
-  part_broken e = go (read_part part) (rw e at o.is)
+  part_opened (Some o) h = sym (ap accepts h.is.is)
+  part_opened None h = go (read_part part) h.is
     where
       go : (x : Result (Read Part)) → ((y : Read Part) → x ≡ accepted y → ⊥) → false ≡ accepts x
       go (refused n) h = refl
@@ -140,9 +124,9 @@ module _ (part operators rules : List ℕ) (a : Arrays) (r : D.Opened) (o : Open
 
 -- A POINT THAT A SLOT HOLDS is what its part is opened as
 
-abbrev pub Opens : List ℕ → Point → Arrays → D.Opened → Type 0
-Opens part P a (D.Opened.Run x m) = (P.book ≡ book_in part m) × (P.day ≡ day_of part) × (P.saved ≡ saved x a)
-Opens part P a D.Opened.Broken = ⊥
+abbrev pub Opens : List ℕ → Point → Arrays → Option Opened → Type 0
+Opens part P a (Some o) = (P.book ≡ book_in part o.book) × (P.day ≡ day_of part) × (P.saved ≡ saved o.numbers a)
+Opens part P a None = ⊥
 
 holds_injective : {P Q : Point} → Slot.holds P ≡ Slot.holds Q → P ≡ Q
 holds_injective e = cc
@@ -185,24 +169,13 @@ module _ (bytes : List ℕ) (long : 17 ≤ length bytes) (P : Point) (h : read_s
       go (accepted r) q e =
           let (y, f, _) = bind_accepted read_part (given_name (get_or bytes 0 0) (take name_length (drop 1 bytes))) (drop 17 bytes) r (sym (point_is bytes long filled) ∙ q) in n y f
 
-  pub held_opens : (operators rules : List ℕ) (a : Arrays) (r : D.Opened) → OpenedAs (drop 17 bytes) operators rules a r → Opens (drop 17 bytes) P a r
-  held_opens operators rules a (D.Opened.Run x m) o = held_part _ _ o.is.is
-  held_opens operators rules a D.Opened.Broken o = held_read o.is
+  pub held_opens : (operators rules : List ℕ) (a : Arrays) (r : Option Opened) → OpenedAs (drop 17 bytes) operators rules a r → Opens (drop 17 bytes) P a r
+  held_opens operators rules a (Some q) o = held_part _ _ o.is.is
+  held_opens operators rules a None o = held_read o.is
 
 -- SLOTS IN A ROW
 
--- none of the first k is broken
-pub record WholeBelow (points : List ℕ) (k : ℕ) : Type 0 where
-  pub are : (j : ℕ) → j < k → whole (read_slot (slot j points)) ≡ true
-
-pub whole_none : (points : List ℕ) → WholeBelow points 0
-whole_none points = record { are = λ j l. absurd (omega arith) }
-
-pub whole_next : (points : List ℕ) (k : ℕ) → WholeBelow points k → whole (read_slot (slot k points)) ≡ true → WholeBelow points (k + 1)
-whole_next points k h e = record {
-  are = λ j l.
-      elim (eqb_cases j k) [
-        | inl q ↦ ap (λ (i : ℕ). whole (read_slot (slot i points))) q.1 ∙ e
-        | inr q ↦ h.are j (let d = q.1 in omega arith)
-      ];
-}
+pub judged : (points : List ℕ) (r : Bool) →
+    MatchBool r ((k : ℕ) → k < 8 → whole (read_slot (slot k points)) ≡ true) ((k : ℕ) × (k < 8) × (whole (read_slot (slot k points)) ≡ false)) → SlotsJudged points r
+judged points true h = record { is = h }
+judged points false h = record { is = h }

@@ -1,12 +1,13 @@
 -- What the check of a buffer of named points ensures (document 02, Change 11): its answers are those of parking/specs/Points. Assumes nothing.
-use Rattle.std.specs.Prelude.{Bool, true, false, List, ◌≡◌, ℕ, zero, suc, ◌≤◌, ◌<◌, leb, length, get_or, take, drop}
+use Rattle.std.specs.Prelude.{Bool, true, false, List, Result as Answer, Ok, Err, ◌≡◌, ℕ, ◌≤◌, ◌<◌, leb, length, get_or, take, drop}
 use Rattle.std.proofs.Math.Option.{Option, none, some}
 use Rattle.paper.specs.Result.{Result, refused, accepted}
 use Rattle.paper.specs.Reader.{all_zero}
 use Rattle.flat.specs.Tested.{and}
 use Rattle.parking.specs.Form.{name_length, Point, Slot, read_slot}
 use Rattle.parking.specs.Points.{points_length, slot, place_checked, find_checked}
-use Rattle.checking.specs.declared.Slot as D
+use Rattle.refusal.specs.declared.Refusal.{Refusal}
+use Rattle.refusal.specs.Numbers.{number}
 
 -- ONE SLOT
 
@@ -37,21 +38,21 @@ pub record SlotsJudged (points : List ℕ) (r : Bool) : Type 0 where
 
 -- ANSWERS
 
--- the fault of a number; 0 is none
-abbrev pub as_fault : ℕ → Option ℕ
-as_fault zero = none
-as_fault (suc n) = some (suc n)
+-- the number of a refusal, if there is one
+abbrev pub as_fault : Answer (Unit {0}) Refusal → Option ℕ
+as_fault (Ok _) = none
+as_fault (Err e) = some (number e)
 
 -- slot k is one of the buffer's
 pub record Inside (points : List ℕ) (k : ℕ) : Type 0 where
   pub slot : k < 8
   pub long : points_length ≤ length points
 
-abbrev pub PlacedIs : List ℕ → List ℕ → D.Slot → Type 0
-PlacedIs name points (D.Slot.At k) = (place_checked name points ≡ accepted k) × Inside points k
-PlacedIs name points (D.Slot.Refused e) = place_checked name points ≡ refused e
+abbrev pub PlacedIs : List ℕ → List ℕ → Answer ℕ Refusal → Type 0
+PlacedIs name points (Ok k) = (place_checked name points ≡ accepted k) × Inside points k
+PlacedIs name points (Err e) = place_checked name points ≡ refused (number e)
 
-pub record Placed (name points : List ℕ) (r : D.Slot) : Type 0 where
+pub record Placed (name points : List ℕ) (r : Answer ℕ Refusal) : Type 0 where
   pub is : PlacedIs name points r
 
 -- the point in slot k is the one that bears the name
@@ -61,9 +62,9 @@ pub record Holds (name points : List ℕ) (k : ℕ) : Type 0 where
   pub found : find_checked name points ≡ accepted (record { at = k; point = point })
   pub inside : Inside points k
 
-abbrev pub FoundIs : List ℕ → List ℕ → D.Slot → Type 0
-FoundIs name points (D.Slot.At k) = Holds name points k
-FoundIs name points (D.Slot.Refused e) = find_checked name points ≡ refused e
+abbrev pub FoundIs : List ℕ → List ℕ → Answer ℕ Refusal → Type 0
+FoundIs name points (Ok k) = Holds name points k
+FoundIs name points (Err e) = find_checked name points ≡ refused (number e)
 
-pub record FoundAs (name points : List ℕ) (r : D.Slot) : Type 0 where
+pub record FoundAs (name points : List ℕ) (r : Answer ℕ Refusal) : Type 0 where
   pub is : FoundIs name points r

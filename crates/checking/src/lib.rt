@@ -9,32 +9,15 @@ ghost use Rattle.names.specs.Promises.{SlotBytes, HasSlots};
 ghost use Rattle.opening.specs.Promises.{read_part};
 ghost use Rattle.checking.specs.Promises as C;
 
-use opening::Opened;
-
-// A slot's number, or the number of a refusal.
-#[derive(Drop)]
-pub enum Slot {
-    At(usize),
-    Refused(u8),
-}
+use refusal::Refusal;
 
 // Is the name no longer than 16 bytes, with zeros behind it?
 fn name_kept(slot: &[u8]) -> bool
     requires { SlotBytes slot.now }
     ensures { result ≡ C.name_kept slot.now }
 {
-    let n = casts::index(slot[0]);
-    if 16 < n {
-        return false;
-    }
-    let mut i = n;
-    while i < 16 {
-        if slot[i + 1] != 0 {
-            return false;
-        }
-        i += 1;
-    }
-    true
+    let n = usize::from(slot[0]);
+    n <= 16 && slot[n + 1..17].iter().all(|&b| b == 0)
 }
 
 // Is what stands behind a name a run that keeps the rules? It is opened in arrays that are given up again.
@@ -48,7 +31,7 @@ fn part_good(part: &[u8]) -> bool
     let mut work = [0u8; 24624];
     let mut cells = [0u32; 8];
     let mut order = [0u16; 1024];
-    match opening::open(
+    opening::open(
         part,
         &mut operators,
         &mut rules,
@@ -56,10 +39,8 @@ fn part_good(part: &[u8]) -> bool
         &mut work,
         &mut cells,
         &mut order,
-    ) {
-        Opened::Run(_, _) => true,
-        Opened::Broken => false,
-    }
+    )
+    .is_some()
 }
 
 // Is the slot free, or does its point keep the rules?
@@ -67,13 +48,7 @@ fn slot_good(slot: &[u8]) -> bool
     requires { SlotBytes slot.now }
     ensures { result ≡ C.whole (read_slot slot.now) }
 {
-    if slot[0] == 0 {
-        return true;
-    }
-    if !name_kept(slot) {
-        return false;
-    }
-    part_good(&slot[17..])
+    slot[0] == 0 || (name_kept(slot) && part_good(&slot[17..]))
 }
 
 // Is no slot broken?
@@ -81,70 +56,39 @@ fn slots_good(points: &[u8]) -> bool
     requires { HasSlots points.now }
     ensures { C.SlotsJudged points.now result }
 {
-    let mut k = 0;
-    while k < 8 {
-        let start = k * names::SLOT;
-        let end = start + names::SLOT;
-        if !slot_good(&points[start..end]) {
-            return false;
-        }
-        k += 1;
-    }
-    true
+    (0..8).all(|k| slot_good(names::slot(points, k)))
 }
 
-// The refusal's number of a name and a buffer, or 0: 16, the buffer is too short; 20, a point breaks a rule, a name stands twice, or the name isn't 1 to 16 bytes.
-pub fn points_fault(name: &[u8], points: &[u8]) -> u8
+// Whether a name may be looked up in a buffer: the buffer is long enough, every point keeps the rules, no name stands twice, and the name is 1 to 16 bytes.
+pub fn points_fault(name: &[u8], points: &[u8]) -> Result<(), Refusal>
     ensures { points_fault name.now points.now ≡ C.as_fault result }
 {
     if points.len() < names::POINTS {
-        return 16;
+        return Err(Refusal::OutputTooShort);
     }
-    if !slots_good(points) {
-        return 20;
+    if !slots_good(points) || !names::names_differ(points) {
+        return Err(Refusal::BadPointOrName);
     }
-    if !names::names_differ(points) {
-        return 20;
+    if name.is_empty() || 16 < name.len() {
+        return Err(Refusal::BadPointOrName);
     }
-    if name.len() == 0 {
-        return 20;
-    }
-    if 16 < name.len() {
-        return 20;
-    }
-    0
+    Ok(())
 }
 
-// Where a run with the name is saved: in the slot that bears it, else in the lowest free one; 21 if there is none.
-pub fn place(name: &[u8], points: &[u8]) -> Slot
+// Where a run with the name is saved: in the slot that bears it, else in the lowest free one.
+pub fn place(name: &[u8], points: &[u8]) -> Result<usize, Refusal>
     ensures { C.Placed name.now points.now result }
 {
-    let fault = points_fault(name, points);
-    if fault != 0 {
-        return Slot::Refused(fault);
-    }
-    let k = names::find_from(points, 0, name);
-    if k < 8 {
-        return Slot::At(k);
-    }
-    let free = names::first_free(points);
-    if free < 8 {
-        return Slot::At(free);
-    }
-    Slot::Refused(21)
+    points_fault(name, points)?;
+    names::find_from(points, 0, name)
+        .or_else(|| names::first_free(points))
+        .ok_or(Refusal::NinthName)
 }
 
-// The slot whose point bears the name; 20 if there is none.
-pub fn find(name: &[u8], points: &[u8]) -> Slot
+// The slot whose point bears the name.
+pub fn find(name: &[u8], points: &[u8]) -> Result<usize, Refusal>
     ensures { C.FoundAs name.now points.now result }
 {
-    let fault = points_fault(name, points);
-    if fault != 0 {
-        return Slot::Refused(fault);
-    }
-    let k = names::find_from(points, 0, name);
-    if k < 8 {
-        return Slot::At(k);
-    }
-    Slot::Refused(20)
+    points_fault(name, points)?;
+    names::find_from(points, 0, name).ok_or(Refusal::BadPointOrName)
 }

@@ -1,52 +1,23 @@
 -- The name that a slot's first bytes tell, byte by byte; a slot's bytes in the buffer; and the first slot of which something is true. Assumes nothing.
-use mathlib.Core.Bool.{Bool, true, false, false≢true}
+use mathlib.Core.Bool.{Bool, true, false, not, false≢true}
 use mathlib.Core.List.{List, [], ◌∷◌}
-use mathlib.Core.Logic.{inl, inr}
-use mathlib.Core.Path.{◌≡◌, sym, ap, ◌∙◌, subst}
+use mathlib.Core.Path.{◌≡◌, sym, ap, ◌∙◌}
 use Prim.Native.Nat.{ℕ, zero, suc, ◌+◌, ◌*◌, ◌-◌, ◌≤◌, ◌<◌}
-use native.Mathlib.Numerals.{add-one}
 use native.Mathlib.Omega.{arith}
 use lib.ListN.{length, get_or, take, drop, length-drop}
-use lib.Seq.{take-suc, take-nil, take_all, take-take, get_or-take, get_or-drop, drop-drop, length-take-le}
-use Rattle.paper.proofs.Operators.{same_true, same_false}
-use Rattle.paper.proofs.Tests.{eqb_cases, eqb_true, eqb_false}
+use lib.Seq.{take-nil, take-take, get_or-take, get_or-drop, drop-drop, length-take-le}
+use Rattle.paper.proofs.Operators.{same_equal, same_true}
+use Rattle.paper.proofs.Tests.{eqb_true, eqb_false}
 use Rattle.parking.specs.Form.{slot_length}
 use Rattle.parking.specs.Points.{slot}
-use Rattle.names.specs.Promises.{SlotBytes, HasSlots, free_slot, told_name, bears, First, Different}
+use Rattle.names.specs.Promises.{SlotBytes, HasSlots, free_slot, told_name, bears, Found, IsAlone, NamesDiffer}
+use Rattle.std.specs.Prelude.{Option, Some, None, Decides, MatchBool, MatchOption, is_some}
 
 -- THE NAME
 
-module _ (bytes : List ℕ) (short : get_or bytes 0 0 < length bytes) where
-  pub told_length : length (told_name bytes) ≡ get_or bytes 0 0
-  unfolding told_name
-  told_length = length-take-le (get_or bytes 0 0) (drop 1 bytes) (rw length-drop (omega arith))
-
-  module _ (name : List ℕ) where
-    -- another length
-    pub told_another : (get_or bytes 0 0 ≡ length name → ⊥) → false ≡ bears name bytes
-    told_another d = sym (same_false name (told_name bytes) (λ q. d (sym (ap length q ∙ told_length))))
-
-    module _ (e : get_or bytes 0 0 ≡ length name) where
-      -- the first i bytes are the same
-      abbrev pub Agree : ℕ → Type 0
-      Agree i = take i (drop 1 bytes) ≡ take i name
-
-      pub told_next : (i : ℕ) → i < length name → get_or bytes (i + 1) 0 ≡ get_or name i 0 → Agree i → Agree (i + 1)
-      told_next i m q h =
-          let z : 1 + i ≡ i + 1 = omega arith in
-          rw (add-one i, take-suc (drop 1 bytes) i 0 (rw length-drop (omega arith)), take-suc name i 0 m, get_or-drop 1 bytes i 0, z, q, h)
-
-      pub told_same : Agree (length name) → true ≡ bears name bytes
-      unfolding told_name
-      told_same h = sym (same_true name (told_name bytes) (sym (ap (λ (n : ℕ). take n (drop 1 bytes)) e ∙ h ∙ take_all (length name) name (omega arith))))
-
-      pub told_differs : (i : ℕ) → i < length name → (get_or bytes (i + 1) 0 ≡ get_or name i 0 → ⊥) → false ≡ bears name bytes
-      unfolding told_name
-      told_differs i l d =
-          let z : 1 + i ≡ i + 1 = omega arith in
-          let at : get_or (told_name bytes) i 0 ≡ get_or bytes (i + 1) 0 =
-          get_or-take (get_or bytes 0 0) (drop 1 bytes) i 0 (omega arith) ∙ get_or-drop 1 bytes i 0 ∙ ap (λ (j : ℕ). get_or bytes j 0) z in
-          sym (same_false name (told_name bytes) (λ q. d (sym at ∙ ap (λ (ys : List ℕ). get_or ys i 0) (sym q))))
+-- does a slot bear the name that it tells
+pub bears_decides : (name bytes : List ℕ) → Decides (bears name bytes) (told_name bytes ≡ name)
+bears_decides name bytes = (λ e. sym (same_equal name (told_name bytes) e), λ e. same_true name (told_name bytes) (sym e))
 
 -- SLOTS OF THE BUFFER
 
@@ -82,28 +53,11 @@ not_free points k d = eqb_false _ _ (λ e. d (sym (slot_first points k) ∙ e))
 
 -- THE FIRST SLOT
 
-module _ (f : List ℕ → Bool) (points : List ℕ) (from : ℕ) where
-  -- f is false of all slots before k
-  pub record Passed (k : ℕ) : Type 0 where
-    pub before : (j : ℕ) → from ≤ j → j < k → f (slot j points) ≡ false
-
-  pub passed_none : Passed from
-  passed_none = record { before = λ j a b. absurd (omega arith) }
-
-  pub passed_next : (k : ℕ) → Passed k → f (slot k points) ≡ false → Passed (k + 1)
-  passed_next k p e = record {
-    before = λ j a b.
-        elim (eqb_cases j k) [
-          | inl q ↦ ap (λ (i : ℕ). f (slot i points)) q.1 ∙ e
-          | inr q ↦ p.before j a (let d = q.1 in omega arith)
-        ];
-  }
-
-  pub first_here : (k : ℕ) → from ≤ k → k < 8 → Passed k → f (slot k points) ≡ true → First f points from k
-  first_here k a l p e = record { most = omega arith; before = p.before; here = λ _. e; behind = λ _. a }
-
-  pub first_none : (k : ℕ) → 8 ≤ k → Passed k → First f points from 8
-  first_none k l p = record { most = omega arith; before = λ j a b. p.before j a (omega arith); here = λ b. absurd (omega arith); behind = λ b. absurd (omega arith) }
+-- what a search among the slots finds
+pub found : (f : List ℕ → Bool) (points : List ℕ) (from : ℕ) (r : Option ℕ) → MatchOption r ((k : ℕ) → from ≤ k → k < 8 → f (slot k points) ≡ false)
+    (λ i. (from ≤ i) × (i < 8) × (f (slot i points) ≡ true) × ((k : ℕ) → from ≤ k → k < i → f (slot k points) ≡ false)) → Found f points from r
+found f points from (Some i) h = (record { most = omega (arith, h.1); before = h.3; here = λ _. h.2; behind = λ _. h.0 }, h.1)
+found f points from None h = record { most = omega arith; before = h; here = λ b. absurd (omega (arith, b)); behind = λ b. absurd (omega (arith, b)) }
 
 -- THE NAME IN THE BUFFER
 
@@ -128,24 +82,16 @@ told_lent points k n e l =
 
 -- NAMES THAT DIFFER
 
--- no slot behind bears the name of one of the first k that is not free
-pub record Alone (points : List ℕ) (k : ℕ) : Type 0 where
-  pub are : (j m : ℕ) → j < k → j < m → m < 8 → Different points j m
+pub alone_free : (points : List ℕ) (k : ℕ) → get_or points (k * 65536) 0 ≡ 0 → IsAlone points k true
+alone_free points k e = record { is = λ m a b free. absurd (false≢true (sym free ∙ is_free points k e)) }
 
-pub alone_none : (points : List ℕ) → Alone points 0
-alone_none points = record { are = λ j m a b l. absurd (omega arith) }
+pub alone_found : (points : List ℕ) (k : ℕ) (r : Option ℕ) (b : Bool) → (get_or points (k * 65536) 0 ≡ 0 → ⊥) → Found (bears (told_name (slot k points))) points (suc k) r → is_some r ≡ not b →
+    IsAlone points k b
+alone_found points k None true d f e = record { is = λ m a b free. f.before m (omega arith) b }
+alone_found points k None false d f e = absurd (false≢true e)
+alone_found points k (Some m) true d f e = absurd (false≢true (sym e))
+alone_found points k (Some m) false d f e = record { is = (m, let l = f.0.behind f.1 in omega (arith, l), f.1, not_free points k d, f.0.here f.1) }
 
-pub alone_next : (points : List ℕ) (k : ℕ) → Alone points k → ((m : ℕ) → k < m → m < 8 → Different points k m) → Alone points (k + 1)
-alone_next points k h n = record {
-  are = λ j m a b l.
-      elim (eqb_cases j k) [
-        | inl q ↦ subst (λ (i : ℕ). Different points i m) (sym q.1) (n m (let e = q.1 in omega arith) l)
-        | inr q ↦ h.are j m (let d = q.1 in omega arith) b l
-      ];
-}
-
-pub differ_behind : (points : List ℕ) (k r : ℕ) → First (bears (told_name (slot k points))) points (suc k) r → 8 ≤ r → (m : ℕ) → k < m → m < 8 → Different points k m
-differ_behind points k r f l m a b free = f.before m (omega arith) (omega arith)
-
-pub differ_free : (points : List ℕ) (k : ℕ) → get_or points (k * 65536) 0 ≡ 0 → (m : ℕ) → k < m → m < 8 → Different points k m
-differ_free points k e m a b free = absurd (false≢true (sym free ∙ is_free points k e))
+pub names_differ : (points : List ℕ) (r : Bool) → MatchBool r ((k : ℕ) → k < 8 → IsAlone points k true) ((k : ℕ) × (k < 8) × IsAlone points k false) → NamesDiffer points r
+names_differ points true h = record { is = λ k m a b. (h k (omega arith)).is m a b }
+names_differ points false h = let a = h.2.is in record { is = (h.0, a.0, a.1, a.2, a.3, a.4) }

@@ -15,61 +15,53 @@ fn bears(slot: &[u8], name: &[u8]) -> bool
     requires { C.SlotBytes slot.now }
     ensures { result ≡ C.bears name.now slot.now }
 {
-    if casts::index(slot[0]) != name.len() {
-        return false;
-    }
-    // All bytes before the one compared are equal.
-    let mut i = 0;
-    while i < name.len() {
-        if slot[i + 1] != name[i] {
-            return false;
-        }
-        i += 1;
-    }
-    true
+    let n = usize::from(slot[0]);
+    &slot[1..n + 1] == name
 }
 
-// The first slot from `from` on that bears the name, or 8.
-pub fn find_from(points: &[u8], from: usize, name: &[u8]) -> usize
-    requires { C.HasSlots points.now × (from ≤ 8) }
-    ensures { C.First (C.bears name.now) points.now from result }
-{
-    let mut k = from;
-    while k < 8 {
-        let start = k * SLOT;
-        let end = start + SLOT;
-        if bears(&points[start..end], name) {
-            return k;
-        }
-        k += 1;
-    }
-    8
-}
-
-// The lowest free slot, or 8.
-pub fn first_free(points: &[u8]) -> usize
-    requires { C.HasSlots points.now }
-    ensures { C.First C.free_slot points.now 0 result }
-{
-    let mut k = 0;
-    while k < 8 {
-        if points[k * SLOT] == 0 {
-            return k;
-        }
-        k += 1;
-    }
-    8
-}
-
-// The first slot behind slot k that bears its name, or 8.
-fn again(points: &[u8], k: usize) -> usize
+// The bytes of slot k.
+pub fn slot(points: &[u8], k: usize) -> &[u8]
     requires { C.HasSlots points.now × (k < 8) }
-    ensures { C.First (C.bears (C.told_name (slot k points.now))) points.now (suc k) result }
+    ensures bytes { result.now ≡ slot k points.now }
+    ensures long { C.SlotBytes result.now }
+{
+    let start = k * SLOT;
+    &points[start..start + SLOT]
+}
+
+// The first slot from `from` on that bears the name.
+pub fn find_from(points: &[u8], from: usize, name: &[u8]) -> Option<usize>
+    requires { C.HasSlots points.now × (from ≤ 8) }
+    ensures { C.Found (C.bears name.now) points.now from result }
+{
+    (from..8).find(|&k| bears(slot(points, k), name))
+}
+
+// The lowest free slot.
+pub fn first_free(points: &[u8]) -> Option<usize>
+    requires { C.HasSlots points.now }
+    ensures { C.Found C.free_slot points.now 0 result }
+{
+    (0..8).find(|&k| points[k * SLOT] == 0)
+}
+
+// The first slot behind slot k that bears its name.
+fn again(points: &[u8], k: usize) -> Option<usize>
+    requires { C.HasSlots points.now × (k < 8) }
+    ensures { C.Found (C.bears (C.told_name (slot k points.now))) points.now (suc k) result }
 {
     let first = k * SLOT;
     let start = first + 1;
-    let end = start + casts::index(points[first]);
+    let end = start + usize::from(points[first]);
     find_from(points, k + 1, &points[start..end])
+}
+
+// Does no slot behind slot k bear its name, if it has one?
+fn is_alone(points: &[u8], k: usize) -> bool
+    requires { C.HasSlots points.now × (k < 8) }
+    ensures { C.IsAlone points.now k result }
+{
+    points[k * SLOT] == 0 || again(points, k).is_none()
 }
 
 // Do the names of all slots that are not free differ?
@@ -77,14 +69,5 @@ pub fn names_differ(points: &[u8]) -> bool
     requires { C.HasSlots points.now }
     ensures { C.NamesDiffer points.now result }
 {
-    let mut k = 0;
-    while k < 8 {
-        if points[k * SLOT] != 0 {
-            if again(points, k) < 8 {
-                return false;
-            }
-        }
-        k += 1;
-    }
-    true
+    (0..8).all(|k| is_alone(points, k))
 }

@@ -11,6 +11,8 @@ use Rattle.paper.specs.Bits.{bits_of}
 use Rattle.paper.specs.Book.{Book, arity}
 use Rattle.paper.specs.Reader.{all_zero}
 use Rattle.paper.proofs.Bytes.{length_bits_of, bits_of_append}
+use Rattle.paper.proofs.Tests.{either}
+use mathlib.Core.Logic.{inl, inr}
 use Rattle.paper.proofs.Readers.{refused_accepted, then_accepted}
 use Rattle.flat.specs.Form.{Saved, read_saved}
 use Rattle.flat.specs.Tested.{and, point_tested}
@@ -20,11 +22,12 @@ use Rattle.parking.specs.Form.{limits, only_if, read_run}
 use Rattle.point.specs.declared.Numbers.{Numbers}
 use Rattle.point.specs.Saved.{Arrays, state, saved, Standing}
 use Rattle.point_reader.specs.Loading.{LoadedAt}
-use Rattle.point_reader.specs.declared.Loaded as L
 use Rattle.point_reader.proofs.Loading.{none_there, saved_there}
 use Rattle.point_rules.specs.Promises as P
 use Rattle.opening.specs.Promises.{zero_to_byte, OfBook, RunIs}
-use Rattle.opening.specs.declared.Opened as D
+use Rattle.opening.specs.declared.Opened.{Opened}
+use Rattle.std.specs.Bool.{then_some}
+use Rattle.std.specs.Prelude.{Option, Some, None}
 
 -- the bits of the bytes behind k of them
 bits_behind : (k : ℕ) (bytes : List ℕ) → k ≤ length bytes → drop (k * 8) (bits_of bytes) ≡ bits_of (drop k bytes)
@@ -63,13 +66,13 @@ module _ (B : Book) (bytes : List ℕ) where
 -- BY A BOOK'S TABLES
 
 module _ {B : Book} {operators : List ℕ} {n : ℕ} (o : OfBook operators n B) {part : List ℕ} (m : ℕ) (h : 4 + m ≤ length part) {a : Arrays} where
-  pub none_loaded : LoadedAt (arity_in operators) n part ((4 + m) * 8) a L.Loaded.None → RunIs B (drop (4 + m) part) operators m a D.Opened.Broken
+  pub none_loaded : LoadedAt (arity_in operators) n part ((4 + m) * 8) a None → RunIs B (drop (4 + m) part) operators m a None
   none_loaded l y e =
       let (z, f, t) = run_accepted B (drop (4 + m) part) y e in
       none_there B o.tables.operators_in o.count o.tables.good l z (ap (read_saved (arity B)) (bits_behind (4 + m) part h) ∙ f)
       ((point_tested_rules B (limits z.value.budget) z.value.parked.state).0 t)
 
-  module _ {x : Numbers} {next : ℕ} (l : LoadedAt (arity_in operators) n part ((4 + m) * 8) a (L.Loaded.Saved x next)) where
+  module _ {x : Numbers} {next : ℕ} (l : LoadedAt (arity_in operators) n part ((4 + m) * 8) a (Some (record { value = x; next = next }))) where
     -- so the rules can be tried
     pub of_point : P.OfBook operators x a B
     of_point = record {
@@ -88,13 +91,17 @@ module _ {B : Book} {operators : List ℕ} {n : ℕ} (o : OfBook operators n B) 
         (ap (read_saved (arity B)) (sym (bits_behind (4 + m) part h)) ∙ (saved_there B o.tables.operators_in o.count l).0)
 
     module _ {p : Bool} (padded : p ≡ zero_to_byte part next) where
-      pub not_padded : p ≡ false → RunIs B (drop (4 + m) part) operators m a D.Opened.Broken
+      pub not_padded : p ≡ false → RunIs B (drop (4 + m) part) operators m a None
       not_padded e y f = never (zero_to_byte part next) keeps (saved x a) y (unfold and in rw (sym padded, e) refl) (sym tried ∙ f)
 
       module _ {t : Bool} (tested : P.Decided operators x a t) (is : p ≡ true) where
-        pub not_kept : t ≡ false → RunIs B (drop (4 + m) part) operators m a D.Opened.Broken
-        not_kept e y f =
-            never (zero_to_byte part next) keeps (saved x a) y (unfold and in rw (sym padded, is, sym (tested.is B of_point), e) refl) (sym tried ∙ f)
+        -- what the rules tell
+        pub told : (r : Option Opened) → r ≡ then_some t (record { numbers = x; book = m }) → RunIs B (drop (4 + m) part) operators m a r
+        told r e = subst (RunIs B (drop (4 + m) part) operators m a) (sym e) (elim (either t) [ inl k ↦ rw k (kept k) | inr k ↦ rw k (not_kept k) ])
+          where
+            not_kept : t ≡ false → RunIs B (drop (4 + m) part) operators m a None
+            not_kept e y f =
+                never (zero_to_byte part next) keeps (saved x a) y (unfold and in rw (sym padded, is, sym (tested.is B of_point), e) refl) (sym tried ∙ f)
 
-        pub kept : t ≡ true → RunIs B (drop (4 + m) part) operators m a (D.Opened.Run x m)
-        kept e = (tried ∙ unfold and only_if in rw (sym padded, is, sym (tested.is B of_point), e) refl, of_point.standing, refl)
+            kept : t ≡ true → RunIs B (drop (4 + m) part) operators m a (Some (record { numbers = x; book = m }))
+            kept e = (tried ∙ unfold and only_if in rw (sym padded, is, sym (tested.is B of_point), e) refl, of_point.standing, refl)

@@ -1,5 +1,5 @@
 -- The bits from a position to the next whole byte, read as one field. Assumes nothing.
-use mathlib.Core.Bool.{true}
+use mathlib.Core.Bool.{Bool, true}
 use mathlib.Core.List.{List, [], ◌∷◌}
 use mathlib.Core.Path.{◌≡◌, refl, sym, ap, ◌∙◌}
 use Prim.Native.Nat.{ℕ, zero, suc, ◌+◌, ◌-◌, ◌*◌, ◌%◌, ◌^◌, ◌≤◌, ◌<◌}
@@ -17,7 +17,10 @@ use Rattle.paper.proofs.Bits.{all_take, all_drop, field_there, field_read}
 use Rattle.paper.proofs.Bytes.{bits_below}
 use Rattle.paper.proofs.Readers.{refused_accepted}
 use Rattle.paper.proofs.Tests.{eqb_false}
-use Rattle.bits.proofs.Reading.{Got, bits_left}
+use Rattle.bits.specs.declared.Bits.{Bits}
+use Rattle.bits.specs.Field.{Answers}
+use Rattle.bits.proofs.Reading.{Got, got, ran_out, bits_left}
+use Rattle.std.specs.Prelude.{Option, Some, None, MatchOption}
 use Rattle.opening.specs.Promises.{zero_to_byte}
 
 -- bits are all 0 exactly if they make 0
@@ -56,3 +59,8 @@ module _ (bytes : List ℕ) (at : ℕ) where
     padding_none h =
         let short : k ≤ length left → ⊥ = λ l. refused_accepted (sym h ∙ field_there k left (length-take-le k left l)) in
         none (let a = bits_left bytes at in omega (arith, a, e, short))
+
+    -- as the code asks: there is none, or it is 0
+    pub padding : (r : Option Bits) (b : Bool) → Answers bytes at k r → MatchOption r (b ≡ true) (λ f. b ≡ eqb f.value 0) → b ≡ zero_to_byte bytes at
+    padding (Some f) b a h = h ∙ padding_is f.value f.next (got a refl)
+    padding None b a h = h ∙ padding_none (ran_out a refl)

@@ -1,6 +1,6 @@
 -- What opening the part of a slot behind the name ensures (document 02, Change 11): reading it as in parking/specs/Form gives what stands in the arrays, or is refused.
 -- Assumes nothing.
-use Rattle.std.specs.Prelude.{Bool, List, [], ◌≡◌, ℕ, ◌+◌, ◌%◌, ◌≤◌, length, take, drop}
+use Rattle.std.specs.Prelude.{Bool, List, [], Option, Some, None, ◌≡◌, ℕ, ◌+◌, ◌%◌, ◌≤◌, length, take, drop}
 use Rattle.paper.specs.Result.{accepted, Read, Reader, return, ◌>>=◌}
 use Rattle.paper.specs.Bits.{bits_of}
 use Rattle.paper.specs.Book.{Book}
@@ -14,7 +14,7 @@ use Rattle.units.specs.Promises.{EightRegions}
 use Rattle.parking.specs.Form.{read_run, read_fields}
 use Rattle.point.specs.declared.Numbers.{Numbers}
 use Rattle.point.specs.Saved.{Arrays, saved, Standing}
-use Rattle.opening.specs.declared.Opened as D
+use Rattle.opening.specs.declared.Opened.{Opened}
 
 -- what a point is but its name
 pub record Part : Type 0 where
@@ -62,13 +62,13 @@ pub record BookRead (part operators : List ℕ) (m n : ℕ) : Type 0 where
   pub book : Book
   pub is : OfBook operators n book
 
-abbrev pub RunIs : Book → List ℕ → List ℕ → ℕ → Arrays → D.Opened → Type 0
-RunIs B bytes operators m a (D.Opened.Run x k) =
-    (read_run B bytes ≡ return (saved x a) []) × Standing (arity_in operators) (length B.operators) x a × (k ≡ m)
-RunIs B bytes operators m a D.Opened.Broken = (y : Read Saved) → read_run B bytes ≡ accepted y → ⊥
+abbrev pub RunIs : Book → List ℕ → List ℕ → ℕ → Arrays → Option Opened → Type 0
+RunIs B bytes operators m a (Some o) =
+    (read_run B bytes ≡ return (saved o.numbers a) []) × Standing (arity_in operators) (length B.operators) o.numbers a × (o.book ≡ m)
+RunIs B bytes operators m a None = (y : Read Saved) → read_run B bytes ≡ accepted y → ⊥
 
 -- r answers for the bytes behind a book of m bytes
-pub record RunOpened (part operators : List ℕ) (m n : ℕ) (a : Arrays) (r : D.Opened) : Type 0 where
+pub record RunOpened (part operators : List ℕ) (m n : ℕ) (a : Arrays) (r : Option Opened) : Type 0 where
   pub is : (B : Book) → OfBook operators n B → RunIs B (drop (4 + m) part) operators m a r
 
 -- THE PART
@@ -88,10 +88,10 @@ pub record OpenedRun (part operators rules : List ℕ) (a : Arrays) (x : Numbers
   pub day_is : day_in rules ≡ day_of part
   pub standing : Standing (arity_in operators) (length (book_of (book_in part m) rules).operators) x a
 
-abbrev pub OpenedIs : List ℕ → List ℕ → List ℕ → Arrays → D.Opened → Type 0
-OpenedIs part operators rules a (D.Opened.Run x m) = OpenedRun part operators rules a x m
-OpenedIs part operators rules a D.Opened.Broken = (y : Read Part) → read_part part ≡ accepted y → ⊥
+abbrev pub OpenedIs : List ℕ → List ℕ → List ℕ → Arrays → Option Opened → Type 0
+OpenedIs part operators rules a (Some o) = OpenedRun part operators rules a o.numbers o.book
+OpenedIs part operators rules a None = (y : Read Part) → read_part part ≡ accepted y → ⊥
 
 -- r answers for the part; the rest is what the arrays hold at exit
-pub record OpenedAs (part operators rules : List ℕ) (a : Arrays) (r : D.Opened) : Type 0 where
+pub record OpenedAs (part operators rules : List ℕ) (a : Arrays) (r : Option Opened) : Type 0 where
   pub is : OpenedIs part operators rules a r

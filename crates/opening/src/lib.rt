@@ -6,16 +6,13 @@ ghost use Rattle.units.specs.Stacks.{store};
 ghost use Rattle.point.specs.Saved.{arrays};
 ghost use Rattle.opening.specs.Promises as C;
 
-use bits::Bits;
-use book::Book;
 use point::Numbers;
-use point_reader::Loaded;
 
-// The run's numbers and the length of its book; or that the bytes break a rule.
-#[derive(Drop)]
-pub enum Opened {
-    Run(Numbers, usize),
-    Broken,
+// A run's numbers and the length of its book.
+#[derive(Clone, Copy)]
+pub struct Opened {
+    pub numbers: Numbers,
+    pub book: usize,
 }
 
 // Are the bits from position at on to the next whole byte 0?
@@ -24,16 +21,10 @@ fn padded(bytes: &[u8], at: usize) -> bool
     ensures { result ≡ C.zero_to_byte bytes.now at }
 {
     let n = at % 8;
-    if n == 0 {
-        return true;
-    }
-    match bits::field(bytes, at, 8 - n) {
-        Bits::Value(v, _) => v == 0,
-        Bits::Out => true,
-    }
+    n == 0 || bits::field(bytes, at, 8 - n).is_none_or(|f| f.value == 0)
 }
 
-// The run behind the book, which has m bytes and n operators.
+// The run behind the book, which has m bytes and n operators; none if the bytes break a rule.
 fn open_run(
     part: &[u8],
     m: usize,
@@ -43,27 +34,22 @@ fn open_run(
     work: &mut [u8],
     cells: &mut [u32; 8],
     order: &mut [u16; 1024],
-) -> Opened
+) -> Option<Opened>
     requires { C.Room part.now operators.now symbols.old order.old (store work.old cells.old) × C.BookRead part.now operators.now m n }
     ensures { C.RunOpened part.now operators.now m n
         (arrays symbols.new work.new cells.new order.new) result }
 {
-    match point_reader::load(part, (4 + m) * 8, n, operators, symbols, work, cells, order) {
-        Loaded::None => Opened::Broken,
-        Loaded::Saved(x, next) => {
-            if !padded(part, next) {
-                return Opened::Broken;
-            }
-            if point_rules::meets(operators, symbols, work, cells, order, x) {
-                Opened::Run(x, m)
-            } else {
-                Opened::Broken
-            }
-        }
+    let run = point_reader::load(part, (4 + m) * 8, n, operators, symbols, work, cells, order)?;
+    if !padded(part, run.next) {
+        return None;
     }
+    point_rules::meets(operators, symbols, work, cells, order, run.value).then_some(Opened {
+        numbers: run.value,
+        book: m,
+    })
 }
 
-// The part of a slot behind the name: two bytes, the book's length; two bytes, the day; the book; the run's fields.
+// The part of a slot behind the name: two bytes, the book's length; two bytes, the day; the book; the run's fields. None if they break a rule.
 pub fn open(
     part: &[u8],
     operators: &mut [u8; 4352],
@@ -72,19 +58,13 @@ pub fn open(
     work: &mut [u8],
     cells: &mut [u32; 8],
     order: &mut [u16; 1024],
-) -> Opened
+) -> Option<Opened>
     requires { C.Room part.now operators.old symbols.old order.old (store work.old cells.old) }
     ensures { C.OpenedAs part.now operators.new rules.new
         (arrays symbols.new work.new cells.new order.new) result }
 {
     let m = stream::pair(part, 0);
-    let end = 4 + m;
-    if part.len() < end {
-        return Opened::Broken;
-    }
-    let day = casts::short(stream::pair(part, 2));
-    match book::read_book(&part[4..end], day, operators, rules) {
-        Book::Refused(_) => Opened::Broken,
-        Book::Read(n) => open_run(part, m, n, operators, symbols, work, cells, order),
-    }
+    let day = stream::pair(part, 2) as u16;
+    let n = book::read_book(part.get(4..4 + m)?, day, operators, rules).ok()?;
+    open_run(part, m, n, operators, symbols, work, cells, order)
 }

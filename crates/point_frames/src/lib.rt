@@ -38,9 +38,7 @@ fn stack_inside(work: &[u8], cells: &[u32; 8], units: usize, n: usize, v: usize)
     requires { let k : K.Store = K.store work.now cells.now in C.Kept k units × (v < units) }
     ensures { let k : K.Store = K.store work.now cells.now in T.each_frame (λ i. test.inside n) (C.stack_in k units v) ≡ result }
 {
-    let mut h = tally::height(cells, v);
-    while 0 < h {
-        h -= 1;
+    for h in (0..tally::height(cells, v)).rev() {
         if !inside(n, tally::frame(work, cells, units, v, h)) {
             return false;
         }
@@ -52,9 +50,7 @@ fn all_inside(work: &[u8], cells: &[u32; 8], units: usize, n: usize) -> bool
     requires { let k : K.Store = K.store work.now cells.now in C.Kept k units }
     ensures { let k : K.Store = K.store work.now cells.now in T.each_below (λ v. T.each_frame (λ i. test.inside n) (C.stack_in k units v)) units ≡ result }
 {
-    let mut v = units;
-    while 0 < v {
-        v -= 1;
+    for v in (0..units).rev() {
         if !stack_inside(work, cells, units, n, v) {
             return false;
         }
@@ -220,9 +216,7 @@ fn each_frame_good(
     requires { let k : K.Store = K.store work.now cells.now in P.Readable operators.now symbols.now k units × C.ExitsTallied k units exits.now × (v < units) }
     ensures { let k : K.Store = K.store work.now cells.now in P.ByPoint operators.now symbols.now k units (λ B s. T.each_frame (T.frame_good B s v) (C.stack_in k units v)) result }
 {
-    let mut h = tally::height(cells, v);
-    while 0 < h {
-        h -= 1;
+    for h in (0..tally::height(cells, v)).rev() {
         if !frame_good(operators, symbols, work, cells, units, exits, v, h) {
             return false;
         }
@@ -256,13 +250,11 @@ fn job_takes(operators: &[u8; 4352], symbols: &[u32; 1024], job: Job, a: usize) 
     let n = tables::arity(operators, o);
     let k = job.next - 1;
     let mut p = b + 1;
-    let mut x = 0;
-    while x < n {
+    for x in 0..n {
         if is_free(operators, o, k, x, p, a) {
             return true;
         }
         p += term::size_at(symbols, p);
-        x += 1;
     }
     false
 }
@@ -365,14 +357,12 @@ fn stack_good(
     requires { let k : K.Store = K.store work.now cells.now in P.Readable operators.now symbols.now k units × (v < units) }
     ensures { let k : K.Store = K.store work.now cells.now in P.ByPoint operators.now symbols.now k units (λ B s. T.stack_good B s v (C.stack_in k units v)) result }
 {
-    let mut h = tally::height(cells, v);
-    if h == 0 {
+    let height = tally::height(cells, v);
+    if height == 0 {
         return false;
     }
-    h -= 1;
-    let mut f = tally::frame(work, cells, units, v, h);
-    while 0 < h {
-        h -= 1;
+    let mut f = tally::frame(work, cells, units, v, height - 1);
+    for h in (0..height - 1).rev() {
         let below = tally::frame(work, cells, units, v, h);
         if !stands_on(operators, symbols, work, cells, units, f, below) {
             return false;
@@ -395,9 +385,7 @@ fn each_unit_good(
     requires { let k : K.Store = K.store work.now cells.now in P.Readable operators.now symbols.now k units × C.ExitsTallied k units exits.now }
     ensures { let k : K.Store = K.store work.now cells.now in P.ByPoint operators.now symbols.now k units (λ B s. T.each_below (test.stack_tested B s) units) result }
 {
-    let mut v = units;
-    while 0 < v {
-        v -= 1;
+    for v in (0..units).rev() {
         if !stack_good(operators, symbols, work, cells, units, v) {
             return false;
         }

@@ -80,9 +80,7 @@ pub fn from(operators: &[u8; 4352], o: u8, k: u8) -> Rest
     ensures { Told (drop k (steps_in operators.now o)) result }
 {
     let mut r = none();
-    let mut i: u8 = 16;
-    while k < i {
-        i -= 1;
+    for i in (k..16).rev() {
         r = prepended(tables::step_at(operators, o, i), r);
     }
     r
@@ -104,12 +102,10 @@ pub fn is_unnamed(operators: &[u8; 4352], o: u8, k: u8, x: usize) -> bool
     requires { Rowed operators.now o }
     ensures { unnamed x (drop k (steps_in operators.now o)) ≡ result }
 {
-    let mut i = k;
-    while i < 16 {
+    for i in k..16 {
         if names(tables::step_at(operators, o, i), x) {
             return false;
         }
-        i += 1;
     }
     true
 }

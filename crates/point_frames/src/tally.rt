@@ -21,10 +21,8 @@ pub fn frame(work: &[u8], cells: &[u32; 8], units: usize, v: usize, i: usize) ->
     requires { let k : K.Store = K.store work.now cells.now in C.Kept k units }
     ensures { let k : K.Store = K.store work.now cells.now in (C.frame_in k units v i ≡ flat result) × InThreeBytes (flat result) }
 {
-    if v < units {
-        if i < height(cells, v) {
-            return frames::frame_at(work, frames::base_of(v) + 3 * i);
-        }
+    if v < units && i < height(cells, v) {
+        return frames::frame_at(work, frames::base_of(v) + 3 * i);
     }
     Frame::Sleep
 }
@@ -35,7 +33,7 @@ fn count_job(jobs: &mut [u16; 1024], job: Job)
     ensures { C.JobsAdded (C.jobs_of (F.Frame.job job.offset job.next job.count ∷ [])) jobs.old jobs.new }
 {
     let a = casts::offset(job.offset);
-    jobs[a] = jobs[a] + 1;
+    jobs[a] += 1;
 }
 
 // An EXIT more for the frame that it names, if there is one.
@@ -45,11 +43,9 @@ fn count_exit(cells: &[u32; 8], units: usize, exits: &mut [u16; 8208], exit: Exi
 {
     let v = casts::index(exit.unit);
     let i = casts::offset(exit.index);
-    if v < units {
-        if i < height(cells, v) {
-            let k = v * frames::HEIGHT + i;
-            exits[k] = exits[k] + 1;
-        }
+    if v < units && i < height(cells, v) {
+        let k = v * frames::HEIGHT + i;
+        exits[k] += 1;
     }
 }
 
@@ -85,9 +81,7 @@ fn count_stack(
     ensures jobs_added { let k : K.Store = K.store work.now cells.now in C.JobsAdded (C.jobs_of (C.stack_in k units v)) jobs.old jobs.new }
     ensures exits_added { let k : K.Store = K.store work.now cells.now in C.ExitsAdded cells.now units (C.exits_of (C.stack_in k units v)) exits.old exits.new }
 {
-    let mut h = height(cells, v);
-    while 0 < h {
-        h -= 1;
+    for h in (0..height(cells, v)).rev() {
         count(cells, units, jobs, exits, frame(work, cells, units, v, h));
     }
 }
@@ -103,9 +97,7 @@ pub fn count_all(
     requires { let k : K.Store = K.store work.now cells.now in C.Kept k units × (jobs.old ≡ replicate 1024 0) × (exits.old ≡ replicate 8208 0) }
     ensures { let k : K.Store = K.store work.now cells.now in C.JobsTallied k units jobs.new × C.ExitsTallied k units exits.new }
 {
-    let mut v = units;
-    while 0 < v {
-        v -= 1;
+    for v in (0..units).rev() {
         count_stack(work, cells, units, jobs, exits, v);
     }
 }
@@ -115,9 +107,7 @@ pub fn distinct(jobs: &[u16; 1024], n: usize) -> bool
     requires { n ≤ 1024 }
     ensures { each_below (λ x. leb (get_or jobs.now x 0) 1) n ≡ result }
 {
-    let mut x = n;
-    while 0 < x {
-        x -= 1;
+    for x in (0..n).rev() {
         if 1 < jobs[x] {
             return false;
         }

@@ -14,7 +14,8 @@ use Rattle.units.specs.Stacks.{stack_of}
 use Rattle.units.specs.declared.frames.Exit.{Exit}
 use Rattle.units.proofs.Stacks.{length_stack}
 use Rattle.point_order.specs.Passing.{highest_exit}
-use Rattle.point_order.specs.declared.Highest.{Highest}
+use Rattle.point_order.specs.declared.Held.{Held}
+use Rattle.std.specs.Prelude.{Some, None}
 use Rattle.point_order.proofs.Tests.{and_true}
 
 exits_cons : (f : Frame) (fs : List Frame) → exits_in (f ∷ fs) ≡ exits_in (f ∷ []) + exits_in fs
@@ -74,12 +75,12 @@ module _ (w : List ℕ) (from : ℕ) where
       ap (λ (k : ℕ). exits_in (take k (stack_of w from h))) z
 
   -- the highest EXIT: there is none; it is the one with index j
-  pub highest_none : (k : ℕ) → highest_exit (stack_of w from k) ≡ Highest.None → exits k ≡ 0
+  pub highest_none : (k : ℕ) → highest_exit (stack_of w from k) ≡ None → exits k ≡ 0
   unfolding stack_of exits_in highest_exit
   highest_none zero e = refl
   highest_none (suc k) e = go (highest_none k) (frame k) e
     where
-      go : (highest_exit (stack_of w from k) ≡ Highest.None → exits k ≡ 0) → (f : Frame) → highest_exit (f ∷ stack_of w from k) ≡ Highest.None →
+      go : (highest_exit (stack_of w from k) ≡ None → exits k ≡ 0) → (f : Frame) → highest_exit (f ∷ stack_of w from k) ≡ None →
           exits_in (f ∷ stack_of w from k) ≡ 0
       go below (Frame.job a n c) z = below z
       go below (Frame.exit v i) z = let q : ◌≡◌ {A = ℕ} 0 1 = cc in absurd (omega arith)
@@ -91,7 +92,7 @@ module _ (w : List ℕ) (from : ℕ) where
     pub is : frame j ≡ Frame.exit x.unit x.index
     pub last : exits (suc j) ≡ exits k
 
-  pub highest_at : (k j : ℕ) (x : Exit) → highest_exit (stack_of w from k) ≡ Highest.Exit j x → HighestAt k j x
+  pub highest_at : (k j : ℕ) (x : Exit) → highest_exit (stack_of w from k) ≡ Some (record { index = j; exit = x }) → HighestAt k j x
   unfolding stack_of exits_in highest_exit
   highest_at zero j x e = let q : ◌≡◌ {A = ℕ} 0 1 = cc in absurd (omega arith)
   highest_at (suc k) j x e = go (λ d z. lower d (highest_at k j x z)) (frame k) refl e
@@ -99,11 +100,12 @@ module _ (w : List ℕ) (from : ℕ) where
       lower : exits (suc k) ≡ exits k → HighestAt k j x → HighestAt (suc k) j x
       lower d h = record { below = omega (arith, h.below); is = h.is; last = h.last ∙ sym d }
 
-      go : (exits (suc k) ≡ exits k → highest_exit (stack_of w from k) ≡ Highest.Exit j x → HighestAt (suc k) j x) → (f : Frame) → frame k ≡ f → highest_exit (f ∷ stack_of w from k) ≡ Highest.Exit j x → HighestAt (suc k) j x
+      go : (exits (suc k) ≡ exits k → highest_exit (stack_of w from k) ≡ Some (record { index = j; exit = x }) → HighestAt (suc k) j x) → (f : Frame) → frame k ≡ f → highest_exit (f ∷ stack_of w from k) ≡ Some (record { index = j; exit = x }) → HighestAt (suc k) j x
       go below (Frame.job a n c) d z = below (ap (λ (g : Frame). exits_in (g ∷ stack_of w from k)) d) z
       go below (Frame.exit v i) d z =
-          let a : length (stack_of w from k) ≡ j = cc in
-          let b : ◌≡◌ {A = Exit} (record { unit = v; index = i }) x = cc in
+          let y : ◌≡◌ {A = Held} (record { index = length (stack_of w from k); exit = record { unit = v; index = i } }) (record { index = j; exit = x }) = cc in
+          let a : length (stack_of w from k) ≡ j = ap (λ (h : Held). h.index) y in
+          let b : ◌≡◌ {A = Exit} (record { unit = v; index = i }) x = ap (λ (h : Held). h.exit) y in
           let c : k ≡ j = sym (length_stack w from k) ∙ a in
           record {
             below = omega arith;

@@ -20,7 +20,8 @@ use Rattle.units.proofs.Stacks.{length_stack, top}
 use Rattle.placing.specs.Order.{latest_first}
 use Rattle.point_order.specs.Passing.{highest_exit, part_of, lowered, without, stands, holds, none_left, takes, passes}
 use Rattle.point_order.specs.Promises.{FoundBelow, TopsFit, HeightsOf, PartTaken}
-use Rattle.point_order.specs.declared.Highest.{Highest}
+use Rattle.point_order.specs.declared.Held.{Held}
+use Rattle.std.specs.Prelude.{Option, Some, None}
 
 -- HEIGHTS
 
@@ -45,10 +46,10 @@ module _ (w : List ℕ) (from k m : ℕ) (e : m ≡ k + 1) (z : D.Frame) (d : fl
   highest_next : highest_exit (stack_of w from m) ≡ highest_exit (flat z ∷ stack_of w from k)
   highest_next = ap highest_exit (top w from m k (from + 3 * k) e refl ∙ ap (λ (f : F.Frame). f ∷ stack_of w from k) (sym d))
 
-  pub highest_here : (x : Exit) → z ≡ D.Frame.Exit x → highest_exit (stack_of w from m) ≡ Highest.Exit k x
+  pub highest_here : (x : Exit) → z ≡ D.Frame.Exit x → highest_exit (stack_of w from m) ≡ Some (record { index = k; exit = x })
   unfolding highest_exit
   highest_here x q =
-      highest_next ∙ ap (λ (y : D.Frame). highest_exit (flat y ∷ stack_of w from k)) q ∙ ap (λ (n : ℕ). Highest.Exit n x) (length_stack w from k)
+      highest_next ∙ ap (λ (y : D.Frame). highest_exit (flat y ∷ stack_of w from k)) q ∙ ap (λ (n : ℕ). Some (record { index = n; exit = x })) (length_stack w from k)
 
   pub highest_past : ((x : Exit) → z ≡ D.Frame.Exit x → ⊥) → highest_exit (stack_of w from m) ≡ highest_exit (stack_of w from k)
   unfolding highest_exit
@@ -64,7 +65,7 @@ module _ (w : List ℕ) (from k m : ℕ) (e : m ≡ k + 1) (z : D.Frame) (d : fl
 pub exit_unit : (z : D.Frame) (x : Exit) → InThreeBytes (flat z) → z ≡ D.Frame.Exit x → x.unit < 8
 exit_unit z x l q = (rw q at l).0
 
-pub highest_end : (w : List ℕ) (from k : ℕ) → k ≡ 0 → highest_exit (stack_of w from k) ≡ Highest.None
+pub highest_end : (w : List ℕ) (from k : ℕ) → k ≡ 0 → highest_exit (stack_of w from k) ≡ None
 unfolding highest_exit stack_of
 highest_end w from k e = rw e
 
@@ -83,11 +84,11 @@ module _ (cells tops : List ℕ) (u i v at : ℕ) (d : v ≡ u) (e : at ≡ i) w
 
 -- THE LATEST PART
 
-pub found_below : (h j : ℕ) (x : Exit) (r : Highest) → FoundBelow h r → r ≡ Highest.Exit j x → (j < h) × (x.unit < 8)
-found_below h j x r l q = rw q at l
+pub found_below : (h : ℕ) (y : Held) (r : Option Held) → FoundBelow h r → r ≡ Some y → (y.index < h) × (y.exit.unit < 8)
+found_below h y r l q = rw q at l
 
 -- the EXIT that was found is the part's
-pub part_is : (w tops : List ℕ) (v from : ℕ) {r x : Highest} → from ≡ base v → r ≡ highest_exit (stack_of w from (get_or tops v 0)) → r ≡ x → part_of w tops v ≡ x
+pub part_is : (w tops : List ℕ) (v from : ℕ) {r x : Option Held} → from ≡ base v → r ≡ highest_exit (stack_of w from (get_or tops v 0)) → r ≡ x → part_of w tops v ≡ x
 part_is w tops v from d e q = ap (λ (k : ℕ). highest_exit (stack_of w k (get_or tops v 0))) (sym d) ∙ sym e ∙ q
 
 module _ (s : Store) (n v : ℕ) (tops : List ℕ) (fit : TopsFit tops) where
@@ -99,20 +100,20 @@ module _ (s : Store) (n v : ℕ) (tops : List ℕ) (fit : TopsFit tops) where
     fit = fit;
   }
 
-  taken_if : (x : Highest) → v < n → part_of s.work tops v ≡ x → takes s n tops v ≡ holds s.cells (lowered x v tops) x
+  taken_if : (x : Option Held) → v < n → part_of s.work tops v ≡ x → takes s n tops v ≡ holds s.cells (lowered x v tops) x
   unfolding and
   taken_if x l q =
       ap (λ (b : Bool). and b (holds s.cells (without s.work tops v) (part_of s.work tops v))) (lt-ltb v n l)
-      ∙ ap (λ (y : Highest). holds s.cells (lowered y v tops) y) q
+      ∙ ap (λ (y : Option Held). holds s.cells (lowered y v tops) y) q
 
-  pub part_missing : v < n → part_of s.work tops v ≡ Highest.None → PartTaken s n v tops tops false
-  part_missing l q = record { is = sym (taken_if Highest.None l q); left = λ e. absurd (false≢true e); fit = fit }
+  pub part_missing : v < n → part_of s.work tops v ≡ None → PartTaken s n v tops tops false
+  part_missing l q = record { is = sym (taken_if None l q); left = λ e. absurd (false≢true e); fit = fit }
 
-  pub part_found : {r : Bool} (j : ℕ) (x : Exit) → v < n → v < 8 → j ≤ height → part_of s.work tops v ≡ Highest.Exit j x →
+  pub part_found : {r : Bool} (j : ℕ) (x : Exit) → v < n → v < 8 → j ≤ height → part_of s.work tops v ≡ Some (record { index = j; exit = x }) →
       r ≡ stands s.cells (set tops v j) x.unit x.index → PartTaken s n v tops (set tops v j) r
   part_found j x l m h q e = record {
-    is = e ∙ sym (taken_if (Highest.Exit j x) l q);
-    left = λ d. ap (λ (y : Highest). lowered y v tops) (sym q);
+    is = e ∙ sym (taken_if (Some (record { index = j; exit = x })) l q);
+    left = λ d. ap (λ (y : Option Held). lowered y v tops) (sym q);
     fit = record {
       eight = length-set tops v j ∙ fit.eight;
       within = λ u.

@@ -26,7 +26,8 @@ use Rattle.units.proofs.Units.{unit_at}
 use Rattle.placing.specs.Order.{placed_in}
 use Rattle.point_order.specs.Passing.{part_of, lowered, stands, holds, is_none, none_left, passes}
 use Rattle.point_order.specs.Promises.{HeightsOf, OrderDecided}
-use Rattle.point_order.specs.declared.Highest.{Highest}
+use Rattle.point_order.specs.declared.Held.{Held}
+use Rattle.std.specs.Prelude.{Option, Some, None}
 use Rattle.point_order.proofs.Tests.{and_true, and_false, or_true, and_later, below_same, below_false}
 use Rattle.point_order.proofs.Exits.{exits, frame, exits_exit, exits_upto, exits_above, none_above, highest_none, highest_at, HighestAt, one_frame}
 
@@ -124,7 +125,7 @@ module _ (B : Book) (z : FlatState) (s : Store) (n : ℕ) (e : z.units ≡ units
 
   -- A PART
 
-  module _ {later tops : List ℕ} (p : Off later tops) (v j : ℕ) (x : Exit) (l : v < n) (q : part_of w tops v ≡ Highest.Exit j x) where
+  module _ {later tops : List ℕ} (p : Off later tops) (v j : ℕ) (x : Exit) (l : v < n) (q : part_of w tops v ≡ Some (record { index = j; exit = x })) where
     abbrev T : ℕ
     T = get_or tops v 0
 
@@ -221,9 +222,9 @@ module _ (B : Book) (z : FlatState) (s : Store) (n : ℕ) (e : z.units ≡ units
   none_is : {later tops : List ℕ} → Off later tops → none_left w n tops ≡ Counts later
   none_is {later} {tops} p = below_same _ _ n (λ v l. go v l (part_of w tops v) refl)
     where
-      go : (v : ℕ) → v < n → (x : Highest) → part_of w tops v ≡ x → is_none x ≡ eqb (exits_in (stack z v)) (times v later)
-      go v l (Highest.Exit j x) q = sym (ne_eqb (exits_in (stack z v)) (times v later) (λ d. omega (arith, d, exits_all v l, p.counted v, one_less p v j x l q)))
-      go v l Highest.None q = sym (eq-eqb (exits_in (stack z v)) (times v later) (omega (arith, exits_all v l, p.counted v, highest_none w (base v) (get_or tops v 0) q)))
+      go : (v : ℕ) → v < n → (x : Option Held) → part_of w tops v ≡ x → is_none x ≡ eqb (exits_in (stack z v)) (times v later)
+      go v l (Some y) q = sym (ne_eqb (exits_in (stack z v)) (times v later) (λ d. omega (arith, d, exits_all v l, p.counted v, one_less p v y.index y.exit l q)))
+      go v l None q = sym (eq-eqb (exits_in (stack z v)) (times v later) (omega (arith, exits_all v l, p.counted v, highest_none w (base v) (get_or tops v 0) q)))
 
   pub passes_is : (later before tops all : List ℕ) → Off later tops → all ≡ later ++ before →
       passes s n tops before ≡ and (each_of (λ v. ltb v n) before) (and (Counts all) (order_good B z later before))
@@ -235,18 +236,18 @@ module _ (B : Book) (z : FlatState) (s : Store) (n : ℕ) (e : z.units ≡ units
         | inr a ↦ rw a.0
       ]
     where
-      go : ((j : ℕ) (x : Exit) → part_of w tops v ≡ Highest.Exit j x →
+      go : ((j : ℕ) (x : Exit) → part_of w tops v ≡ Some (record { index = j; exit = x }) →
           passes s n (set tops v j) before ≡ and (each_of (λ v. ltb v n) before) (and (Counts all) (order_good B z (later ++ (v ∷ [])) before))) →
-          v < n → (y : Highest) → part_of w tops v ≡ y →
+          v < n → (y : Option Held) → part_of w tops v ≡ y →
           and (holds s.cells (lowered (part_of w tops v) v tops) (part_of w tops v)) (passes s n (lowered (part_of w tops v) v tops) before)
           ≡ and (each_of (λ v. ltb v n) before)
           (and (Counts all) (and (each_frame (part_good B z later v) (stack z v)) (order_good B z (later ++ (v ∷ [])) before)))
-      go next l (Highest.Exit j x) q =
-          ap (λ (y : Highest). and (holds s.cells (lowered y v tops) y) (passes s n (lowered y v tops) before)) q
-          ∙ ap₂ and (sym (part_is p v j x l q)) (next j x q)
+      go next l (Some e) q =
+          ap (λ (y : Option Held). and (holds s.cells (lowered y v tops) y) (passes s n (lowered y v tops) before)) q
+          ∙ ap₂ and (sym (part_is p v e.index e.exit l q)) (next e.index e.exit q)
           ∙ and_later (each_frame (part_good B z later v) (stack z v)) (each_of (λ v. ltb v n) before) (Counts all) (order_good B z (later ++ (v ∷ [])) before)
-      go next l Highest.None q =
-          ap (λ (y : Highest). and (holds s.cells (lowered y v tops) y) (passes s n (lowered y v tops) before)) q
+      go next l None q =
+          ap (λ (y : Option Held). and (holds s.cells (lowered y v tops) y) (passes s n (lowered y v tops) before)) q
           ∙ sym (and_false (each_of (λ v. ltb v n) before))
           ∙ ap (λ (b : Bool). and (each_of (λ v. ltb v n) before) (and b (and (each_frame (part_good B z later v) (stack z v)) (order_good B z (later ++ (v ∷ [])) before))))
           (sym (below_false (λ u. eqb (exits_in (stack z u)) (times u all)) n v l

@@ -1,28 +1,28 @@
 -- How the order of placing is tried (document 02, Change 11: "20 if a point in it breaks a rule"): the pending parts are taken off their units' stacks, the latest
 -- first. Of unit v's stack as many frames are left as `tops` says; a part's EXIT is the highest one that is left, and the job that it names must be left too. That
 -- this decides the rules of flat/specs/Tested is proved in proofs/Order. Assumes nothing.
-use Rattle.std.specs.Prelude.{Bool, true, false, List, [], ◌∷◌, ℕ, eqb, ltb, length, get_or, set}
+use Rattle.std.specs.Prelude.{Bool, true, false, Option, Some, None, List, [], ◌∷◌, ℕ, eqb, ltb, length, get_or, set}
 use Rattle.flat.specs.Machine.{Frame}
 use Rattle.flat.specs.Tested.{and, or, each_below}
 use Rattle.units.specs.Stacks.{base, stack_of, height_in, Store}
-use Rattle.point_order.specs.declared.Highest.{Highest}
+use Rattle.point_order.specs.declared.Held.{Held}
 
 -- the highest EXIT of a stack, with its index
-unfoldable pub highest_exit : List Frame → Highest
-highest_exit [] = Highest.None
+unfoldable pub highest_exit : List Frame → Option Held
+highest_exit [] = None
 highest_exit (Frame.job a k c ∷ fs) = highest_exit fs
-highest_exit (Frame.exit w i ∷ fs) = Highest.Exit (length fs) (record { unit = w; index = i })
+highest_exit (Frame.exit w i ∷ fs) = Some (record { index = length fs; exit = record { unit = w; index = i } })
 highest_exit (Frame.sleep ∷ fs) = highest_exit fs
 highest_exit (Frame.bingo ∷ fs) = highest_exit fs
 
 -- the highest EXIT that is left of unit v's stack
-abbrev pub part_of : List ℕ → List ℕ → ℕ → Highest
+abbrev pub part_of : List ℕ → List ℕ → ℕ → Option Held
 part_of work tops v = highest_exit (stack_of work (base v) (get_or tops v 0))
 
 -- the tops when unit v's part with that EXIT is taken off
-abbrev pub lowered : Highest → ℕ → List ℕ → List ℕ
-lowered (Highest.Exit j x) v tops = set tops v j
-lowered Highest.None v tops = tops
+abbrev pub lowered : Option Held → ℕ → List ℕ → List ℕ
+lowered (Some y) v tops = set tops v y.index
+lowered None v tops = tops
 
 abbrev pub without : List ℕ → List ℕ → ℕ → List ℕ
 without work tops v = lowered (part_of work tops v) v tops
@@ -32,13 +32,13 @@ abbrev pub stands : List ℕ → List ℕ → ℕ → ℕ → Bool
 stands cells tops w i = or (ltb i (get_or tops w 0)) (eqb (get_or tops w 0) (height_in cells w))
 
 -- there is an EXIT, and the job that it names is left
-abbrev pub holds : List ℕ → List ℕ → Highest → Bool
-holds cells tops (Highest.Exit j x) = stands cells tops x.unit x.index
-holds cells tops Highest.None = false
+abbrev pub holds : List ℕ → List ℕ → Option Held → Bool
+holds cells tops (Some y) = stands cells tops y.exit.unit y.exit.index
+holds cells tops None = false
 
-abbrev pub is_none : Highest → Bool
-is_none (Highest.Exit j x) = false
-is_none Highest.None = true
+abbrev pub is_none : Option Held → Bool
+is_none (Some y) = false
+is_none None = true
 
 -- no EXIT is left on the stacks of n units
 abbrev pub none_left : List ℕ → ℕ → List ℕ → Bool

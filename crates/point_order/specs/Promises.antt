@@ -1,5 +1,5 @@
 -- What the functions ask and ensure: tests of flat/specs/Tested, for every state and book that the arrays are of. Assumes nothing.
-use Rattle.std.specs.Prelude.{Bool, true, List, [], ◌∷◌, ◌≡◌, ℕ, suc, ◌≤◌, ◌<◌, eqb, ltb, length, get_or}
+use Rattle.std.specs.Prelude.{Option, Some, None, Bool, true, List, [], ◌∷◌, ◌≡◌, ℕ, suc, ◌≤◌, ◌<◌, eqb, ltb, length, get_or}
 use Rattle.paper.specs.Book.{Book, steps}
 use Rattle.paper.specs.Idle.{times}
 use Rattle.flat.specs.Machine.{Frame, FlatState, idle_count}
@@ -11,7 +11,7 @@ use Rattle.units.specs.Stacks.{height, height_in, units_of, Store, units_in, uni
 use Rattle.units.specs.declared.frames.Job.{Job}
 use Rattle.placing.specs.Order.{placed_in}
 use Rattle.point_order.specs.Passing.{without, takes}
-use Rattle.point_order.specs.declared.Highest.{Highest}
+use Rattle.point_order.specs.declared.Held.{Held}
 
 -- THE ORDER OF PLACING
 
@@ -26,9 +26,9 @@ pub record HeightsOf (c tops : List ℕ) : Type 0 where
   pub are : (u : ℕ) → u < 8 → get_or tops u 0 ≡ height_in c u
 
 -- an EXIT that was found of h frames: its index is below h, its unit one of eight
-abbrev pub FoundBelow : ℕ → Highest → Type 0
-FoundBelow h (Highest.Exit j x) = (j < h) × (x.unit < 8)
-FoundBelow h Highest.None = Unit {0}
+abbrev pub FoundBelow : ℕ → Option Held → Type 0
+FoundBelow h (Some y) = (y.index < h) × (y.exit.unit < 8)
+FoundBelow h None = Unit {0}
 
 -- the latest part, of unit v, of n units, was taken off: r says whether it may be, and if so, what is left
 pub record PartTaken (s : Store) (n v : ℕ) (tops tops' : List ℕ) (r : Bool) : Type 0 where

@@ -28,36 +28,29 @@ fn heights(cells: &[u32; 8], tops: &mut [usize; 8])
     requires { (length tops.old ≡ 8) × ((u : ℕ) → u < 8 → K.base u ≤ K.end_in cells.now u) }
     ensures { C.HeightsOf cells.now tops.new }
 {
-    let mut u = 0;
-    while u < 8 {
+    for u in 0..8 {
         tops[u] = height(cells, u);
-        u += 1;
     }
 }
 
-// The highest EXIT of some frames, with its index.
-#[derive(Drop)]
-enum Highest {
-    Exit(usize, Exit),
-    None,
+// An EXIT among some frames, with its index.
+#[derive(Clone, Copy)]
+struct Held {
+    index: usize,
+    exit: Exit,
 }
 
-// Of the h frames from a place on.
-fn highest_exit(work: &[u8], from: usize, h: usize) -> Highest
+// The highest EXIT of the h frames from a place on.
+fn highest_exit(work: &[u8], from: usize, h: usize) -> Option<Held>
     requires { (from + 3 * h ≤ length work.now) × (h ≤ K.height) }
     ensures { (result ≡ P.highest_exit (K.stack_of work.now from h)) × C.FoundBelow h result }
 {
-    let mut k = h;
-    while 0 < k {
-        k -= 1;
-        match units::frames::frame_at(work, from + 3 * k) {
-            Frame::Exit(exit) => {
-                return Highest::Exit(k, exit);
-            }
-            _ => {}
+    for k in (0..h).rev() {
+        if let Frame::Exit(exit) = units::frames::frame_at(work, from + 3 * k) {
+            return Some(Held { index: k, exit });
         }
     }
-    Highest::None
+    None
 }
 
 // Does the job that an EXIT names stand below the parts that were taken off its unit's stack? It does if none was.
@@ -82,11 +75,11 @@ fn take_part(work: &[u8], cells: &[u32; 8], units: usize, tops: &mut [usize; 8],
         return false;
     }
     match highest_exit(work, units::frames::base_of(v), tops[v]) {
-        Highest::Exit(j, exit) => {
-            tops[v] = j;
-            stands(cells, tops, exit)
+        Some(held) => {
+            tops[v] = held.index;
+            stands(cells, tops, held.exit)
         }
-        Highest::None => false,
+        None => false,
     }
 }
 
@@ -95,14 +88,9 @@ fn none_left(work: &[u8], units: usize, tops: &[usize; 8]) -> bool
     requires { (3 * (8 * K.height) ≤ length work.now) × (units ≤ 8) × C.TopsFit tops.now }
     ensures { result ≡ P.none_left work.now units tops.now }
 {
-    let mut v = units;
-    while 0 < v {
-        v -= 1;
-        match highest_exit(work, units::frames::base_of(v), tops[v]) {
-            Highest::Exit(_, _) => {
-                return false;
-            }
-            Highest::None => {}
+    for v in (0..units).rev() {
+        if highest_exit(work, units::frames::base_of(v), tops[v]).is_some() {
+            return false;
         }
     }
     true
@@ -115,12 +103,10 @@ pub fn order_good(work: &[u8], cells: &[u32; 8], units: usize, order: &[u16; 102
 {
     let mut tops = [0; 8];
     heights(cells, &mut tops);
-    let mut k = casts::offset(order[0]);
-    while 0 < k {
-        if !take_part(work, cells, units, &mut tops, casts::offset(order[k])) {
+    for k in (0..usize::from(order[0])).rev() {
+        if !take_part(work, cells, units, &mut tops, usize::from(order[k + 1])) {
             return false;
         }
-        k -= 1;
     }
     none_left(work, units, &tops)
 }
@@ -139,9 +125,7 @@ fn of_rank(cells: &[u32; 8], count: usize, r: usize) -> usize
     ensures { C.RankCounted cells.now count r result }
 {
     let mut n = 0;
-    let mut v = count;
-    while 0 < v {
-        v -= 1;
+    for v in (0..count).rev() {
         if rank(cells, v) == r {
             n += 1;
         }
@@ -154,12 +138,10 @@ fn each_once(cells: &[u32; 8], units: usize, n: usize) -> bool
     requires { units ≤ 8 }
     ensures { C.EachOnce cells.now units n result }
 {
-    let mut r = n;
-    while 0 < r {
-        if of_rank(cells, units, r) != 1 {
+    for r in (0..n).rev() {
+        if of_rank(cells, units, r + 1) != 1 {
             return false;
         }
-        r -= 1;
     }
     true
 }
@@ -170,9 +152,10 @@ fn operator_of(symbols: &[u32; 1024], a: usize) -> u8
     ensures { result ≡ get_or (operators_in symbols.now) a 0 }
 {
     if a < term::length(symbols) {
-        return term::operator_at(symbols, a);
+        term::operator_at(symbols, a)
+    } else {
+        0
     }
-    0
 }
 
 // Is step k of operator o a JOIN?
@@ -261,9 +244,7 @@ fn each_rank_good(
     requires { C.Readable operators.now symbols.now × U.StacksFit (K.store work.now cells.now) × (units ≤ 8) × C.IdleAre cells.now units n }
     ensures { C.EachRankDecided operators.now symbols.now (K.store work.now cells.now) units result }
 {
-    let mut v = units;
-    while 0 < v {
-        v -= 1;
+    for v in (0..units).rev() {
         if !rank_good(operators, symbols, work, cells, units, n, v) {
             return false;
         }

@@ -9,6 +9,8 @@ use borrow.Author.Tests.{ne_eqb}
 use lib.ListN.{length, take, drop, length-append, length-take, length-drop}
 use lib.Pow.{pow-add}
 use lib.Seq.{take-add, drop-drop, length-take-le}
+use Rattle.std.specs.Prelude.{Option, Some, None}
+use Rattle.point_reader.specs.declared.Taken.{Taken}
 use Rattle.paper.specs.Result.{refused, Read, return, refuse}
 use Rattle.paper.specs.Bits.{value, bits_of, field}
 use Rattle.paper.proofs.Bits.{field_there, field_read, field_bounded, all_drop}
@@ -18,7 +20,6 @@ use Rattle.paper.proofs.Tests.{ltb_cases}
 use Rattle.bits.proofs.Reading.{Got}
 use Rattle.side.specs.Promises.{bits_at}
 use Rattle.point_reader.specs.Promises.{NumberAt}
-use Rattle.point_reader.specs.declared.Number.{Number}
 
 -- TWO PARTS
 
@@ -81,14 +82,14 @@ pub record Told (bytes : List ℕ) (at n v next : ℕ) : Type 0 where
   pub is : field n (bits_at bytes at) ≡ return v (bits_at bytes next)
   pub small : v < 2 ^ n
 
-module _ {bytes : List ℕ} {at n : ℕ} {r : Number} (a : NumberAt bytes at n r) where
-  pub told : {v next : ℕ} → r ≡ Number.Value v next → Told bytes at n v next
+module _ {bytes : List ℕ} {at n : ℕ} {r : Option (Taken ℕ)} (a : NumberAt bytes at n r) where
+  pub told : {t : Taken ℕ} → r ≡ Some t → Told bytes at n t.value t.next
   unfolding return
-  told {v} {next} e =
+  told e =
       let is = sym (rw e at a.is) in
       record { is = is; small = (field_bounded n (bits_at bytes at) _ (all_drop at (bits_of bytes) (bits_below bytes)) is).0 }
 
-  pub untold : r ≡ Number.Out → field n (bits_at bytes at) ≡ refused 1
+  pub untold : r ≡ None → field n (bits_at bytes at) ≡ refused 1
   untold e = sym (rw e at a.is)
 
 pub got_told : {bytes : List ℕ} {at n v next : ℕ} → Got bytes at n v next → Told bytes at n v next
@@ -96,15 +97,15 @@ got_told g = record { is = g.is; small = g.small }
 
 -- what two fields tell of one
 module _ {bytes : List ℕ} {at : ℕ} (n m : ℕ) where
-  pub number_both : {a b p next : ℕ} → Told bytes at n a p → Told bytes p m b next → (v : ℕ) → v ≡ a * 2 ^ m + b → NumberAt bytes at (n + m) (Number.Value v next)
+  pub number_both : {a b p next : ℕ} → Told bytes at n a p → Told bytes p m b next → (v : ℕ) → v ≡ a * 2 ^ m + b → NumberAt bytes at (n + m) (Some (record { value = v; next = next }))
   unfolding return
   number_both {a} {b} {p} {next} e f v z = record {
     is = ap (λ (k : ℕ). return k (bits_at bytes next)) z
         ∙ sym (field_both n m (bits_at bytes at) a b (bits_at bytes p) (bits_at bytes next) e.is f.is);
   }
 
-  pub number_first : field n (bits_at bytes at) ≡ refused 1 → NumberAt bytes at (n + m) Number.Out
+  pub number_first : field n (bits_at bytes at) ≡ refused 1 → NumberAt bytes at (n + m) None
   number_first e = record { is = sym (field_first_out n m (bits_at bytes at) e) }
 
-  pub number_second : {a p : ℕ} → Told bytes at n a p → field m (bits_at bytes p) ≡ refused 1 → NumberAt bytes at (n + m) Number.Out
+  pub number_second : {a p : ℕ} → Told bytes at n a p → field m (bits_at bytes p) ≡ refused 1 → NumberAt bytes at (n + m) None
   number_second {a} {p} e f = record { is = sym (field_second_out n m (bits_at bytes at) a (bits_at bytes p) e.is f) }

@@ -6,6 +6,7 @@ use mathlib.Core.Path.{◌≡◌, refl, sym, ap, ◌∙◌, subst}
 use Prim.Native.Nat.{ℕ, suc, ◌+◌, ◌^◌, ◌≤◌, ◌<◌}
 use native.Mathlib.Omega.{arith}
 use lib.ListN.{length}
+use Rattle.std.specs.Prelude.{Some, None}
 use Rattle.paper.specs.Result.{accepted, Read, Reader, return, ◌>>=◌, repeat}
 use Rattle.paper.specs.Sound.{All}
 use Rattle.paper.specs.Book.{Book, arity}
@@ -35,9 +36,6 @@ use Rattle.side.specs.Promises.{bits_at}
 use Rattle.point_reader.specs.Readers.{Headed, headed, read_head, Marked, read_term, read_order, together, read_parts}
 use Rattle.point_reader.specs.Loading.{Lacks, Low, Loadable, LoadedAt}
 use Rattle.point_reader.specs.Promises.{HeadTaken, OneTerm, marked_in, TermTaken, UnitsTaken, OrderTaken}
-use Rattle.point_reader.specs.declared.Head.{Head}
-use Rattle.point_reader.specs.declared.Part.{Part}
-use Rattle.point_reader.specs.declared.Loaded as D
 use Rattle.point_reader.proofs.Lacking.{first_lacks, first_none, second_lacks}
 use Rattle.point_reader.proofs.Numbers.{head_budget}
 use Rattle.point_reader.proofs.Parts.{parts_saved}
@@ -83,39 +81,39 @@ module _ (arity : ℕ → ℕ) where
       (t.value, us, vs, g)
 
 module _ {arity : ℕ → ℕ} {n : ℕ} {bytes : List ℕ} {at : ℕ} {a : Arrays} where
-  none : Lacks (Loadable arity n) ((read_head >>= with_term arity) (bits_at bytes at)) → LoadedAt arity n bytes at a D.Loaded.None
+  none : Lacks (Loadable arity n) ((read_head >>= with_term arity) (bits_at bytes at)) → LoadedAt arity n bytes at a None
   none l = record { is = λ r e. l r (sym (saved_is arity (bits_at bytes at)) ∙ e) }
 
-  pub no_head : HeadTaken bytes at Head.None → LoadedAt arity n bytes at a D.Loaded.None
+  pub no_head : HeadTaken bytes at None → LoadedAt arity n bytes at a None
   no_head h =
       none (first_lacks read_head (with_term arity) (bits_at bytes at) (λ z. z.numbers.rewrites < 2 ^ 32) (Loadable arity n) h.is
       (λ z ys r e q. let (t, us, vs, f) = term_behind arity z ys r e in
       (subst (λ (S : Saved). Loadable arity n S) f q).few_rewrites))
 
-  module _ {x : Numbers} {m p : ℕ} (h : HeadTaken bytes at (Head.Read x m p)) where
-    behind_head : Lacks (Loadable arity n) (with_term arity (headed x m) (bits_at bytes p)) → LoadedAt arity n bytes at a D.Loaded.None
+  module _ {x : Numbers} {m p : ℕ} (h : HeadTaken bytes at (Some (record { value = record { numbers = x; symbols = m }; next = p }))) where
+    behind_head : Lacks (Loadable arity n) (with_term arity (headed x m) (bits_at bytes p)) → LoadedAt arity n bytes at a None
     behind_head l = none (second_lacks read_head (with_term arity) (bits_at bytes at) (Loadable arity n) (headed x m) (bits_at bytes p) h.is.0 l)
 
-    pub no_term : {symbols : List ℕ} → TermTaken arity n bytes p m symbols Part.None → LoadedAt arity n bytes at a D.Loaded.None
+    pub no_term : {symbols : List ℕ} → TermTaken arity n bytes p m symbols None → LoadedAt arity n bytes at a None
     no_term t =
         behind_head (first_lacks (read_term m) (with_units arity (headed x m)) (bits_at bytes p) (OneTerm arity n) (Loadable arity n) t.is
         (λ z ys r e q. let (us, vs, f) = units_behind arity (headed x m) z ys r e in
         let k = subst (λ (S : Saved). Loadable arity n S) f q in
         record { complete = k.complete; known = k.known }))
 
-    module _ {symbols : List ℕ} {q : ℕ} (t : TermTaken arity n bytes p m symbols (Part.Read q)) where
-      behind_term : Lacks (Loadable arity n) (with_units arity (headed x m) (marked_in symbols) (bits_at bytes q)) → LoadedAt arity n bytes at a D.Loaded.None
+    module _ {symbols : List ℕ} {q : ℕ} (t : TermTaken arity n bytes p m symbols (Some q)) where
+      behind_term : Lacks (Loadable arity n) (with_units arity (headed x m) (marked_in symbols) (bits_at bytes q)) → LoadedAt arity n bytes at a None
       behind_term l =
           behind_head (second_lacks (read_term m) (with_units arity (headed x m)) (bits_at bytes p) (Loadable arity n) (marked_in symbols) (bits_at bytes q) t.is l)
 
-      pub no_units : {s : Store} → UnitsTaken bytes q x.units s Part.None → LoadedAt arity n bytes at a D.Loaded.None
+      pub no_units : {s : Store} → UnitsTaken bytes q x.units s None → LoadedAt arity n bytes at a None
       no_units u =
           behind_term (first_lacks (repeat x.units read_unit) (with_order arity (headed x m) (marked_in symbols)) (bits_at bytes q) (All Low) (Loadable arity n)
           u.are (λ z ys r e k. let (vs, f) = order_behind arity (headed x m) (marked_in symbols) z ys r e in
           (subst (λ (S : Saved). Loadable arity n S) f k).low))
 
-      pub no_order : {s : Store} {order : List ℕ} {e : ℕ} → UnitsTaken bytes q x.units s (Part.Read e) → OrderTaken bytes e order Part.None →
-          LoadedAt arity n bytes at a D.Loaded.None
+      pub no_order : {s : Store} {order : List ℕ} {e : ℕ} → UnitsTaken bytes q x.units s (Some e) → OrderTaken bytes e order None →
+          LoadedAt arity n bytes at a None
       no_order {s} {order} {e} u o =
           behind_term (second_lacks (repeat x.units read_unit) (with_order arity (headed x m) (marked_in symbols)) (bits_at bytes q) (Loadable arity n)
           (units_in s x.units) (bits_at bytes e) u.are
@@ -123,8 +121,8 @@ module _ {arity : ℕ → ℕ} {n : ℕ} {bytes : List ℕ} {at : ℕ} {a : Arra
 
 -- all parts are read
 pub all_read : {arity : ℕ → ℕ} {n : ℕ} {bytes : List ℕ} {at : ℕ} {x : Numbers} {m p q e next : ℕ} {symbols order : List ℕ} {s : Store} →
-    HeadTaken bytes at (Head.Read x m p) → TermTaken arity n bytes p m symbols (Part.Read q) → UnitsTaken bytes q x.units s (Part.Read e) →
-    OrderTaken bytes e order (Part.Read next) → LoadedAt arity n bytes at (record { symbols = symbols; store = s; order = order }) (D.Loaded.Saved x next)
+    HeadTaken bytes at (Some (record { value = record { numbers = x; symbols = m }; next = p })) → TermTaken arity n bytes p m symbols (Some q) → UnitsTaken bytes q x.units s (Some e) →
+    OrderTaken bytes e order (Some next) → LoadedAt arity n bytes at (record { symbols = symbols; store = s; order = order }) (Some (record { value = x; next = next }))
 all_read {arity} {n} {bytes} {at} {x} {m} {p} {q} {e} {next} {symbols} {order} {s} h t u o = record {
   is = (
     saved_is arity (bits_at bytes at)
@@ -226,7 +224,7 @@ module _ (B : Book) {operators : List ℕ} (t : Operators B.operators operators)
 
   module _ {bytes : List ℕ} {at : ℕ} {a : Arrays} where
     -- so where none is loaded, none that keeps the rules is there
-    pub none_there : GoodBook B → LoadedAt (arity_in operators) n bytes at a D.Loaded.None → (r : Read Saved) → read_saved (arity B) (bits_at bytes at) ≡ accepted r →
+    pub none_there : GoodBook B → LoadedAt (arity_in operators) n bytes at a None → (r : Read Saved) → read_saved (arity B) (bits_at bytes at) ≡ accepted r →
         PointRules B (limits_of r.value) r.value.parked.state → ⊥
     none_there g l r e h =
         let k = taken (arity B) (bits_at bytes at) r e in
@@ -236,7 +234,7 @@ module _ (B : Book) {operators : List ℕ} (t : Operators B.operators operators)
         l.is r (same_read (arity B) (arity_in operators) (bits_at bytes at) r e s) (point_loadable g r.value b h)
 
     -- and where one is, it is there, and stands by the book's arities
-    pub saved_there : {x : Numbers} {next : ℕ} → LoadedAt (arity_in operators) n bytes at a (D.Loaded.Saved x next) →
+    pub saved_there : {x : Numbers} {next : ℕ} → LoadedAt (arity_in operators) n bytes at a (Some (record { value = x; next = next })) →
         (read_saved (arity B) (bits_at bytes at) ≡ return (saved x a) (bits_at bytes next)) × Standing (arity B) n x a
     unfolding return
     saved_there {x} {next} l =

@@ -4,6 +4,7 @@ use mathlib.Core.Path.{◌≡◌, refl, sym, ap, ◌∙◌}
 use Prim.Native.Nat.{ℕ, suc, ◌+◌, ◌^◌, ◌≤◌, ◌<◌}
 use native.Mathlib.Numerals.{add-one}
 use native.Mathlib.Omega.{arith}
+use Rattle.std.specs.Prelude.{Some, None}
 use Rattle.paper.specs.Result.{refused, accepted, Read, Reader, return, ◌>>=◌}
 use Rattle.paper.specs.Bits.{bits_of, field}
 use Rattle.paper.proofs.Bits.{field_bounded, all_drop}
@@ -15,8 +16,6 @@ use Rattle.point_reader.specs.Readers.{read_counts, Headed, read_head}
 use Rattle.point_reader.specs.Loading.{Lacks}
 use Rattle.point_reader.specs.Promises.{Any, CountsTaken, HeadTaken}
 use Rattle.point_reader.specs.declared.Counts.{Counts}
-use Rattle.point_reader.specs.declared.Counted.{Counted}
-use Rattle.point_reader.specs.declared.Head.{Head}
 use Rattle.point_reader.proofs.Fields.{Told}
 use Rattle.point_reader.proofs.Lacking.{refused_lacks, first_lacks, first_none, second_lacks}
 
@@ -50,36 +49,36 @@ abbrev few : Counts → Type 0
 few c = c.rewrites < 2 ^ 32
 
 module _ {bytes : List ℕ} {at : ℕ} where
-  counts_lack : Lacks few ((field 64 >>= with_entries) (bits_at bytes at)) → CountsTaken bytes at Counted.None
+  counts_lack : Lacks few ((field 64 >>= with_entries) (bits_at bytes at)) → CountsTaken bytes at None
   counts_lack l = record { are = λ r e. l r (sym (counts_are (bits_at bytes at)) ∙ e) }
 
-  pub rewrites_out : field 64 (bits_at bytes at) ≡ refused 1 → CountsTaken bytes at Counted.None
+  pub rewrites_out : field 64 (bits_at bytes at) ≡ refused 1 → CountsTaken bytes at None
   rewrites_out e = counts_lack (first_none (field 64) with_entries (bits_at bytes at) few (refused_lacks Any e))
 
   module _ {v p : ℕ} (e : Told bytes at 64 v p) where
-    behind_rewrites : Lacks few (with_entries v (bits_at bytes p)) → CountsTaken bytes at Counted.None
+    behind_rewrites : Lacks few (with_entries v (bits_at bytes p)) → CountsTaken bytes at None
     behind_rewrites l = counts_lack (second_lacks (field 64) with_entries (bits_at bytes at) few v (bits_at bytes p) e.is l)
 
-    pub rewrites_large : 2 ^ 32 ≤ v → CountsTaken bytes at Counted.None
+    pub rewrites_large : 2 ^ 32 ≤ v → CountsTaken bytes at None
     rewrites_large l = behind_rewrites (λ r f s. let z = counts_rewrites v (bits_at bytes p) r f in omega (arith, z, s, l))
 
-    pub entries_out : field 64 (bits_at bytes p) ≡ refused 1 → CountsTaken bytes at Counted.None
+    pub entries_out : field 64 (bits_at bytes p) ≡ refused 1 → CountsTaken bytes at None
     entries_out f = behind_rewrites (first_none (field 64) (with_granted v) (bits_at bytes p) few (refused_lacks Any f))
 
     module _ {n q : ℕ} (f : Told bytes p 64 n q) where
-      behind_entries : Lacks few (with_granted v n (bits_at bytes q)) → CountsTaken bytes at Counted.None
+      behind_entries : Lacks few (with_granted v n (bits_at bytes q)) → CountsTaken bytes at None
       behind_entries l = behind_rewrites (second_lacks (field 64) (with_granted v) (bits_at bytes p) few n (bits_at bytes q) f.is l)
 
-      pub granted_out : field 64 (bits_at bytes q) ≡ refused 1 → CountsTaken bytes at Counted.None
+      pub granted_out : field 64 (bits_at bytes q) ≡ refused 1 → CountsTaken bytes at None
       granted_out g = behind_entries (first_none (field 64) (with_kept v n) (bits_at bytes q) few (refused_lacks Any g))
 
       module _ {g i : ℕ} (h : Told bytes q 64 g i) where
-        pub kept_out : field 64 (bits_at bytes i) ≡ refused 1 → CountsTaken bytes at Counted.None
+        pub kept_out : field 64 (bits_at bytes i) ≡ refused 1 → CountsTaken bytes at None
         kept_out k =
             behind_entries (second_lacks (field 64) (with_kept v n) (bits_at bytes q) few g (bits_at bytes i) h.is
             (first_none (field 64) (λ k. return (counted v n g k)) (bits_at bytes i) few (refused_lacks Any k)))
 
-        pub counts_read : {k next w : ℕ} → Told bytes i 64 k next → w ≡ v → CountsTaken bytes at (Counted.Read (counted w n g k) next)
+        pub counts_read : {k next w : ℕ} → Told bytes i 64 k next → w ≡ v → CountsTaken bytes at (Some (record { value = counted w n g k; next = next }))
         counts_read {k} {next} j z = record {
           are = counts_are (bits_at bytes at)
               ∙ bind_return (field 64) with_entries (bits_at bytes at) (bits_at bytes p) v e.is
@@ -130,36 +129,39 @@ head_budget bytes at r e =
     return_accepted (with_all n.value b.value c.value m.value) m.left r (λ z. z.value.numbers.budget < 2 ^ 32) k s
 
 module _ {bytes : List ℕ} {at : ℕ} where
-  head_lacks : Lacks small ((field 3 >>= with_budget) (bits_at bytes at)) → HeadTaken bytes at Head.None
+  head_lacks : Lacks small ((field 3 >>= with_budget) (bits_at bytes at)) → HeadTaken bytes at None
   head_lacks l = record { is = λ r e. l r (sym (head_is (bits_at bytes at)) ∙ e) }
 
-  pub units_out : field 3 (bits_at bytes at) ≡ refused 1 → HeadTaken bytes at Head.None
+  pub units_out : field 3 (bits_at bytes at) ≡ refused 1 → HeadTaken bytes at None
   units_out e = head_lacks (first_none (field 3) with_budget (bits_at bytes at) small (refused_lacks Any e))
 
   module _ {n p : ℕ} (e : Got bytes at 3 n p) where
-    behind_units : Lacks small (with_budget n (bits_at bytes p)) → HeadTaken bytes at Head.None
+    behind_units : Lacks small (with_budget n (bits_at bytes p)) → HeadTaken bytes at None
     behind_units l = head_lacks (second_lacks (field 3) with_budget (bits_at bytes at) small n (bits_at bytes p) e.is l)
 
-    pub budget_out : field 32 (bits_at bytes p) ≡ refused 1 → HeadTaken bytes at Head.None
+    pub budget_out : field 32 (bits_at bytes p) ≡ refused 1 → HeadTaken bytes at None
     budget_out f = behind_units (first_none (field 32) (with_counts n) (bits_at bytes p) small (refused_lacks Any f))
 
     module _ {b q : ℕ} (f : Told bytes p 32 b q) where
-      behind_budget : Lacks small (with_counts n b (bits_at bytes q)) → HeadTaken bytes at Head.None
+      behind_budget : Lacks small (with_counts n b (bits_at bytes q)) → HeadTaken bytes at None
       behind_budget l = behind_units (second_lacks (field 32) (with_counts n) (bits_at bytes p) small b (bits_at bytes q) f.is l)
 
-      pub counts_none : CountsTaken bytes q Counted.None → HeadTaken bytes at Head.None
+      pub counts_none : CountsTaken bytes q None → HeadTaken bytes at None
       counts_none c =
           behind_budget (first_lacks read_counts (with_symbols n b) (bits_at bytes q) few small c.are
           (λ c' ys r g s. let z = head_rewrites n b c' ys r g in omega (arith, z, s)))
 
-      module _ {c : Counts} {i : ℕ} (t : CountsTaken bytes q (Counted.Read c i)) where
-        pub symbols_out : field 10 (bits_at bytes i) ≡ refused 1 → HeadTaken bytes at Head.None
+      module _ {c : Counts} {i : ℕ} (t : CountsTaken bytes q (Some (record { value = c; next = i }))) where
+        pub symbols_out : field 10 (bits_at bytes i) ≡ refused 1 → HeadTaken bytes at None
         symbols_out g =
             behind_budget (second_lacks read_counts (with_symbols n b) (bits_at bytes q) small c (bits_at bytes i) t.are
             (first_none (field 10) (λ m. return (with_all n b c m)) (bits_at bytes i) small (refused_lacks Any g)))
 
         pub head_read : {m next u w k : ℕ} → Got bytes i 10 m next → u ≡ n + 1 → w ≡ b → k ≡ m + 1 →
-            HeadTaken bytes at (Head.Read (record { units = u; budget = w; rewrites = c.rewrites; entries = c.entries; granted = c.granted; kept = c.kept }) k next)
+            HeadTaken bytes at (Some (record {
+              value = record { numbers = record { units = u; budget = w; rewrites = c.rewrites; entries = c.entries; granted = c.granted; kept = c.kept }; symbols = k };
+              next = next;
+            }))
         head_read {m} {next} g eu ew ek =
             let ln = e.small in
             let lm = g.small in

@@ -1,11 +1,12 @@
 -- The order of placing, put from the latest part down. Assumes nothing.
 use mathlib.Core.List.{List, [], ◌∷◌, ◌++◌}
-use mathlib.Core.Path.{◌≡◌, refl, sym, ap, ap₂, ◌∙◌}
+use mathlib.Core.Path.{◌≡◌, refl, sym, ap, ap₂, ◌∙◌, subst}
 use Prim.Native.Nat.{ℕ, zero, suc, ◌+◌, ◌-◌, ◌≤◌, ◌<◌}
 use native.Mathlib.Numerals.{add-one}
 use native.Mathlib.Omega.{arith}
 use lib.ListN.{length, get_or, drop, set, length-set}
 use lib.Seq.{get_or-drop, drop-drop, get_or-set_same, get_or-set_other}
+use Rattle.std.specs.Prelude.{Option, Some, None}
 use Rattle.paper.specs.Result.{refused, return, ◌>>=◌, repeat}
 use Rattle.paper.specs.Bits.{field}
 use Rattle.paper.proofs.Readers.{bind_return}
@@ -15,7 +16,6 @@ use Rattle.placing.specs.Order.{latest_first}
 use Rattle.side.specs.Promises.{bits_at}
 use Rattle.point_reader.specs.Readers.{read_order}
 use Rattle.point_reader.specs.Promises.{Any, PlacedTaken, OrderTaken}
-use Rattle.point_reader.specs.declared.Part.{Part}
 use Rattle.point_reader.proofs.Lacking.{refused_lacks, first_none, repeat_lacks}
 use Rattle.point_reader.proofs.Term.{repeat_start}
 
@@ -47,9 +47,9 @@ module _ {bytes : List ℕ} {at k : ℕ} {order₀ : List ℕ} where
       record { few = omega arith; long = l; front = refl; read = rw z (repeat_start (field 3) (bits_at bytes at)) }
 
   module _ {i q : ℕ} {order : List ℕ} (h : Ordering bytes at k i q order₀ order) where
-    pub ordering_more : (v next low : ℕ) → field 3 (bits_at bytes q) ≡ return v (bits_at bytes next) → i ≡ low + 1 → k < 1024 →
+    ordering_at : (v next low : ℕ) → field 3 (bits_at bytes q) ≡ return v (bits_at bytes next) → i ≡ low + 1 → k < 1024 →
         Ordering bytes at k low next order₀ (set order i v)
-    ordering_more v next low e z l =
+    ordering_at v next low e z l =
         let few = h.few in
         let long = h.long in
         let d : k - low ≡ suc (k - i) = omega arith in
@@ -71,7 +71,11 @@ module _ {bytes : List ℕ} {at k : ℕ} {order₀ : List ℕ} where
               ∙ ap (λ (us : List ℕ). return us (bits_at bytes next)) vs;
         }
 
-    pub ordering_out : 0 < i → field 3 (bits_at bytes q) ≡ refused 1 → PlacedTaken bytes at k order₀ order Part.None
+    pub ordering_more : (v next low : ℕ) → field 3 (bits_at bytes q) ≡ return v (bits_at bytes next) → i ≡ low + 1 → k < 1024 →
+        Ordering bytes at k low next order₀ (set order (low + 1) v)
+    ordering_more v next low e z l = subst (λ (j : ℕ). Ordering bytes at k low next order₀ (set order j v)) z (ordering_at v next low e z l)
+
+    pub ordering_out : 0 < i → field 3 (bits_at bytes q) ≡ refused 1 → PlacedTaken bytes at k order₀ order None
     ordering_out l e =
         let few = h.few in
         record {
@@ -81,7 +85,7 @@ module _ {bytes : List ℕ} {at k : ℕ} {order₀ : List ℕ} where
           long = h.long;
         }
 
-    pub ordering_all : i ≡ 0 → PlacedTaken bytes at k order₀ order (Part.Read q)
+    pub ordering_all : i ≡ 0 → PlacedTaken bytes at k order₀ order (Some q)
     ordering_all z =
         let d : k - i ≡ k = omega arith in
         record { are = rw (d, z) at h.read; front = h.front; long = h.long }
@@ -91,13 +95,13 @@ unfolding read_order
 order_is xs = refl
 
 module _ {bytes : List ℕ} {at : ℕ} where
-  pub order_out : {order : List ℕ} → field 10 (bits_at bytes at) ≡ refused 1 → OrderTaken bytes at order Part.None
+  pub order_out : {order : List ℕ} → field 10 (bits_at bytes at) ≡ refused 1 → OrderTaken bytes at order None
   order_out e = record {
     is = λ r f. first_none (field 10) (λ k. repeat k (field 3)) (bits_at bytes at) Any (refused_lacks Any e) r (sym (order_is (bits_at bytes at)) ∙ f);
     fits = tt;
   }
 
-  pub order_taken : {k p j : ℕ} {order' : List ℕ} {r : Part} (order : List ℕ) → Got bytes at 10 k p → length order ≡ 1024 → j ≡ k →
+  pub order_taken : {k p j : ℕ} {order' : List ℕ} {r : Option ℕ} (order : List ℕ) → Got bytes at 10 k p → length order ≡ 1024 → j ≡ k →
       PlacedTaken bytes p j (set order 0 k) order' r → OrderTaken bytes at order' r
   order_taken {k} {p} {j} {order'} {r} order e l z t = go r t
     where
@@ -109,9 +113,9 @@ module _ {bytes : List ℕ} {at : ℕ} where
           order_is (bits_at bytes at) ∙ bind_return (field 10) (λ k. repeat k (field 3)) (bits_at bytes at) (bits_at bytes p) k e.is
           ∙ ap (λ (i : ℕ). repeat i (field 3) (bits_at bytes p)) (sym z)
 
-      go : (r : Part) → PlacedTaken bytes p j (set order 0 k) order' r → OrderTaken bytes at order' r
-      go (Part.Read next) t = record {
+      go : (r : Option ℕ) → PlacedTaken bytes p j (set order 0 k) order' r → OrderTaken bytes at order' r
+      go (Some next) t = record {
         is = all ∙ t.are ∙ ap (λ (i : ℕ). return (latest_first order' i) (bits_at bytes next)) (z ∙ sym front);
         fits = record { long = t.long; few = (let s = e.small in let f = front in omega (arith, s, f)) };
       }
-      go Part.None t = record { is = λ x f. t.are x (sym all ∙ f); fits = tt }
+      go None t = record { is = λ x f. t.are x (sym all ∙ f); fits = tt }

@@ -1,7 +1,7 @@
 -- The present term: symbols and marks one by one, and together, as the reader of both answers. Assumes nothing.
 use mathlib.Core.Bool.{Bool, true, false}
 use mathlib.Core.List.{List, [], ◌∷◌, ◌++◌, map}
-use mathlib.Core.Option.{Option, none, some}
+use mathlib.Core.Option.{Option as Fault, none, some}
 use mathlib.Core.Path.{◌≡◌, refl, sym, ap, ap₂, ◌∙◌, subst}
 use Prim.Native.Nat.{ℕ, zero, suc, ◌+◌, ◌≤◌, ◌<◌}
 use native.Mathlib.Numerals.{add-one}
@@ -10,6 +10,8 @@ use borrow.Author.Tests.{lt-ltb, le-ltb}
 use lib.Dec.{ltb}
 use lib.ListN.{length, get_or, take, set, length-map, length-set, get_or-map}
 use lib.Seq.{take-suc, take-suc-set, take-set-le, get_or-set_same, get_or-set_other, length-take-le}
+use Rattle.std.specs.Prelude.{Option, Some, None, Result as Answer, Ok, Err}
+use Rattle.std.specs.Result.{result_ok}
 use Rattle.paper.specs.Result.{refused, accepted, Read, Reader, return, ◌>>=◌, repeat, if}
 use Rattle.paper.specs.Bits.{field}
 use Rattle.paper.specs.Line.{symbol_limit}
@@ -19,9 +21,10 @@ use Rattle.flat.specs.Rules.{spells}
 use Rattle.flat.specs.Form.{is_marked, read_mark}
 use Rattle.symbol.specs.Record.{operator, marked, size, operators, marks, sizes}
 use Rattle.symbol.proofs.Record.{map_take, marked_at, marked_front}
-use Rattle.line.specs.Line.{fault, by_fault, judgement}
+use Rattle.line.specs.Line.{fault, judgement, told}
 use Rattle.line.proofs.Checking.{sound_known}
-use Rattle.line.specs.declared.Line as D
+use Rattle.refusal.specs.declared.Refusal.{Refusal}
+use Rattle.refusal.specs.Numbers.{number}
 use Rattle.term.specs.Promises.{MarkedAt}
 use Rattle.term.specs.Promises as T
 use Rattle.term.proofs.Sized.{loaded_operators, loaded_marks, loaded_sized}
@@ -30,7 +33,6 @@ use Rattle.side.specs.Promises.{bits_at}
 use Rattle.point_reader.specs.Readers.{Marked, read_term}
 use Rattle.point_reader.specs.Loading.{Lacks}
 use Rattle.point_reader.specs.Promises.{Any, SymbolsTaken, Unmarked, MarksTaken, OneTerm, TermTaken}
-use Rattle.point_reader.specs.declared.Part.{Part}
 use Rattle.point_reader.proofs.Lacking.{refused_lacks, first_none, second_lacks, repeat_lacks}
 
 -- none are read
@@ -58,13 +60,13 @@ module _ {bytes : List ℕ} {at : ℕ} where
           (sym (ap (λ (j : ℕ). take j (set line i o)) (add-one i) ∙ take-suc-set line i o (let k = h.long in omega (arith, k, l))));
     }
 
-    pub listing_out : (m : ℕ) → i < m → field 8 (bits_at bytes q) ≡ refused 1 → SymbolsTaken bytes at m line Part.None
+    pub listing_out : (m : ℕ) → i < m → field 8 (bits_at bytes q) ≡ refused 1 → SymbolsTaken bytes at m line None
     listing_out m l f = record {
       are = repeat_lacks (field 8) Any Any i m (bits_at bytes at) (bits_at bytes q) (take i line) h.read l (refused_lacks Any f) (λ us vs a z. tt);
       long = h.long;
     }
 
-    pub listing_all : (m : ℕ) → i ≡ m → SymbolsTaken bytes at m line (Part.Read q)
+    pub listing_all : (m : ℕ) → i ≡ m → SymbolsTaken bytes at m line (Some q)
     listing_all m z = record {
       are = subst (λ (j : ℕ). repeat j (field 8) (bits_at bytes at) ≡ return (take j line) (bits_at bytes q)) z h.read;
       long = h.long;
@@ -153,7 +155,7 @@ module _ {bytes : List ℕ} {at m : ℕ} {symbols₀ : List ℕ} where
               (is i ∙ get_or-set_same (marks symbols) i true false l);
         }
 
-    pub marking_out : field 1 (bits_at bytes q) ≡ refused 1 → MarksTaken bytes at m symbols₀ symbols Part.None
+    pub marking_out : field 1 (bits_at bytes q) ≡ refused 1 → MarksTaken bytes at m symbols₀ symbols None
     marking_out e = record {
       are = repeat_lacks read_mark Any Any i m (bits_at bytes at) (bits_at bytes q) (marks (take i symbols)) h.read less
           (mark_out (bits_at bytes q) e) (λ us vs a z. tt);
@@ -162,7 +164,7 @@ module _ {bytes : List ℕ} {at m : ℕ} {symbols₀ : List ℕ} where
       long = h.long;
     }
 
-  pub marking_all : {i q : ℕ} {symbols : List ℕ} → Marking bytes at m i q symbols₀ symbols → i ≡ m → MarksTaken bytes at m symbols₀ symbols (Part.Read q)
+  pub marking_all : {i q : ℕ} {symbols : List ℕ} → Marking bytes at m i q symbols₀ symbols → i ≡ m → MarksTaken bytes at m symbols₀ symbols (Some q)
   marking_all {q = q} {symbols = symbols} h z = record {
     are = subst (λ (j : ℕ). repeat j read_mark (bits_at bytes at) ≡ return (marks (take j symbols)) (bits_at bytes q)) z h.read;
     operators_are = h.operators_are;
@@ -182,7 +184,7 @@ module _ (n : ℕ) (arity : ℕ → ℕ) where
   fault_spells (suc due) (o ∷ os) e = go (ltb o n) (λ d. fault_spells d os) e
     where
       go : (b : Bool) → ((d : ℕ) → fault n arity d os ≡ none → spells arity d os ≡ true) →
-          ◌≡◌ {A = Option ℕ} (elim b as (λ z. Option ℕ) [ true ↦ fault n arity (arity o + due) os | false ↦ some 11 ]) none → spells arity (arity o + due) os ≡ true
+          ◌≡◌ {A = Fault ℕ} (elim b as (λ z. Fault ℕ) [ true ↦ fault n arity (arity o + due) os | false ↦ some 11 ]) none → spells arity (arity o + due) os ≡ true
       go true rest f = rest (arity o + due) f
       go false rest f = let z : ◌≡◌ {A = ℕ} 0 1 = cc in absurd (omega arith)
 
@@ -193,21 +195,26 @@ module _ (n : ℕ) (arity : ℕ → ℕ) where
   spells_fault (suc due) [] e a = let z : ◌≡◌ {A = ℕ} 0 1 = cc in absurd (omega arith)
   spells_fault (suc due) (o ∷ os) e a = rw (lt-ltb o n a.0, fault) (spells_fault (arity o + due) os e a.1)
 
-  pub sound_spells : (line : List ℕ) → judgement n arity line ≡ D.Line.Sound → spells arity 1 line ≡ true
+  pub sound_spells : (line : List ℕ) → judgement n arity line ≡ none → spells arity 1 line ≡ true
   unfolding judgement
   sound_spells line e = go (ltb symbol_limit (length line)) e
     where
-      none_of : (f : Option ℕ) → by_fault f ≡ D.Line.Sound → f ≡ none
-      none_of none h = refl
-      none_of (some r) h = let z : ◌≡◌ {A = ℕ} 0 1 = cc in absurd (omega arith)
-
-      go : (b : Bool) → if b (D.Line.Refused 12) (by_fault (fault n arity 1 line)) ≡ D.Line.Sound → spells arity 1 line ≡ true
+      go : (b : Bool) → if b (some 12) (fault n arity 1 line) ≡ none → spells arity 1 line ≡ true
       go true h = let z : ◌≡◌ {A = ℕ} 0 1 = cc in absurd (omega arith)
-      go false h = fault_spells 1 line (none_of (fault n arity 1 line) h)
+      go false h = fault_spells 1 line h
 
-  pub spells_sound : (line : List ℕ) → length line ≤ 1024 → spells arity 1 line ≡ true → All (λ o. o < n) line → judgement n arity line ≡ D.Line.Sound
+  pub spells_sound : (line : List ℕ) → length line ≤ 1024 → spells arity 1 line ≡ true → All (λ o. o < n) line → judgement n arity line ≡ none
   unfolding judgement
-  spells_sound line l e a = rw (le-ltb symbol_limit (length line) l) (ap by_fault (spells_fault 1 line e a))
+  spells_sound line l e a = rw (le-ltb symbol_limit (length line) l) (spells_fault 1 line e a)
+
+-- what the check of a line answers, told as an Option
+pub line_sound : (r : Answer (Unit {0}) Refusal) {u : Unit {0}} → result_ok r ≡ Some u → told r ≡ none
+line_sound (Ok u) e = refl
+line_sound (Err e) h = let z : ◌≡◌ {A = ℕ} 0 1 = cc in absurd (omega arith)
+
+pub line_refused : (r : Answer (Unit {0}) Refusal) → result_ok r ≡ None → (k : ℕ) × (told r ≡ some k)
+line_refused (Ok u) h = let z : ◌≡◌ {A = ℕ} 0 1 = cc in absurd (omega arith)
+line_refused (Err e) h = (number e, refl)
 
 -- TOGETHER
 
@@ -224,18 +231,18 @@ term_symbols m xs ys r e =
     return_accepted (record { symbols = xs; marks = ms.value }) ms.left r (λ z. z.value.symbols ≡ xs) f refl
 
 module _ (arity : ℕ → ℕ) (n : ℕ) (bytes : List ℕ) (at m : ℕ) (short : m ≤ 1024) where
-  term_lacks : (symbols : List ℕ) → Lacks (OneTerm arity n) ((repeat m (field 8) >>= with_marks m) (bits_at bytes at)) → TermTaken arity n bytes at m symbols Part.None
+  term_lacks : (symbols : List ℕ) → Lacks (OneTerm arity n) ((repeat m (field 8) >>= with_marks m) (bits_at bytes at)) → TermTaken arity n bytes at m symbols None
   term_lacks symbols l = record { is = λ r e. l r (sym (term_is m (bits_at bytes at)) ∙ e); sized = tt; known = tt }
 
-  pub term_no_symbols : {line symbols : List ℕ} → SymbolsTaken bytes at m line Part.None → TermTaken arity n bytes at m symbols Part.None
+  pub term_no_symbols : {line symbols : List ℕ} → SymbolsTaken bytes at m line None → TermTaken arity n bytes at m symbols None
   term_no_symbols {symbols = symbols} s = term_lacks symbols (first_none (repeat m (field 8)) (with_marks m) (bits_at bytes at) (OneTerm arity n) s.are)
 
-  module _ {p : ℕ} {line : List ℕ} (s : SymbolsTaken bytes at m line (Part.Read p)) where
-    second : {symbols : List ℕ} → Lacks (OneTerm arity n) (with_marks m (take m line) (bits_at bytes p)) → TermTaken arity n bytes at m symbols Part.None
+  module _ {p : ℕ} {line : List ℕ} (s : SymbolsTaken bytes at m line (Some p)) where
+    second : {symbols : List ℕ} → Lacks (OneTerm arity n) (with_marks m (take m line) (bits_at bytes p)) → TermTaken arity n bytes at m symbols None
     second {symbols} l =
         term_lacks symbols (second_lacks (repeat m (field 8)) (with_marks m) (bits_at bytes at) (OneTerm arity n) (take m line) (bits_at bytes p) s.are l)
 
-    pub term_refused : {symbols : List ℕ} (k : ℕ) → judgement n arity (take m line) ≡ D.Line.Refused k → TermTaken arity n bytes at m symbols Part.None
+    pub term_refused : {symbols : List ℕ} (k : ℕ) → judgement n arity (take m line) ≡ some k → TermTaken arity n bytes at m symbols None
     term_refused k z =
         second (λ r e o.
         let q = term_symbols m (take m line) (bits_at bytes p) r e in
@@ -245,7 +252,7 @@ module _ (arity : ℕ → ℕ) (n : ℕ) (bytes : List ℕ) (at m : ℕ) (short 
         let y : ◌≡◌ {A = ℕ} 0 1 = cc in
         absurd (omega arith))
 
-    module _ (sound : judgement n arity (take m line) ≡ D.Line.Sound) {symbols : List ℕ}
+    module _ (sound : judgement n arity (take m line) ≡ none) {symbols : List ℕ}
         (loaded : T.Loaded arity (take m line) (map (λ o. false) (take m line)) m symbols) where
       pub term_unmarked : Unmarked m symbols
       term_unmarked i l =
@@ -255,7 +262,7 @@ module _ (arity : ℕ → ℕ) (n : ℕ) (bytes : List ℕ) (at m : ℕ) (short 
           ∙ get_or-map (λ o. false) (take m line) i 0
 
       -- the array with its marks
-      with_them : {symbols' : List ℕ} {r : Part} → MarksTaken bytes p m symbols symbols' r → T.Loaded arity (take m line) (marks (take m symbols')) m symbols'
+      with_them : {symbols' : List ℕ} {r : Option ℕ} → MarksTaken bytes p m symbols symbols' r → T.Loaded arity (take m line) (marks (take m symbols')) m symbols'
       with_them {symbols'} t = record {
         operators_are = map_take operator m symbols' ∙ ap (take m) t.operators_are ∙ sym (map_take operator m symbols) ∙ loaded.operators_are;
         marks_are = refl;
@@ -263,11 +270,11 @@ module _ (arity : ℕ → ℕ) (n : ℕ) (bytes : List ℕ) (at m : ℕ) (short 
         long = t.long ∙ loaded.long;
       }
 
-      pub term_marks : {symbols' : List ℕ} {r : Part} → MarksTaken bytes p m symbols symbols' r → TermTaken arity n bytes at m symbols' r
+      pub term_marks : {symbols' : List ℕ} {r : Option ℕ} → MarksTaken bytes p m symbols symbols' r → TermTaken arity n bytes at m symbols' r
       term_marks {symbols'} {r} t = go r t
         where
-          go : (r : Part) → MarksTaken bytes p m symbols symbols' r → TermTaken arity n bytes at m symbols' r
-          go (Part.Read next) t =
+          go : (r : Option ℕ) → MarksTaken bytes p m symbols symbols' r → TermTaken arity n bytes at m symbols' r
+          go (Some next) t =
               let one = sound_spells n arity (take m line) sound in
               let l = with_them t in
               let o = loaded_operators arity (take m line) m symbols' short one l in
@@ -281,5 +288,5 @@ module _ (arity : ℕ → ℕ) (n : ℕ) (bytes : List ℕ) (at m : ℕ) (short 
                 sized = loaded_sized arity (take m line) m symbols' short one l;
                 known = subst (λ (xs : List ℕ). All (λ o. o < n) xs) (sym o) (sound_known n arity (take m line) sound).0;
               }
-          go Part.None t =
+          go None t =
               second (first_none (repeat m read_mark) (λ ms. return (record { symbols = take m line; marks = ms })) (bits_at bytes p) (OneTerm arity n) t.are)

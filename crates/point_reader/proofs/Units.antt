@@ -11,6 +11,7 @@ use borrow.Author.Tests.{ltb-true, ltb-false}
 use lib.Dec.{ltb}
 use lib.ListN.{length, get_or, set, length-set, get_or-eq_default}
 use lib.Seq.{get_or-set_same, get_or-set_other}
+use Rattle.std.specs.Prelude.{Option, Some, None}
 use Rattle.paper.specs.Result.{refused, accepted, Read, Reader, return, ◌>>=◌, repeat}
 use Rattle.paper.specs.Bits.{field}
 use Rattle.paper.specs.Sound.{All}
@@ -29,8 +30,6 @@ use Rattle.units.proofs.Changes.{cell_rank, cell_end, store_same, store_other, s
 use Rattle.side.specs.Promises.{bits_at}
 use Rattle.point_reader.specs.Loading.{Lacks, Low}
 use Rattle.point_reader.specs.Promises.{Any, PartIs, FrameTaken, StackTaken, UnitTaken, EmptyBelow, UnitsTaken}
-use Rattle.point_reader.specs.declared.Framed.{Framed}
-use Rattle.point_reader.specs.declared.Part.{Part}
 use Rattle.point_reader.proofs.Lacking.{refused_lacks, first_none, second_lacks, repeat_lacks, repeat_length, all_one}
 use Rattle.point_reader.proofs.Term.{repeat_start}
 
@@ -77,7 +76,7 @@ module _ {bytes : List ℕ} {at h from : ℕ} {w₀ : List ℕ} where
               ∙ ap (λ (us : List Frame). return us (bits_at bytes next)) fs;
         }
 
-    pub stacking_out : 0 < left → FrameTaken bytes q Framed.Out → StackTaken bytes at h from w₀ w Part.None
+    pub stacking_out : 0 < left → FrameTaken bytes q None → StackTaken bytes at h from w₀ w None
     stacking_out l f =
         let k = s.few in
         record {
@@ -86,7 +85,7 @@ module _ {bytes : List ℕ} {at h from : ℕ} {w₀ : List ℕ} where
           outside = s.outside;
         }
 
-    pub stacking_all : left ≡ 0 → StackTaken bytes at h from w₀ w (Part.Read q)
+    pub stacking_all : left ≡ 0 → StackTaken bytes at h from w₀ w (Some q)
     stacking_all z =
         let d : h - left ≡ h = omega arith in
         let c : from + 3 * left ≡ from = omega arith in
@@ -117,27 +116,27 @@ frames_lack {bytes} {at} {r} {p} {h} {q} e f l x y =
     (second_lacks (field 11) (with_frames r) (bits_at bytes p) Low h (bits_at bytes q) f.is l) x (sym (unit_is (bits_at bytes at)) ∙ y)
 
 module _ {bytes : List ℕ} {at u : ℕ} {s : Store} (fit : StacksFit s) where
-  unit_lacks : Lacks Low ((field 3 >>= with_height) (bits_at bytes at)) → UnitTaken bytes at u s s Part.None
+  unit_lacks : Lacks Low ((field 3 >>= with_height) (bits_at bytes at)) → UnitTaken bytes at u s s None
   unit_lacks l = record { is = λ r e. l r (sym (unit_is (bits_at bytes at)) ∙ e); fit = fit; others = λ v n. refl }
 
-  pub rank_out : field 3 (bits_at bytes at) ≡ refused 1 → UnitTaken bytes at u s s Part.None
+  pub rank_out : field 3 (bits_at bytes at) ≡ refused 1 → UnitTaken bytes at u s s None
   rank_out e = unit_lacks (first_none (field 3) with_height (bits_at bytes at) Low (refused_lacks Any e))
 
   module _ {r p : ℕ} (e : Got bytes at 3 r p) where
-    pub height_out : field 11 (bits_at bytes p) ≡ refused 1 → UnitTaken bytes at u s s Part.None
+    pub height_out : field 11 (bits_at bytes p) ≡ refused 1 → UnitTaken bytes at u s s None
     height_out f =
         unit_lacks (second_lacks (field 3) with_height (bits_at bytes at) Low r (bits_at bytes p) e.is
         (first_none (field 11) (with_frames r) (bits_at bytes p) Low (refused_lacks Any f)))
 
     module _ {h q : ℕ} (f : Got bytes p 11 h q) where
-      pub too_high : height < h → UnitTaken bytes at u s s Part.None
+      pub too_high : height < h → UnitTaken bytes at u s s None
       too_high l = record {
         is = frames_lack e f (λ x y z. let k = unit_height r h (bits_at bytes q) x y in omega (arith, k, z, l));
         fit = fit;
         others = λ v n. refl;
       }
 
-      pub unit_taken : {x : Part} {c' w' : List ℕ} (from end : ℕ) → u < 8 → h ≤ height → from ≡ base u → end ≡ from + 3 * h → c' ≡ set s.cells u (cell r end) →
+      pub unit_taken : {x : Option ℕ} {c' w' : List ℕ} (from end : ℕ) → u < 8 → h ≤ height → from ≡ base u → end ≡ from + 3 * h → c' ≡ set s.cells u (cell r end) →
           StackTaken bytes q h from s.work w' x → UnitTaken bytes at u s (store w' c') x
       unit_taken {x} {c'} {w'} from end l lh ef ee ec t = record {
         is = go x t;
@@ -166,14 +165,14 @@ module _ {bytes : List ℕ} {at u : ℕ} {s : Store} (fit : StacksFit s) where
               store_same s (store w' c') u (cell r end) r h ec et ey (let k = fit.regions.eight in omega (arith, k, l))
               ∙ ap (λ (i : ℕ). flat_unit r (stack_of w' i h)) (sym ef)
 
-          go : (x : Part) → StackTaken bytes q h from s.work w' x → PartIs bytes (read_unit (bits_at bytes at)) Low (unit_in (store w' c') u) x
-          go (Part.Read next) t =
+          go : (x : Option ℕ) → StackTaken bytes q h from s.work w' x → PartIs bytes (read_unit (bits_at bytes at)) Low (unit_in (store w' c') u) x
+          go (Some next) t =
               unit_is (bits_at bytes at)
               ∙ bind_return (field 3) with_height (bits_at bytes at) (bits_at bytes p) r e.is
               ∙ bind_return (field 11) (with_frames r) (bits_at bytes p) (bits_at bytes q) h f.is
               ∙ bind_return (repeat h read_frame) (λ fs. return (flat_unit r fs)) (bits_at bytes q) (bits_at bytes next) (stack_of w' from h) t.is
               ∙ ap (λ (y : FlatUnit). return y (bits_at bytes next)) (sym here)
-          go Part.None t = frames_lack e f (first_none (repeat h read_frame) (λ fs. return (flat_unit r fs)) (bits_at bytes q) Low t.is)
+          go None t = frames_lack e f (first_none (repeat h read_frame) (λ fs. return (flat_unit r fs)) (bits_at bytes q) Low t.is)
 
 -- NO FRAMES
 
@@ -230,7 +229,7 @@ module _ {bytes : List ℕ} {at : ℕ} where
   uniting_start fit = record { fit = fit; read = repeat_start read_unit (bits_at bytes at) }
 
   module _ {u q : ℕ} {s : Store} (h : Uniting bytes at u q s) where
-    pub uniting_more : {next : ℕ} {s' : Store} → UnitTaken bytes q u s s' (Part.Read next) → Uniting bytes at (u + 1) next s'
+    pub uniting_more : {next : ℕ} {s' : Store} → UnitTaken bytes q u s s' (Some next) → Uniting bytes at (u + 1) next s'
     uniting_more {next} {s'} t =
         let same : units_in s' u ≡ units_in s u =
         units_are s'.work s'.cells u (units_in s u) (length_units s.work s.cells 0 u)
@@ -245,13 +244,13 @@ module _ {bytes : List ℕ} {at : ℕ} where
               ∙ ap (λ (xs : List FlatUnit). return xs (bits_at bytes next)) us;
         }
 
-    pub uniting_none : {s' : Store} (n : ℕ) → u < n → UnitTaken bytes q u s s' Part.None → UnitsTaken bytes at n s' Part.None
+    pub uniting_none : {s' : Store} (n : ℕ) → u < n → UnitTaken bytes q u s s' None → UnitsTaken bytes at n s' None
     uniting_none n l t = record {
       are = repeat_lacks read_unit Low (All Low) u n (bits_at bytes at) (bits_at bytes q) (units_in s u) h.read l t.is (all_one Low);
       fit = t.fit;
     }
 
-    pub uniting_all : (n : ℕ) → u ≡ n → UnitsTaken bytes at n s (Part.Read q)
+    pub uniting_all : (n : ℕ) → u ≡ n → UnitsTaken bytes at n s (Some q)
     uniting_all n z = record {
       are = subst (λ (i : ℕ). repeat i read_unit (bits_at bytes at) ≡ return (units_in s i) (bits_at bytes q)) z h.read;
       fit = h.fit;

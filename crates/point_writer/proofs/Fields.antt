@@ -1,11 +1,13 @@
 -- The fields of a saved run by their parts: symbols one by one, frames from the top, units, the order, and all of them one after another. Assumes nothing.
+use mathlib.Core.Bool.{Bool, true, false}
+use mir.Val.{bool_byte}
 use mathlib.Core.List.{List, [], ◌∷◌, ◌++◌, map, append_assoc}
 use mathlib.Core.Path.{◌≡◌, refl, sym, ap, ap₂, ◌∙◌, subst}
 use Prim.Native.Nat.{ℕ, zero, suc, pred, ◌+◌, ◌-◌, ◌*◌, ◌≤◌, ◌<◌}
 use native.Mathlib.Numerals.{add-one}
 use native.Mathlib.Omega.{arith}
 use lib.ListN.{length, get_or, take, drop, drop_of_length-le}
-use lib.Seq.{drop-cons, get_or-take, length-take-le}
+use lib.Seq.{drop-cons, length-take-le}
 use Rattle.paper.specs.Bits.{to_bits}
 use Rattle.paper.specs.Writer.{concat}
 use Rattle.paper.specs.Sound.{All}
@@ -31,14 +33,20 @@ module _ {A : Type 0} (read : ℕ → A) (write : A → List ℕ) (xs : List ℕ
       let l = length-take-le n xs h in
       ap (λ (ys : List ℕ). concat write (map read ys)) (sym (drop_of_length-le (take n xs) {i = i} (omega arith)))
 
-  pub symbols_more : (i : ℕ) {bits : List ℕ} → i < n → bits ≡ write (read (get_or xs i 0)) →
+  pub symbols_more : (i : ℕ) {bits : List ℕ} → i < n → bits ≡ write (read (get_or (take n xs) i 0)) →
       bits ++ concat write (map read (drop (i + 1) (take n xs))) ≡ concat write (map read (drop i (take n xs)))
   unfolding concat
   symbols_more i k e =
       let l = length-take-le n xs h in
       ap (λ (ys : List ℕ). ys ++ concat write (map read (drop (i + 1) (take n xs)))) e
       ∙ sym (ap (λ (ys : List ℕ). concat write (map read ys))
-      (drop-cons (take n xs) i 0 (omega arith) ∙ ap₂ (λ (x j : ℕ). x ∷ drop j (take n xs)) (get_or-take n xs i 0 k) (sym (add-one i))))
+      (drop-cons (take n xs) i 0 (omega arith) ∙ ap (λ (j : ℕ). get_or (take n xs) i 0 ∷ drop j (take n xs)) (sym (add-one i))))
+
+-- a mark's bit
+pub mark_bits : (b : Bool) → to_bits 1 (bool_byte b) ≡ write_mark b
+unfolding write_mark
+mark_bits true = refl
+mark_bits false = refl
 
 -- FRAMES
 
@@ -111,14 +119,14 @@ module _ (order : List ℕ) where
   order_end k e = ap (λ (i : ℕ). concat (to_bits 3) (latest_first order i)) (sym e)
 
   module _ (k k' : ℕ) (e : k ≡ k' + 1) where
-    is_latest : latest_first order k ≡ get_or order k 0 ∷ latest_first order k'
+    is_latest : latest_first order k ≡ get_or order (k' + 1) 0 ∷ latest_first order k'
     unfolding latest_first
-    is_latest = let f = e ∙ add-one k' in ap (latest_first order) f ∙ ap (λ (i : ℕ). get_or order i 0 ∷ latest_first order k') (sym f)
+    is_latest = ap (latest_first order) (e ∙ add-one k') ∙ ap (λ (i : ℕ). get_or order i 0 ∷ latest_first order k') (sym (add-one k'))
 
-    pub order_fits : All (λ v. v < 8) (latest_first order k) → (get_or order k 0 < 8) × All (λ v. v < 8) (latest_first order k')
+    pub order_fits : All (λ v. v < 8) (latest_first order k) → (get_or order (k' + 1) 0 < 8) × All (λ v. v < 8) (latest_first order k')
     order_fits h = subst (All (λ v. v < 8)) is_latest h
 
-    pub order_more : to_bits 3 (get_or order k 0) ++ concat (to_bits 3) (latest_first order k') ≡ concat (to_bits 3) (latest_first order k)
+    pub order_more : to_bits 3 (get_or order (k' + 1) 0) ++ concat (to_bits 3) (latest_first order k') ≡ concat (to_bits 3) (latest_first order k)
     unfolding concat
     order_more = ap (concat (to_bits 3)) (sym is_latest)
 

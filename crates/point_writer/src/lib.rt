@@ -16,19 +16,6 @@ ghost use Rattle.point_writer.specs.Promises as C;
 use point::Numbers;
 use units::{Exit, Frame, Job};
 
-fn wide(x: u8) -> u16
-    ensures { (result ≡ x) × (result < 256) }
-{
-    x as u16
-}
-
-// A mark's bit.
-fn bit(b: bool) -> u16
-    ensures { (to_bits 1 result ≡ write_mark b) × (result < 2) }
-{
-    if b { 1 } else { 0 }
-}
-
 // Writes a field; the position behind it.
 fn emit(out: &mut [u8], at: usize, n: usize, v: u16) -> usize
     requires { (n ≤ 16) × (v < 2 ^ n) × C.Room at n out.old }
@@ -74,10 +61,8 @@ fn write_operators(out: &mut [u8], at: usize, symbols: &[u32; 1024], n: usize) -
     ensures { C.Put at (concat (to_bits 8) (operators (take n symbols.now))) out.old out.new result × (result ≡ at + 8 * n) }
 {
     let mut to = at;
-    let mut i = 0;
-    while i < n {
-        to = emit(out, to, 8, wide(symbol::operator(symbols[i])));
-        i += 1;
+    for &x in &symbols[..n] {
+        to = emit(out, to, 8, u16::from(symbol::operator(x)));
     }
     to
 }
@@ -88,10 +73,8 @@ fn write_marks(out: &mut [u8], at: usize, symbols: &[u32; 1024], n: usize) -> us
     ensures { C.Put at (concat write_mark (marks (take n symbols.now))) out.old out.new result × (result ≡ at + n) }
 {
     let mut to = at;
-    let mut i = 0;
-    while i < n {
-        to = emit(out, to, 1, bit(symbol::is_marked(symbols[i])));
-        i += 1;
+    for &x in &symbols[..n] {
+        to = emit(out, to, 1, u16::from(symbol::is_marked(x)));
     }
     to
 }
@@ -113,8 +96,8 @@ fn write_job(out: &mut [u8], at: usize, job: Job) -> usize
 {
     let a = emit(out, at, 2, 0);
     let b = emit(out, a, 10, job.offset);
-    let c = emit(out, b, 4, wide(job.next));
-    emit(out, c, 3, wide(job.count))
+    let c = emit(out, b, 4, u16::from(job.next));
+    emit(out, c, 3, u16::from(job.count))
 }
 
 fn write_exit(out: &mut [u8], at: usize, exit: Exit) -> usize
@@ -122,7 +105,7 @@ fn write_exit(out: &mut [u8], at: usize, exit: Exit) -> usize
     ensures { C.Put at (write_frame (flat (Frame.Exit exit))) out.old out.new result × (result ≤ at + 19) }
 {
     let a = emit(out, at, 2, 1);
-    let b = emit(out, a, 3, wide(exit.unit));
+    let b = emit(out, a, 3, u16::from(exit.unit));
     emit(out, b, 11, exit.index)
 }
 
@@ -144,9 +127,7 @@ fn write_stack(out: &mut [u8], at: usize, work: &[u8], from: usize, h: usize) ->
     ensures { C.Put at (concat write_frame (stack_of work.now from h)) out.old out.new result × (result ≤ at + 19 * h) }
 {
     let mut to = at;
-    let mut k = h;
-    while 0 < k {
-        k -= 1;
+    for k in (0..h).rev() {
         to = write_frame(out, to, units::frames::frame_at(work, from + 3 * k));
     }
     to
@@ -171,10 +152,8 @@ fn write_units(out: &mut [u8], at: usize, work: &[u8], cells: &[u32; 8], n: usiz
     ensures { C.Put at (concat write_unit (units_in (store work.now cells.now) n)) out.old out.new result × (result ≤ at + 19508 * n) }
 {
     let mut to = at;
-    let mut u = 0;
-    while u < n {
+    for u in 0..n {
         to = write_unit(out, to, work, cells, u);
-        u += 1;
     }
     to
 }
@@ -185,10 +164,8 @@ fn write_order(out: &mut [u8], at: usize, order: &[u16; 1024]) -> usize
     ensures { C.Put at (C.write_order order.now) out.old out.new result × (result ≤ at + 3079) }
 {
     let mut to = emit(out, at, 10, order[0]);
-    let mut k = casts::offset(order[0]);
-    while 0 < k {
-        to = emit(out, to, 3, order[k]);
-        k -= 1;
+    for k in (0..usize::from(order[0])).rev() {
+        to = emit(out, to, 3, order[k + 1]);
     }
     to
 }

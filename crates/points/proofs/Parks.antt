@@ -3,8 +3,11 @@ use mathlib.Core.Bool.{true, false}
 use mathlib.Core.List.{List, ◌++◌}
 use mathlib.Core.Option.{Option, none, some}
 use mathlib.Core.Path.{◌≡◌, refl, sym, ap, ◌∙◌, subst, subst₂}
-use Prim.Native.Nat.{ℕ, ◌≤◌}
+use Prim.Native.Nat.{ℕ, min, ◌≤◌}
 use native.Mathlib.Omega.{arith}
+use mathlib.Core.Logic.{inl, inr}
+use lib.Seq.{take_all}
+use Rattle.paper.proofs.Tests.{ltb_cases}
 use lib.ListN.{length, take, drop, length-take}
 use Rattle.paper.specs.Result.{Result, refused, accepted, then}
 use Rattle.paper.specs.Tree.{preorder}
@@ -155,6 +158,19 @@ pub parked_prefix : {read : LineReader} {book line : List ℕ} {units budget day
 parked_prefix {read} {book} {line} {units} {budget} {day} {schedule} {name} {work} {net} {points} {output} long =
     parked_as (same_answer read book line units budget day schedule name work net points output long)
     (λ x e r. run_as r (read_any_prefix book long ∙ r.book_read) r.line_read)
+
+pub parked_front : {read : LineReader} {book line : List ℕ} {units budget day : ℕ} {schedule name work net points output work' net' points' output' : List ℕ} {r : D.Answer} (m : ℕ) →
+    m ≡ min (length book) 65536 →
+    ParkedBy read (take m book) line units budget day schedule name work net points output work' net' points' output' r →
+    ParkedBy read book line units budget day schedule name work net points output work' net' points' output' r
+parked_front {read} {book} {line} {units} {budget} {day} {schedule} {name} {work} {net} {points} {output} {work'} {net'} {points'} {output'} {r} m e h =
+    elim (ltb_cases 65536 (length book)) [
+      | inl p ↦ (let l = p.1 in parked_prefix (omega (arith, l)) (subst is (let i : m ≡ 65536 = omega (arith, l, e) in ap (λ (n : ℕ). take n book) i) h))
+      | inr p ↦ (let l = p.1 in subst is (take_all m book (omega (arith, l, e))) h)
+    ]
+  where
+    is : List ℕ → Type 0
+    is b = ParkedBy read b line units budget day schedule name work net points output work' net' points' output' r
 
 -- on the day that was asked for, with as many units
 pub as_asked : {read : LineReader} {book line : List ℕ} {units few budget day table : ℕ} {schedule name work net points output work' net' points' output' : List ℕ} {r : D.Answer} →

@@ -1,5 +1,5 @@
 -- What the functions behind the entry points of runs with a name ask and ensure. Assumes nothing.
-use Rattle.std.specs.Prelude.{Bool, true, false, List, ◌++◌, ◌≡◌, ℕ, ◌+◌, ◌≤◌, ◌<◌, length, take, drop, replicate}
+use Rattle.std.specs.Prelude.{Bool, true, false, List, ◌++◌, Option, Some, None, ◌≡◌, ℕ, ◌+◌, ◌≤◌, ◌<◌, length, take, drop, replicate}
 use Rattle.paper.specs.Result.{accepted, if}
 use Rattle.paper.specs.Page.{all_below}
 use Rattle.flat.specs.Form.{Saved}
@@ -19,7 +19,7 @@ use Rattle.units.specs.Stacks.{store}
 use Rattle.units.specs.Promises.{EightRegions}
 use Rattle.engine.specs.Promises.{fault}
 use Rattle.opening.specs.Promises.{book_in, day_of}
-use Rattle.opening.specs.declared.Opened as D
+use Rattle.opening.specs.declared.Opened.{Opened}
 use Rattle.checking.specs.Promises.{Inside}
 
 -- COUNTS over all parts of a run
@@ -104,11 +104,11 @@ pub record OpenedSlot (k : ℕ) (points operators rules : List ℕ) (a : Arrays)
   pub day_is : day_in rules ≡ day_of (part_of k points)
   pub standing : Standing (arity_in operators) (length (book_of (book_in (part_of k points) m) rules).operators) x a
 
-abbrev pub OpenedIs : ℕ → List ℕ → List ℕ → List ℕ → Arrays → D.Opened → Type 0
-OpenedIs k points operators rules a (D.Opened.Run x m) = OpenedSlot k points operators rules a x m
-OpenedIs k points operators rules a D.Opened.Broken = (P : Point) → read_slot (slot k points) ≡ Slot.holds P → ⊥
+abbrev pub OpenedIs : ℕ → List ℕ → List ℕ → List ℕ → Arrays → Option Opened → Type 0
+OpenedIs k points operators rules a (Some o) = OpenedSlot k points operators rules a o.numbers o.book
+OpenedIs k points operators rules a None = (P : Point) → read_slot (slot k points) ≡ Slot.holds P → ⊥
 
-pub record OpenedAs (k : ℕ) (points operators rules : List ℕ) (a : Arrays) (r : D.Opened) : Type 0 where
+pub record OpenedAs (k : ℕ) (points operators rules : List ℕ) (a : Arrays) (r : Option Opened) : Type 0 where
   pub is : OpenedIs k points operators rules a r
 
 -- slot k holds a point; its run has n units

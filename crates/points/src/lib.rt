@@ -16,42 +16,31 @@ ghost use Rattle.engine.specs.Promises as E;
 ghost use Rattle.points.specs.Spec as P;
 ghost use Rattle.points.specs.Promises as C;
 
-use book::Book;
-use checking::Slot;
 use engine::{Answer, Form};
 use point::Numbers;
+use refusal::Refusal;
 use run::{Ending, Run};
-use text::Text;
 use whole::Limits;
 
 // The length that a buffer of points must have; published in parking/specs/Points.
 pub const POINTS: usize = names::POINTS;
 
-// The highest count.
-const HIGHEST: usize = 18446744073709551615;
-
 // A count over all parts of a run.
 fn total(a: usize, b: usize) -> usize
     ensures { result ≡ kept_count (a + b) }
 {
-    if HIGHEST - a < b {
-        return HIGHEST;
-    }
-    a + b
+    a.saturating_add(b)
 }
 
 // A part's run, with what the parts before it counted.
 pub fn added(x: Numbers, run: Run) -> Run
     ensures { result ≡ C.added x run }
 {
-    let ending = run.ending;
     Run {
-        ending,
-        rewrites: run.rewrites,
         entries: total(x.entries, run.entries),
         granted: total(x.granted, run.granted),
         kept: total(x.kept, run.kept),
-        length: run.length,
+        ..run
     }
 }
 
@@ -72,12 +61,7 @@ fn numbers(l: Limits, run: Run) -> Numbers
 fn is_cut(ending: Ending) -> bool
     ensures { result ≡ C.is_cut ending }
 {
-    match ending {
-        Ending::Finished => false,
-        Ending::Spent => false,
-        Ending::Full => false,
-        Ending::Cut => true,
-    }
+    matches!(ending, Ending::Cut)
 }
 
 // Slot k becomes the point of what the arrays hold.
@@ -138,12 +122,10 @@ fn keep(
     requires { let a : Arrays = arrays symbols.now work.now cells.now order.now in C.SavableCut l run a × C.CanSave k points.old name.now book.now }
     ensures { let a : Arrays = arrays symbols.now work.now cells.now order.now in points.new ≡ C.behind_cut k name.now book.now day l run a points.old points.old }
 {
-    let ending = run.ending;
-    if !is_cut(ending) {
-        return;
+    if is_cut(run.ending) {
+        let x = numbers(l, run);
+        save(points, k, name, book, day, x, symbols, work, cells, order);
     }
-    let x = numbers(l, run);
-    save(points, k, name, book, day, x, symbols, work, cells, order);
 }
 
 // A run that was cut is saved in slot k once more; any other frees it.
@@ -164,13 +146,12 @@ pub fn replace(
     ensures { let a : Arrays = arrays symbols.now work.now cells.now order.now in points.new ≡ C.behind_cut k name.now book.now day l run a points.old
         (put k (replicate slot_length 0) points.old) }
 {
-    let ending = run.ending;
-    if !is_cut(ending) {
+    if is_cut(run.ending) {
+        let x = numbers(l, run);
+        save(points, k, name, book, day, x, symbols, work, cells, order);
+    } else {
         free(points, k);
-        return;
     }
-    let x = numbers(l, run);
-    save(points, k, name, book, day, x, symbols, work, cells, order);
 }
 
 // The present term, of n symbols, is handed out, and work area and net are cleared whole.
@@ -209,7 +190,7 @@ fn run_named(
         work.old net.old points.old output.old work.new net.new points.new output.new result }
 {
     if !engine::names_units(schedule, limits.units) {
-        return Answer::Refused(14);
+        return Answer::Refused(Refusal::UnknownUnitInSchedule.number());
     }
     insertion::build(book, operators, rules, net);
     let mut symbols = [0u32; 1024];
@@ -260,8 +241,8 @@ fn park_term(
         work.old net.old points.old output.old work.new net.new points.new output.new result }
 {
     match checking::place(name, points) {
-        Slot::Refused(e) => Answer::Refused(e),
-        Slot::At(k) => run_named(
+        Err(e) => Answer::Refused(e.number()),
+        Ok(k) => run_named(
             book, operators, rules, line, length, limits, day, schedule, name, k, work, net,
             points, output,
         ),
@@ -291,17 +272,17 @@ fn park_book(
     let mut rules = [0u32; tables::RULES];
     let mut line = [0u8; 1024];
     match book::read_book(book, day, &mut operators, &mut rules) {
-        Book::Refused(k) => Answer::Refused(k),
-        Book::Read(n) => match engine::read_term(form, given, n, &operators, &mut line) {
-            Text::Refused(k) => Answer::Refused(k),
-            Text::Read(length) => park_term(
+        Err(e) => Answer::Refused(e.number()),
+        Ok(n) => match engine::read_term(form, given, n, &operators, &mut line) {
+            Err(e) => Answer::Refused(e.number()),
+            Ok(length) => park_term(
                 book,
                 &operators,
                 &rules,
                 &line,
                 length,
                 Limits {
-                    units: casts::index(units),
+                    units: usize::from(units),
                     budget,
                 },
                 day,
@@ -339,23 +320,8 @@ pub fn park(
         return Answer::Refused(fault);
     }
     // What stands behind a book's first 65,536 bytes does not change what it reads as.
-    if 65536 < book.len() {
-        return park_book(
-            form,
-            &book[0..65536],
-            line,
-            units,
-            budget,
-            day,
-            schedule,
-            name,
-            work,
-            net,
-            points,
-            output,
-        );
-    }
+    let front = &book[..book.len().min(65536)];
     park_book(
-        form, book, line, units, budget, day, schedule, name, work, net, points, output,
+        form, front, line, units, budget, day, schedule, name, work, net, points, output,
     )
 }

@@ -21,18 +21,20 @@ use Rattle.parking.specs.Points.{Found, find_checked, areas_fault, After, behind
 use Rattle.parking.proofs.Enough.{enough_since}
 use Rattle.checking.specs.Promises as H
 use Rattle.checking.specs.Promises.{Holds}
-use Rattle.checking.specs.declared.Slot as S
+use Rattle.refusal.specs.declared.Refusal.{Refusal}
+use Rattle.refusal.specs.Numbers.{number}
+use Rattle.std.specs.Prelude.{Result as Told, Ok, Err}
 use Rattle.points.specs.Spec.{flat_values_of, told, resumed, ResumedBy}
 use Rattle.resumption.specs.Promises.{its_book, goes_on, GoneOn}
 use Rattle.resumption.proofs.Slot.{held}
 
 -- THE SLOT
-module _ {name points : List ℕ} {r : S.Slot} (f : H.FoundAs name points r) where
-  pub found_at : (k : ℕ) → r ≡ S.Slot.At k → Holds name points k
+module _ {name points : List ℕ} {r : Told ℕ Refusal} (f : H.FoundAs name points r) where
+  pub found_at : (k : ℕ) → r ≡ Ok k → Holds name points k
   found_at k e = rw e at f.is
 
-  pub not_found : (k : ℕ) → r ≡ S.Slot.Refused k → find_checked name points ≡ refused k
-  not_found k e = rw e at f.is
+  pub not_found : (e : Refusal) → r ≡ Err e → find_checked name points ≡ refused (number e)
+  not_found _ e = rw e at f.is
 
 -- AREAS: a frame of one unit
 module _ (work net output : ℕ) where

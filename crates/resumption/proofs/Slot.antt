@@ -33,11 +33,12 @@ use Rattle.parking.proofs.Checks as K
 use Rattle.names.proofs.Reading.{read_behind}
 use Rattle.names.proofs.Told.{slot_long}
 use Rattle.opening.specs.Promises.{Part, read_part, book_in, day_of, OpenedRun, OpenedAs}
-use Rattle.opening.specs.declared.Opened as O
+use Rattle.opening.specs.declared.Opened.{Opened}
 use Rattle.checking.specs.Promises.{Inside, Holds}
 use Rattle.points.specs.Promises.{point, CanSave}
 use Rattle.resumption.specs.Promises.{part_in, CountsUnits, Copied, LoadedRun, LoadedAs, PointIn, Asked}
-use Rattle.resumption.specs.declared.Loaded as D
+use Rattle.resumption.specs.declared.Loaded.{Loaded}
+use Rattle.std.specs.Prelude.{Option, Some, None}
 
 -- BYTES
 
@@ -131,36 +132,37 @@ module _ (bytes : List ℕ) (P : Point) where
 
 -- UNITS
 
-module _ {part operators rules : List ℕ} {a : Arrays} {r : O.Opened} (o : OpenedAs part operators rules a r) where
-  pub counts_run : {whole : List ℕ} → part ≡ whole → (x : Numbers) (m : ℕ) → r ≡ O.Opened.Run x m → CountsUnits whole x.units
+module _ {part operators rules : List ℕ} {a : Arrays} {r : Option Opened} (o : OpenedAs part operators rules a r) where
+  pub counts_run : {whole : List ℕ} → part ≡ whole → {z : Opened} → r ≡ Some z → CountsUnits whole (Some z.numbers.units)
   unfolding return
-  counts_run same x m e =
-      let z : OpenedRun part operators rules a x m = rw e at o.is in
-      subst (λ (xs : List ℕ). CountsUnits xs x.units) same (record {
-        is = λ y q. (
-          sym (length_units a.store.work a.store.cells 0 x.units)
-              ∙ ap (λ (w : Read Part). length w.value.saved.parked.state.units) (accepted_injective (sym z.is ∙ q)),
-          z.standing.some_units,
-        );
+  counts_run same {z} e =
+      let h : OpenedRun part operators rules a z.numbers z.book = rw e at o.is in
+      subst (λ (xs : List ℕ). CountsUnits xs (Some z.numbers.units)) same (record {
+        is = λ y q.
+            let n : z.numbers.units ≡ length y.value.saved.parked.state.units =
+            sym (length_units a.store.work a.store.cells 0 z.numbers.units)
+            ∙ ap (λ (w : Read Part). length w.value.saved.parked.state.units) (accepted_injective (sym h.is ∙ q)) in
+            (ap Some n, omega (arith, n, h.standing.some_units));
       })
 
-  pub counts_none : {whole : List ℕ} → part ≡ whole → r ≡ O.Opened.Broken → CountsUnits whole 0
+  pub counts_none : {whole : List ℕ} → part ≡ whole → r ≡ None → CountsUnits whole None
   counts_none same e =
       let f : (y : Read Part) → read_part part ≡ accepted y → ⊥ = rw e at o.is in
-      subst (λ (xs : List ℕ). CountsUnits xs 0) same (record { is = λ y q. absurd (f y q) })
+      subst (λ (xs : List ℕ). CountsUnits xs None) same (record { is = λ y q. absurd (f y q) })
 
   -- LOADED
-  pub loaded : (x : Numbers) (m day : ℕ) {book : List ℕ} → r ≡ O.Opened.Run x m → Copied (take (4 + m - 4) (drop 4 part)) book → day ≡ day_of part →
-      LoadedAs part book operators rules a (D.Loaded.Run x m day)
-  loaded x m day {book} e c d =
-      let z : OpenedRun part operators rules a x m = rw e at o.is in
+  pub loaded : {z : Opened} (day : ℕ) {book : List ℕ} → r ≡ Some z → Copied (take (4 + z.book - 4) (drop 4 part)) book → day ≡ day_of part →
+      LoadedAs part book operators rules a (Some (record { numbers = z.numbers; book = z.book; day = day }))
+  loaded {z} day {book} e c d =
+      let m : ℕ = z.book in
+      let h : OpenedRun part operators rules a z.numbers m = rw e at o.is in
       let n : 4 + m - 4 ≡ m = omega arith in
       let f : Copied (book_in part m) book = subst (λ (i : ℕ). Copied (take i (drop 4 part)) book) n c in
-      let long : length (book_in part m) ≡ m = (let b = length-drop 4 part in length-take-le m (drop 4 part) (omega (arith, b, z.inside))) in
-      let s = longest_book (book_in part m) (any_book (book_in part m)) z.tables.read in
+      let long : length (book_in part m) ≡ m = (let b = length-drop 4 part in length-take-le m (drop 4 part) (omega (arith, b, h.inside))) in
+      let s = longest_book (book_in part m) (any_book (book_in part m)) h.tables.read in
       record {
         is = record {
-          opened = z;
+          opened = h;
           book_long = f.long;
           short = omega (arith, long, s);
           book_is = ap (λ (i : ℕ). take i book) (sym long) ∙ f.front;
@@ -168,26 +170,27 @@ module _ {part operators rules : List ℕ} {a : Arrays} {r : O.Opened} (o : Open
         };
       }
 
-  pub loaded_none : {book : List ℕ} → r ≡ O.Opened.Broken → LoadedAs part book operators rules a D.Loaded.Broken
+  pub loaded_none : {book : List ℕ} → r ≡ None → LoadedAs part book operators rules a None
   loaded_none e = record { is = rw e at o.is }
 
 -- how long the book is that is copied
-pub short_book : {part operators rules : List ℕ} {a : Arrays} {r : O.Opened} → OpenedAs part operators rules a r → (x : Numbers) (m : ℕ) → r ≡ O.Opened.Run x m →
-    (4 + m ≤ length part) × (length (take (4 + m - 4) (drop 4 part)) ≤ 41473)
-short_book {part} {operators} {rules} {a} o x m e =
-    let z : OpenedRun part operators rules a x m = rw e at o.is in
+pub short_book : {part operators rules : List ℕ} {a : Arrays} {r : Option Opened} → OpenedAs part operators rules a r → {z : Opened} → r ≡ Some z →
+    (4 + z.book ≤ length part) × (length (take (4 + z.book - 4) (drop 4 part)) ≤ 41473)
+short_book {part} {operators} {rules} {a} o {z} e =
+    let m : ℕ = z.book in
+    let h : OpenedRun part operators rules a z.numbers m = rw e at o.is in
     let n : 4 + m - 4 ≡ m = omega arith in
-    let s = longest_book (book_in part m) (any_book (book_in part m)) z.tables.read in
-    (z.inside, subst (λ (i : ℕ). length (take i (drop 4 part)) ≤ 41473) (sym n) s)
+    let s = longest_book (book_in part m) (any_book (book_in part m)) h.tables.read in
+    (h.inside, subst (λ (i : ℕ). length (take i (drop 4 part)) ≤ 41473) (sym n) s)
 
 -- of a slot
-pub of_slot : (points : List ℕ) (k : ℕ) → Inside points k → {book operators rules : List ℕ} {a : Arrays} {r : D.Loaded} → LoadedAs (lent k points) book operators rules a r →
+pub of_slot : (points : List ℕ) (k : ℕ) → Inside points k → {book operators rules : List ℕ} {a : Arrays} {r : Option Loaded} → LoadedAs (lent k points) book operators rules a r →
     LoadedAs (part_in k points) book operators rules a r
 of_slot points k h {book} {operators} {rules} {a} {r} o = subst (λ (xs : List ℕ). LoadedAs xs book operators rules a r) (lent_is points k h) o
 
-pub loaded_run : {part book operators rules : List ℕ} {a : Arrays} {r : D.Loaded} → LoadedAs part book operators rules a r → (x : Numbers) (m day : ℕ) → r ≡ D.Loaded.Run x m day →
-    LoadedRun part book operators rules a x m day
-loaded_run o x m day e = rw e at o.is
+pub loaded_run : {part book operators rules : List ℕ} {a : Arrays} {r : Option Loaded} → LoadedAs part book operators rules a r → {z : Loaded} → r ≡ Some z →
+    LoadedRun part book operators rules a z.numbers z.book z.day
+loaded_run o e = rw e at o.is
 
 -- THE POINT of a slot that bears the name
 
@@ -215,11 +218,19 @@ module _ {name points : List ℕ} {k : ℕ} (h : Holds name points k) where
   bears : name ≡ P.name
   bears = (find_at name (read_slots points) (record { at = k; point = P }) there).1
 
-  pub units_are : {r : ℕ} → CountsUnits part r → (r ≡ length P.saved.parked.state.units) × (1 ≤ r)
-  unfolding return
-  units_are c = c.is _ behind_it.is
+  module _ {r : Option ℕ} (c : CountsUnits part r) where
+    pub units_are : {u : ℕ} → r ≡ Some u → (u ≡ length P.saved.parked.state.units) × (1 ≤ u)
+    unfolding return
+    units_are {u} e =
+        let (s, l) = c.is _ behind_it.is in
+        let n : u ≡ length P.saved.parked.state.units = cc in
+        (n, omega (arith, n, l))
 
-  pub not_broken : {book operators rules : List ℕ} {a : Arrays} {r : D.Loaded} → LoadedAs part book operators rules a r → r ≡ D.Loaded.Broken → ⊥
+    pub counted : ((u : ℕ) → r ≡ Some u → ⊥) → ⊥
+    unfolding return
+    counted d = d _ (c.is _ behind_it.is).0
+
+  pub not_broken : {book operators rules : List ℕ} {a : Arrays} {r : Option Loaded} → LoadedAs part book operators rules a r → r ≡ None → ⊥
   unfolding return
   not_broken o e = (rw e at o.is) _ behind_it.is
 
@@ -248,23 +259,20 @@ module _ {name points : List ℕ} {k : ℕ} (h : Holds name points k) where
   -- as it is lent: its book in front of an array
   module _ {book operators rules : List ℕ} {a : Arrays} {x : Numbers} {m day : ℕ} (o : LoadedRun part book operators rules a x m day) where
     abbrev lent_book : List ℕ
-    lent_book = take (m - 0) (drop 0 book)
-
-    lent_book_is : lent_book ≡ book_in part m
-    lent_book_is = (let n : m - 0 ≡ m = omega arith in ap (λ (i : ℕ). take i (drop 0 book)) n) ∙ o.book_is
+    lent_book = take m book
 
     pub loaded_point : point name lent_book day (saved x a) ≡ P
-    loaded_point = ap₂ (λ (b : List ℕ) (d : ℕ). point name b d (saved x a)) lent_book_is o.day_is ∙ point_is o.opened
+    loaded_point = ap₂ (λ (b : List ℕ) (d : ℕ). point name b d (saved x a)) o.book_is o.day_is ∙ point_is o.opened
 
     pub point_in : PointIn lent_book operators rules day x a
-    point_in = subst₂ (λ (b : List ℕ) (d : ℕ). PointIn b operators rules d x a) (sym lent_book_is) (sym o.day_is) (opened_in o.opened)
+    point_in = subst₂ (λ (b : List ℕ) (d : ℕ). PointIn b operators rules d x a) (sym o.book_is) (sym o.day_is) (opened_in o.opened)
 
     pub can_save : CanSave k points name lent_book
     can_save = record {
       slot = h.inside;
       named = ready.short_name;
       short =
-          (let s = longest_book (book_in part m) (any_book (book_in part m)) o.opened.tables.read in subst (λ (b : List ℕ). length b ≤ 41473) (sym lent_book_is) s);
+          (let s = longest_book (book_in part m) (any_book (book_in part m)) o.opened.tables.read in subst (λ (b : List ℕ). length b ≤ 41473) (sym o.book_is) s);
     }
 
     pub asked_with : {schedule work w net output : List ℕ} → length w ≡ length work → Asked (length P.saved.parked.state.units) schedule work net output → Asked x.units schedule w net output

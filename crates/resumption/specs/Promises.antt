@@ -1,6 +1,6 @@
 -- What the functions of a resumption ask and ensure (document 02, Change 11: "A resumption takes only a name, buffers and the schedule"): a slot's run is loaded, and goes on
 -- as in parking/specs/Points. Assumes nothing.
-use Rattle.std.specs.Prelude.{true, List, ◌++◌, ◌≡◌, ℕ, ◌^◌, ◌≤◌, ◌<◌, length, take, drop, replicate}
+use Rattle.std.specs.Prelude.{true, List, ◌++◌, Option, Some, None, ◌≡◌, ℕ, ◌^◌, ◌≤◌, ◌<◌, length, take, drop, replicate}
 use Rattle.paper.specs.Result.{accepted, Read}
 use Rattle.paper.specs.Book.{Book}
 use Rattle.paper.specs.Dated.{on_day}
@@ -23,7 +23,7 @@ use Rattle.opening.specs.Promises.{Part, read_part, book_in, day_of, OpenedRun}
 use Rattle.checking.specs.Promises.{Holds}
 use Rattle.points.specs.Spec.{flat_values}
 use Rattle.points.specs.Promises.{point}
-use Rattle.resumption.specs.declared.Loaded as D
+use Rattle.resumption.specs.declared.Loaded.{Loaded}
 
 -- A SLOT'S RUN
 
@@ -32,8 +32,8 @@ abbrev pub part_in : ℕ → List ℕ → List ℕ
 part_in k points = drop 17 (slot k points)
 
 -- r is how many units the part's run has; of a part that is not read it says nothing
-pub record CountsUnits (part : List ℕ) (r : ℕ) : Type 0 where
-  pub is : (y : Read Part) → read_part part ≡ accepted y → (r ≡ length y.value.saved.parked.state.units) × (1 ≤ r)
+pub record CountsUnits (part : List ℕ) (r : Option ℕ) : Type 0 where
+  pub is : (y : Read Part) → read_part part ≡ accepted y → let n = length y.value.saved.parked.state.units in (r ≡ Some n) × (1 ≤ n)
 
 -- the bytes stand in front of the book's array
 pub record Copied (bytes book : List ℕ) : Type 0 where
@@ -56,12 +56,12 @@ pub record LoadedRun (part book operators rules : List ℕ) (a : Arrays) (x : Nu
   pub book_is : take m book ≡ book_in part m
   pub day_is : day ≡ day_of part
 
-abbrev pub LoadedIs : List ℕ → List ℕ → List ℕ → List ℕ → Arrays → D.Loaded → Type 0
-LoadedIs part book operators rules a (D.Loaded.Run x m day) = LoadedRun part book operators rules a x m day
-LoadedIs part book operators rules a D.Loaded.Broken = (y : Read Part) → read_part part ≡ accepted y → ⊥
+abbrev pub LoadedIs : List ℕ → List ℕ → List ℕ → List ℕ → Arrays → Option Loaded → Type 0
+LoadedIs part book operators rules a (Some o) = LoadedRun part book operators rules a o.numbers o.book o.day
+LoadedIs part book operators rules a None = (y : Read Part) → read_part part ≡ accepted y → ⊥
 
 -- r answers for the part; the rest is what the arrays hold at exit
-pub record LoadedAs (part book operators rules : List ℕ) (a : Arrays) (r : D.Loaded) : Type 0 where
+pub record LoadedAs (part book operators rules : List ℕ) (a : Arrays) (r : Option Loaded) : Type 0 where
   pub is : LoadedIs part book operators rules a r
 
 -- IT GOES ON

@@ -11,10 +11,9 @@ ghost use Rattle.points.specs.Spec as P;
 ghost use Rattle.points.specs.Promises.{CanSave};
 ghost use Rattle.resumption.specs.Promises as C;
 
-use checking::Slot;
 use engine::Answer;
-use opening::Opened;
 use point::Numbers;
+use refusal::Refusal;
 use run::Run;
 use whole::Limits;
 
@@ -26,27 +25,24 @@ const NAME: usize = 17;
 
 const PART: usize = 65519;
 
-// A point's numbers, the length of its book and its day; or that the slot holds none.
-#[derive(Drop)]
-enum Loaded {
-    Run(Numbers, usize, u16),
-    Broken,
+// A point's numbers, the length of its book and its day.
+#[derive(Clone, Copy)]
+struct Loaded {
+    numbers: Numbers,
+    book: usize,
+    day: u16,
 }
 
 // The bytes, to the front of the book.
 fn copy(book: &mut [u8; 41473], bytes: &[u8])
-    requires { (length book.old ≡ 41473) × (length bytes.now ≤ 41473) }
+    requires { length bytes.now ≤ 41473 }
     ensures { C.Copied bytes.now book.new }
 {
-    let mut i = 0;
-    while i < bytes.len() {
-        book[i] = bytes[i];
-        i += 1;
-    }
+    book[..bytes.len()].copy_from_slice(bytes);
 }
 
-// How many units the run in slot k has; 0 if the slot holds none. It is opened in arrays that are given up again.
-fn unit_count(points: &[u8], k: usize) -> usize
+// How many units the run in slot k has, if the slot holds one. It is opened in arrays that are given up again.
+fn unit_count(points: &[u8], k: usize) -> Option<usize>
     requires { Inside points.now k }
     ensures { C.CountsUnits (C.part_in k points.now) result }
 {
@@ -58,7 +54,7 @@ fn unit_count(points: &[u8], k: usize) -> usize
     let mut work = [0u8; 24624];
     let mut cells = [0u32; 8];
     let mut order = [0u16; 1024];
-    match opening::open(
+    let opened = opening::open(
         &points[start..end],
         &mut operators,
         &mut rules,
@@ -66,10 +62,8 @@ fn unit_count(points: &[u8], k: usize) -> usize
         &mut work,
         &mut cells,
         &mut order,
-    ) {
-        Opened::Run(x, _) => x.units,
-        Opened::Broken => 0,
-    }
+    )?;
+    Some(opened.numbers.units)
 }
 
 // The part of a slot behind the name, opened, with its book copied out of it.
@@ -82,19 +76,18 @@ fn load_part(
     work: &mut [u8],
     cells: &mut [u32; 8],
     order: &mut [u16; 1024],
-) -> Loaded
+) -> Option<Loaded>
     requires { O.Room part.now operators.old symbols.old order.old (store work.old cells.old) × (length book.old ≡ 41473) }
     ensures { C.LoadedAs part.now book.new operators.new rules.new
         (arrays symbols.new work.new cells.new order.new) result }
 {
-    match opening::open(part, operators, rules, symbols, work, cells, order) {
-        Opened::Broken => Loaded::Broken,
-        Opened::Run(x, m) => {
-            let end = 4 + m;
-            copy(book, &part[4..end]);
-            Loaded::Run(x, m, casts::short(stream::pair(part, 2)))
-        }
-    }
+    let opened = opening::open(part, operators, rules, symbols, work, cells, order)?;
+    copy(book, &part[4..4 + opened.book]);
+    Some(Loaded {
+        numbers: opened.numbers,
+        book: opened.book,
+        day: stream::pair(part, 2) as u16,
+    })
 }
 
 // The same of slot k.
@@ -108,7 +101,7 @@ fn load(
     work: &mut [u8],
     cells: &mut [u32; 8],
     order: &mut [u16; 1024],
-) -> Loaded
+) -> Option<Loaded>
     requires { Inside points.now k × C.Room book.old operators.old symbols.old order.old (store work.old cells.old) }
     ensures { C.LoadedAs (C.part_in k points.now) book.new operators.new rules.new
         (arrays symbols.new work.new cells.new order.new) result }
@@ -212,13 +205,13 @@ fn resume_point(
         &mut order,
     ) {
         // A slot that was checked is not broken.
-        Loaded::Broken => Answer::Refused(20),
-        Loaded::Run(x, m, day) => Answer::Ran(go_on(
-            &book[0..m],
+        None => Answer::Refused(Refusal::BadPointOrName.number()),
+        Some(point) => Answer::Ran(go_on(
+            &book[..point.book],
             &operators,
             &rules,
-            day,
-            x,
+            point.day,
+            point.numbers,
             name,
             k,
             schedule,
@@ -251,11 +244,13 @@ pub fn resume(
         return Answer::Refused(fault);
     }
     match checking::find(name, points) {
-        Slot::Refused(e) => Answer::Refused(e),
-        Slot::At(k) => {
-            let units = unit_count(points, k);
+        Err(e) => Answer::Refused(e.number()),
+        Ok(k) => {
+            let Some(units) = unit_count(points, k) else {
+                return Answer::Refused(Refusal::BadPointOrName.number());
+            };
             if !engine::names_units(schedule, units) {
-                return Answer::Refused(14);
+                return Answer::Refused(Refusal::UnknownUnitInSchedule.number());
             }
             resume_point(name, schedule, k, work, net, points, output)
         }

@@ -17,11 +17,7 @@ pub const NAME: usize = 17;
 pub fn clear(area: &mut [u8])
     ensures { area.new ≡ replicate (length area.old) 0 }
 {
-    let mut i = 0;
-    while i < area.len() {
-        area[i] = 0;
-        i += 1;
-    }
+    area.fill(0);
 }
 
 // Some bytes, at a position; the position behind them.
@@ -29,12 +25,9 @@ fn put_bytes(output: &mut [u8], at: usize, bytes: &[u8]) -> usize
     requires { at + length bytes.now ≤ length output.old }
     ensures { WrittenAt at bytes.now output.old output.new result }
 {
-    let mut i = 0;
-    while i < bytes.len() {
-        output[at + i] = bytes[i];
-        i += 1;
-    }
-    at + i
+    let end = at + bytes.len();
+    output[at..end].copy_from_slice(bytes);
+    end
 }
 
 // The name, with zeros behind it.
@@ -63,7 +56,7 @@ pub fn write_part(
 {
     clear(part);
     let a = stream::put_number(part, 0, 2, book.len());
-    let b = stream::put_number(part, a, 2, casts::offset(day));
+    let b = stream::put_number(part, a, 2, usize::from(day));
     let c = put_bytes(part, b, book);
     point_writer::save(part, 8 * c, x, symbols, work, cells, order);
 }

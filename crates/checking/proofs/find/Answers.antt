@@ -1,18 +1,16 @@
 -- `checking::find` meets its contract. Assumes nothing.
+use Rattle.std.proofs.lemmas.Result.{err_from_is_err_and}
 use native.Mathlib.Omega.{arith}
-use Rattle.checking.proofs.Answers.{ready, find_refused, has_slots, find_known, find_unknown}
+use Rattle.checking.proofs.Answers.{ready, find_refused, has_slots, found_as}
 use Rattle.checking.proofs.find.Goals as goal
 
-pub returns-then-fault-ne0 : goal.returns-then-fault-ne0
-returns-then-fault-ne0 c = find_refused _ _ _ c.points_fault-fault.ensures c.if-fault-ne0.true
+pub returns-in_err-points_fault : goal.returns-in_err-points_fault
+returns-in_err-points_fault c =
+    let p = err_from_is_err_and c.from_residual.result c.from_residual.ensures.1 in
+    rw (p.1, p.2) (find_refused _ _ _ c.points_fault.ensures c.in_err-points_fault.was)
 
-pub find_from-k-requires : goal.find_from-k-requires
-find_from-k-requires c = (has_slots _ _ (ready _ _ _ c.points_fault-fault.ensures c.if-fault-ne0.false), omega arith)
-
-pub returns-then-k-lt8 : goal.returns-then-k-lt8
-returns-then-k-lt8 c =
-    find_known _ _ (ready _ _ _ c.points_fault-fault.ensures c.if-fault-ne0.false) _ c.find_from-k.ensures c.if-k-lt8.true
+pub find_from-requires : goal.find_from-requires
+find_from-requires c = (has_slots _ _ (ready _ _ _ c.points_fault.ensures c.in_ok-points_fault.was), omega arith)
 
 pub returns : goal.returns
-returns c =
-    find_unknown _ _ (ready _ _ _ c.points_fault-fault.ensures c.if-fault-ne0.false) _ c.find_from-k.ensures c.if-k-lt8.false
+returns c = found_as _ _ (ready _ _ _ c.points_fault.ensures c.in_ok-points_fault.was) _ c.find_from.ensures _ c.ok_or.ensures.value

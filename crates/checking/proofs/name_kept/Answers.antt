@@ -1,31 +1,17 @@
 -- Answers of `name_kept`. Assumes nothing.
-use mathlib.Core.Path.{sym, ap, ◌∙◌}
-use Prim.Native.Nat.{ℕ}
-use native.Mathlib.Omega.{arith}
-use lib.ListN.{take, drop}
-use Rattle.paper.specs.Reader.{all_zero}
-use Rattle.checking.proofs.Kept.{padded_next, padded_not, padded_end, kept_short, kept_long}
+use mathlib.Core.Path.{◌∙◌}
+use lib.Dec.{eqb}
+use Rattle.std.proofs.Common.{rules, tests}
+use Rattle.std.proofs.lemmas.Iterator.{YieldsList-from_slice}
+use Rattle.std.proofs.lemmas.Iterator.Search.{all_from_yields_List}
+use borrow.Author.Tests.{lt-leb}
+use Rattle.checking.proofs.Kept.{kept_short, kept_long}
 use Rattle.checking.proofs.name_kept.Goals as goal
 
-pub returns-then-n-gt16 : goal.returns-then-n-gt16
-returns-then-n-gt16 c = sym (kept_long _ (omega arith) (omega arith))
+pub returns-then-n-le16 : goal.returns-then-n-le16
+returns-then-n-le16 c =
+    all_from_yields_List (λ b. eqb b 0) _ _ _ c.all.ensures.ran (YieldsList-from_slice _ c.iter.ensures.rest) (λ x b q k. search (rules, tests))
+    ∙ kept_short c.args.slot.now c.from-n.result c.from-n.ensures c.if-n-le16.true
 
-pub loop-i-init : goal.loop-i-init
-loop-i-init c =
-    let slot = c.args.slot.now in
-    (omega arith, kept_short slot (omega arith) (omega arith) ∙ ap (λ (i : ℕ). all_zero (drop i (take 16 (drop 1 slot)))) (sym c.index-n.ensures.0))
-
-pub returns-then-slot-i-ne0 : goal.returns-then-slot-i-ne0
-returns-then-slot-i-ne0 c =
-    let l = c.loop-i in
-    sym (l.invariant.1 ∙ padded_not c.args.slot.now (omega arith) l.i (omega arith) c.if-slot-i-ne0.true)
-
-pub loop-i-preserved : goal.loop-i-preserved
-loop-i-preserved c =
-    let l = c.loop-i in
-    (omega arith, l.invariant.1 ∙ padded_next c.args.slot.now (omega arith) l.i (omega arith) c.if-slot-i-ne0.false)
-
-pub returns : goal.returns
-returns c =
-    let l = c.loop-i in
-    sym (l.invariant.1 ∙ padded_end c.args.slot.now (omega arith) l.i (omega arith))
+pub returns-else-n-le16 : goal.returns-else-n-le16
+returns-else-n-le16 c = lt-leb _ 16 c.if-n-le16.false ∙ kept_long c.args.slot.now c.from-n.result c.from-n.ensures c.if-n-le16.false

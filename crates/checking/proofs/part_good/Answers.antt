@@ -1,9 +1,7 @@
--- `checking::part_good` meets its contract: by what the part is opened as. Assumes nothing.
-use Rattle.checking.proofs.Kept.{part_run, part_broken}
+-- Answers of `part_good`. Assumes nothing.
+use mathlib.Core.Path.{◌∙◌}
+use Rattle.checking.proofs.Kept.{part_opened}
 use Rattle.checking.proofs.part_good.Goals as goal
 
-pub returns-in-Run : goal.returns-in-Run
-returns-in-Run c = part_run _ _ _ _ _ c.«open».ensures _ _ c.in-Run.is
-
-pub returns-in-Broken : goal.returns-in-Broken
-returns-in-Broken c = part_broken _ _ _ _ _ c.«open».ensures c.in-Broken.is
+pub returns : goal.returns
+returns c = c.is_some.ensures ∙ part_opened _ _ _ _ _ c.«open».ensures

@@ -1,25 +1,20 @@
 -- `checking::place` meets its contract. Assumes nothing.
+use Rattle.std.proofs.Common.{rules}
+use Rattle.std.proofs.lemmas.Result.{err_from_is_err_and}
 use native.Mathlib.Omega.{arith}
-use Rattle.checking.proofs.Answers.{ready, place_refused, has_slots, place_known, place_new, place_full}
+use Rattle.checking.proofs.Answers.{ready, place_refused, has_slots, placed_as}
 use Rattle.checking.proofs.place.Goals as goal
 
-pub returns-then-fault-ne0 : goal.returns-then-fault-ne0
-returns-then-fault-ne0 c = place_refused _ _ _ c.points_fault-fault.ensures c.if-fault-ne0.true
+pub returns-in_err-points_fault : goal.returns-in_err-points_fault
+returns-in_err-points_fault c =
+    let p = err_from_is_err_and c.from_residual.result c.from_residual.ensures.1 in
+    rw (p.1, p.2) (place_refused _ _ _ c.points_fault.ensures c.in_err-points_fault.was)
 
-pub find_from-k-requires : goal.find_from-k-requires
-find_from-k-requires c = (has_slots _ _ (ready _ _ _ c.points_fault-fault.ensures c.if-fault-ne0.false), omega arith)
+pub find_from-requires : goal.find_from-requires
+find_from-requires c = (has_slots _ _ (ready _ _ _ c.points_fault.ensures c.in_ok-points_fault.was), omega arith)
 
-pub returns-then-k-lt8 : goal.returns-then-k-lt8
-returns-then-k-lt8 c =
-    place_known _ _ (ready _ _ _ c.points_fault-fault.ensures c.if-fault-ne0.false) _ c.find_from-k.ensures c.if-k-lt8.true
-
-pub first_free-free-requires : goal.first_free-free-requires
-first_free-free-requires c = has_slots _ _ (ready _ _ _ c.points_fault-fault.ensures c.if-fault-ne0.false)
-
-pub returns-then-free-lt8 : goal.returns-then-free-lt8
-returns-then-free-lt8 c =
-    place_new _ _ (ready _ _ _ c.points_fault-fault.ensures c.if-fault-ne0.false) _ c.find_from-k.ensures c.if-k-lt8.false _ c.first_free-free.ensures c.if-free-lt8.true
+pub or_else-requires : goal.or_else-requires
+or_else-requires c = let h = has_slots _ _ (ready _ _ _ c.points_fault.ensures c.in_ok-points_fault.was) in search rules
 
 pub returns : goal.returns
-returns c =
-    place_full _ _ (ready _ _ _ c.points_fault-fault.ensures c.if-fault-ne0.false) _ c.find_from-k.ensures c.if-k-lt8.false _ c.first_free-free.ensures c.if-free-lt8.false
+returns c = placed_as _ _ (ready _ _ _ c.points_fault.ensures c.in_ok-points_fault.was) _ _ c.find_from.ensures (search rules) _ c.ok_or.ensures.value

@@ -12,6 +12,3 @@ invariant-loop-v l =
     (l.v ≤ l.units)
     × (each_below (λ u. each_frame (λ i. T.inside l.n) (stack_in (store l.work l.cells) l.units u)) l.units ≡
     each_below (λ u. each_frame (λ i. T.inside l.n) (stack_in (store l.work l.cells) l.units u)) l.v)
-
-abbrev pub decreases-loop-v : goal.decreases-loop-v
-decreases-loop-v l = l.v

@@ -15,6 +15,3 @@ invariant-loop-h l =
     (l.h ≤ height_in l.cells l.v)
     × ((B : Book) (s : FlatState) → Point l.operators l.symbols (store l.work l.cells) l.units B s →
     each_frame (T.frame_good B s l.v) (stack_in (store l.work l.cells) l.units l.v) ≡ each_frame (T.frame_good B s l.v) (stack_of l.work (base l.v) l.h))
-
-abbrev pub decreases-loop-h : goal.decreases-loop-h
-decreases-loop-h l = l.h

@@ -13,6 +13,3 @@ abbrev pub invariant-loop-v : goal.invariant-loop-v
 invariant-loop-v l =
     (l.v ≤ l.units)
     × ((B : Book) (s : FlatState) → Point l.operators l.symbols (store l.work l.cells) l.units B s → each_below (stack_tested B s) l.units ≡ each_below (stack_tested B s) l.v)
-
-abbrev pub decreases-loop-v : goal.decreases-loop-v
-decreases-loop-v l = l.v

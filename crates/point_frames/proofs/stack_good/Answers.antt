@@ -13,22 +13,22 @@ use Rattle.point_frames.proofs.Stacks.{heights, stack_some, stack_none, lowest}
 use Rattle.point_frames.proofs.Standing.{stack_fail, stack_pass, stack_empty, stack_last}
 use Rattle.point_frames.proofs.stack_good.Goals as goal
 
-pub height-h-requires : goal.height-h-requires
-height-h-requires c =
+pub height-height-requires : goal.height-height-requires
+height-height-requires c =
     let p = c.requires in
     let l : c.args.v < 8 = omega (arith, p.1, p.0.kept.few) in
     (l, (heights p.0.kept).least _ l)
 
-pub returns-then-h-eq0 : goal.returns-then-h-eq0
-returns-then-h-eq0 c =
+pub returns-then-height-eq0 : goal.returns-then-height-eq0
+returns-then-height-eq0 c =
     let k = store c.args.work.now c.args.cells.now in
-    let e : height_in c.args.cells.now c.args.v ≡ 0 = omega (arith, c.height-h.ensures, c.if-h-eq0.true) in
+    let e : height_in c.args.cells.now c.args.v ≡ 0 = omega (arith, c.height-height.ensures, c.if-height-eq0.true) in
     record {
       is = λ B z q. ap (T.stack_good B z c.args.v) (stack_some k c.args.units c.args.v c.requires.1 0 e ∙ stack_none _ _ 0 refl) ∙ stack_empty B z _;
     }
 
-pub overflow_sub-h : goal.overflow_sub-h
-overflow_sub-h c = let h = c.height-h.result in let n : h ≢ 0 = c.if-h-eq0.false in omega arith
+pub overflow_sub-height : goal.overflow_sub-height
+overflow_sub-height c = let h = c.height-height.result in let n : h ≢ 0 = c.if-height-eq0.false in omega arith
 
 pub frame-f-requires : goal.frame-f-requires
 frame-f-requires c = c.requires.0.kept
@@ -36,13 +36,13 @@ frame-f-requires c = c.requires.0.kept
 pub loop-h-init : goal.loop-h-init
 loop-h-init c =
     let k = store c.args.work.now c.args.cells.now in
-    let y = c.height-h.result in
-    let q : y - 1 < height_in c.args.cells.now c.args.v = (let n : y ≢ 0 = c.if-h-eq0.false in omega (arith, c.height-h.ensures)) in
-    let e : y ≡ y - 1 + 1 = (let n : y ≢ 0 = c.if-h-eq0.false in omega arith) in (
+    let y = c.height-height.result in
+    let q : y - 1 < height_in c.args.cells.now c.args.v = (let n : y ≢ 0 = c.if-height-eq0.false in omega (arith, c.height-height.ensures)) in
+    let e : y ≡ y - 1 + 1 = (let n : y ≢ 0 = c.if-height-eq0.false in omega arith) in (
       q,
       λ B z p.
           ap (T.stack_good B z c.args.v)
-          (stack_some k c.args.units c.args.v c.requires.1 y (sym c.height-h.ensures) ∙ lowest k c.args.units c.args.v c.requires.1 y (y - 1) q e
+          (stack_some k c.args.units c.args.v c.requires.1 y (sym c.height-height.ensures) ∙ lowest k c.args.units c.args.v c.requires.1 y (y - 1) q e
           ∙ ap (λ (g : Frame). g ∷ stack_of c.args.work.now (base c.args.v) (y - 1)) c.frame-f.ensures.0),
     )
 

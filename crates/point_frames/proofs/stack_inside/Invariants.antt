@@ -11,6 +11,3 @@ abbrev pub invariant-loop-h : goal.invariant-loop-h
 invariant-loop-h l =
     (l.h ≤ height_in l.cells l.v)
     × (each_frame (λ i. T.inside l.n) (stack_in (store l.work l.cells) l.units l.v) ≡ each_frame (λ i. T.inside l.n) (stack_of l.work (base l.v) l.h))
-
-abbrev pub decreases-loop-h : goal.decreases-loop-h
-decreases-loop-h l = l.h

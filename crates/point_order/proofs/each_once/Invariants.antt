@@ -11,6 +11,3 @@ use Rattle.point_order.proofs.each_once.Given as goal
 abbrev pub invariant-loop-r : goal.invariant-loop-r
 invariant-loop-r l = (w : List ℕ) →
     each_below (λ i. eqb (of_rank (suc i) (units_of w l.cells l.units)) 1) l.n ≡ each_below (λ i. eqb (of_rank (suc i) (units_of w l.cells l.units)) 1) l.r
-
-abbrev pub decreases-loop-r : goal.decreases-loop-r
-decreases-loop-r l = l.r

@@ -11,6 +11,3 @@ use Rattle.point_order.proofs.each_rank_good.Given as goal
 abbrev pub invariant-loop-v : goal.invariant-loop-v
 invariant-loop-v l =
     (l.v ≤ l.units) × ((B : Book) (z : FlatState) → Kept l.operators l.symbols (store l.work l.cells) l.units B z → each_below (rank_good B z) l.units ≡ each_below (rank_good B z) l.v)
-
-abbrev pub decreases-loop-v : goal.decreases-loop-v
-decreases-loop-v l = l.v

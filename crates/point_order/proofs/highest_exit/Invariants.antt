@@ -7,6 +7,3 @@ use Rattle.point_order.proofs.highest_exit.Given as goal
 
 abbrev pub invariant-loop-k : goal.invariant-loop-k
 invariant-loop-k l = (l.k ≤ l.h) × (highest_exit (stack_of l.work l.from l.h) ≡ highest_exit (stack_of l.work l.from l.k))
-
-abbrev pub decreases-loop-k : goal.decreases-loop-k
-decreases-loop-k l = l.k

@@ -1,7 +1,10 @@
 -- Answers of `none_left`. Assumes nothing.
-use mathlib.Core.Path.{refl, sym, ap, ◌∙◌}
+use mathlib.Core.Bool.{Bool, not}
+use mathlib.Core.Path.{◌≡◌, refl, sym, ap, ◌∙◌}
 use Prim.Native.Nat.{◌-◌}
 use native.Mathlib.Omega.{arith}
+use Rattle.std.specs.Prelude.{Option, Some, None, is_some}
+use Rattle.point_order.specs.declared.Held.{Held}
 use Rattle.point_order.specs.Passing.{part_of, is_none}
 use Rattle.point_order.proofs.Tests.{below_next, below_stop, below_end}
 use Rattle.point_order.proofs.Loops.{part_is}
@@ -15,12 +18,18 @@ highest_exit-requires c =
     let p = c.requires in
     omega (arith, c.base_of.ensures, p.2.within (c.loop-v.v - 1))
 
-pub returns-in-Exit : goal.returns-in-Exit
-returns-in-Exit c =
+-- none is found
+none_not : (r : Option Held) (b : Bool) → b ≡ is_some r → is_none r ≡ not b
+none_not (Some y) b e = rw e refl
+none_not None b e = rw e refl
+
+pub returns-then-is_some : goal.returns-then-is_some
+returns-then-is_some c =
     let a = c.args in
     sym (c.loop-v.invariant.1
     ∙ below_stop (λ u. is_none (part_of a.work.now a.tops.now u)) c.loop-v.v _ (omega arith)
-    (ap is_none (part_is a.work.now a.tops.now _ _ c.base_of.ensures c.highest_exit.ensures.0 c.in-Exit.is)))
+    (ap is_none (part_is a.work.now a.tops.now _ _ c.base_of.ensures c.highest_exit.ensures.0 refl)
+    ∙ none_not c.highest_exit.result _ c.is_some.ensures ∙ ap not c.if-is_some.true))
 
 pub loop-v-preserved : goal.loop-v-preserved
 loop-v-preserved c =
@@ -28,7 +37,8 @@ loop-v-preserved c =
       omega (arith, c.loop-v.invariant.0),
       c.loop-v.invariant.1
           ∙ below_next (λ u. is_none (part_of a.work.now a.tops.now u)) c.loop-v.v _ (omega arith)
-          (ap is_none (part_is a.work.now a.tops.now _ _ c.base_of.ensures c.highest_exit.ensures.0 c.in-None.is)),
+          (ap is_none (part_is a.work.now a.tops.now _ _ c.base_of.ensures c.highest_exit.ensures.0 refl)
+          ∙ none_not c.highest_exit.result _ c.is_some.ensures ∙ ap not c.if-is_some.false),
     )
 
 pub returns : goal.returns

@@ -8,6 +8,3 @@ use Rattle.point_order.proofs.none_left.Given as goal
 abbrev pub invariant-loop-v : goal.invariant-loop-v
 invariant-loop-v l =
     (l.v ≤ l.units) × (each_below (λ u. is_none (part_of l.work l.tops u)) l.units ≡ each_below (λ u. is_none (part_of l.work l.tops u)) l.v)
-
-abbrev pub decreases-loop-v : goal.decreases-loop-v
-decreases-loop-v l = l.v

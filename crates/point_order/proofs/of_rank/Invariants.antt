@@ -8,6 +8,3 @@ use Rattle.point_order.proofs.of_rank.Given as goal
 
 abbrev pub invariant-loop-v : goal.invariant-loop-v
 invariant-loop-v l = (l.v ≤ l.count) × (l.n + l.v ≤ l.count) × ((w : List ℕ) → of_rank l.r (units_from w l.cells l.v (l.count - l.v)) ≡ l.n)
-
-abbrev pub decreases-loop-v : goal.decreases-loop-v
-decreases-loop-v l = l.v

@@ -7,6 +7,6 @@ pub returns-then-a-length : goal.returns-then-a-length
 returns-then-a-length c =
     operator_in c.args.symbols.now c.args.a c.requires.0 c.requires.1 _ (omega arith) c.operator_at.ensures
 
-pub returns : goal.returns
-returns c =
+pub returns-else-a-length : goal.returns-else-a-length
+returns-else-a-length c =
     operator_behind c.args.symbols.now c.args.a c.requires.0 c.requires.1 (omega arith)

@@ -11,6 +11,3 @@ abbrev pub invariant-loop-k : goal.invariant-loop-k
 invariant-loop-k l =
     (l.k < 1024) × TopsFit l.tops × HeightsOf l.cells l.initial.tops
     × (passes (store l.work l.cells) l.units l.initial.tops (placed_in l.order) ≡ passes (store l.work l.cells) l.units l.tops (latest_first l.order l.k))
-
-abbrev pub decreases-loop-k : goal.decreases-loop-k
-decreases-loop-k l = l.k

@@ -13,14 +13,14 @@ highest_exit-requires c =
 
 pub stands-requires : goal.stands-requires
 stands-requires c =
-    let f = found_below _ _ _ _ c.highest_exit.ensures.1 c.in-Exit.is in
-    (f.1, omega (arith, c.requires.0.placed c.in-Exit.exit.unit f.1))
+    let f = found_below _ _ _ c.highest_exit.ensures.1 c.in-Some.is in
+    (f.1, omega (arith, c.requires.0.placed c.in-Some.held.exit.unit f.1))
 
-pub returns-in-Exit : goal.returns-in-Exit
-returns-in-Exit c =
-    let f = found_below _ _ _ _ c.highest_exit.ensures.1 c.in-Exit.is in
-    part_found _ _ _ _ c.requires.2 c.in-Exit.j c.in-Exit.exit (omega arith) (omega arith) (omega (arith, f.0, c.requires.2.within c.args.v))
-    (part_is c.args.work.now c.args.tops.now c.args.v c.base_of.result c.base_of.ensures c.highest_exit.ensures.0 c.in-Exit.is)
+pub returns-in-Some : goal.returns-in-Some
+returns-in-Some c =
+    let f = found_below _ _ _ c.highest_exit.ensures.1 c.in-Some.is in
+    part_found _ _ _ _ c.requires.2 c.in-Some.held.index c.in-Some.held.exit (omega arith) (omega arith) (omega (arith, f.0, c.requires.2.within c.args.v))
+    (part_is c.args.work.now c.args.tops.now c.args.v c.base_of.result c.base_of.ensures c.highest_exit.ensures.0 c.in-Some.is)
     c.stands.ensures
 
 pub returns-in-None : goal.returns-in-None

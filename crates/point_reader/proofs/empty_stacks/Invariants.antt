@@ -1,11 +1,7 @@
 -- `point_reader::empty_stacks` meets its contract: the loop's invariant: units 0 to u - 1 have no frames. Assumes nothing.
-use Prim.Native.Nat.{◌-◌, ◌≤◌}
 use Rattle.point_reader.specs.Promises.{EmptyBelow}
 use Rattle.point_reader.proofs.empty_stacks.Given as goal
 
 abbrev pub invariant-loop-u : goal.invariant-loop-u
 invariant-loop-u l =
-    (l.u ≤ 8) × EmptyBelow l.u l.cells
-
-abbrev pub decreases-loop-u : goal.decreases-loop-u
-decreases-loop-u l = 8 - l.u
+    EmptyBelow l.u l.cells

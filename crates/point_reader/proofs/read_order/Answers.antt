@@ -6,14 +6,12 @@ use Rattle.point_reader.proofs.Order.{order_out, order_taken}
 use borrow.Author.Rules.{rules}
 use Rattle.point_reader.proofs.read_order.Goals as goal
 
-pub returns-in_default : goal.returns-in_default
-returns-in_default c =
-    order_out (ran_out c.field.ensures c.in_default.is)
+pub returns-in_err-k : goal.returns-in_err-k
+returns-in_err-k c = rw c.from_residual.ensures (order_out (ran_out c.field.ensures c.in_err-k.was))
 
 pub read_placed-requires : goal.read_placed-requires
 read_placed-requires c =
-    (search rules, omega (arith, (got c.field.ensures c.in-Value.is).small, c.offset.ensures.0), simp length-set c.requires.1)
+    (search rules, omega (arith, (got c.field.ensures c.in_ok-k.was).small, c.from.ensures), simp length-set c.requires.1)
 
 pub returns : goal.returns
-returns c =
-    order_taken c.args.order.now (got c.field.ensures c.in-Value.is) c.requires.1 c.offset.ensures.0 c.read_placed.ensures
+returns c = order_taken c.args.order.now (got c.field.ensures c.in_ok-k.was) c.requires.1 c.from.ensures c.read_placed.ensures

@@ -5,6 +5,3 @@ use Rattle.point_reader.proofs.read_placed.Given as goal
 abbrev pub invariant-loop-i : goal.invariant-loop-i
 invariant-loop-i l =
     Ordering l.bytes l.at l.k l.i l.p l.initial.order l.order
-
-abbrev pub decreases-loop-i : goal.decreases-loop-i
-decreases-loop-i l = l.i

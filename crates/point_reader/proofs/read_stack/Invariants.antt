@@ -5,6 +5,3 @@ use Rattle.point_reader.proofs.read_stack.Given as goal
 abbrev pub invariant-loop-left : goal.invariant-loop-left
 invariant-loop-left l =
     Stacking l.bytes l.at l.h l.base l.left l.p l.initial.work l.work
-
-abbrev pub decreases-loop-left : goal.decreases-loop-left
-decreases-loop-left l = l.left

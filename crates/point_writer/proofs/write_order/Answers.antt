@@ -7,13 +7,13 @@ use Rattle.point_writer.proofs.Fields.{order_end, order_fits, order_more, order_
 use Rattle.point_writer.proofs.write_order.Goals as goal
 
 pub loop-k-init : goal.loop-k-init
-loop-k-init c = (omega arith, omega arith, refl, rw c.offset-k.ensures.0 c.requires.0.units, λ out' r h. h)
+loop-k-init c = (omega arith, omega arith, refl, rw c.from-k.ensures c.requires.0.units, λ out' r h. h)
 
 pub emit-to-requires-in-loop-k : goal.emit-to-requires-in-loop-k
 emit-to-requires-in-loop-k c =
     let l = c.loop-k in
     let e = c.emit-to.ensures in
-    let o = c.offset-k.ensures.0 in
+    let o = c.from-k.ensures in
     let f = c.requires.0.fits.few in (
       omega arith,
       (order_fits _ l.k (l.k - 1) (omega arith) l.invariant.3).0,
@@ -34,7 +34,7 @@ loop-k-preserved c =
 pub returns : goal.returns
 returns c =
     let l = c.loop-k in
-    let o = c.offset-k.ensures.0 in
+    let o = c.from-k.ensures in
     let e = c.emit-to.ensures in
     let f = c.requires.0.fits.few in (
       put_as (order_bits c.args.order.now _ o) (put_both e.0 (l.invariant.4 _ _ (put_as (order_end _ l.k (omega arith)) (put_none _ _ (omega (arith, e.1, e.0.long)))))),

@@ -14,6 +14,3 @@ abbrev pub invariant-loop-k : goal.invariant-loop-k
 invariant-loop-k l =
     (l.k ≤ l.initial.k) × (l.to + 3 * l.k ≡ l.initial.to + 3 * l.initial.k) × (length l.out ≡ length l.initial.out) × All (λ v. v < 8) (latest_first l.order l.k)
     × ((out' : List ℕ) (r : ℕ) → Put l.to (concat (to_bits 3) (latest_first l.order l.k)) l.out out' r → Put l.initial.to (concat (to_bits 3) (latest_first l.order l.initial.k)) l.initial.out out' r)
-
-abbrev pub decreases-loop-k : goal.decreases-loop-k
-decreases-loop-k l = l.k

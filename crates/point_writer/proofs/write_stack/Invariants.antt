@@ -15,6 +15,3 @@ abbrev pub invariant-loop-k : goal.invariant-loop-k
 invariant-loop-k l =
     (l.k ≤ l.h) × (l.to + 19 * l.k ≤ l.at + 19 * l.h) × (length l.out ≡ length l.initial.out) × All FrameFitsFields (stack_of l.work l.from l.k)
     × ((out' : List ℕ) (r : ℕ) → Put l.to (concat write_frame (stack_of l.work l.from l.k)) l.out out' r → Put l.at (concat write_frame (stack_of l.work l.from l.h)) l.initial.out out' r)
-
-abbrev pub decreases-loop-k : goal.decreases-loop-k
-decreases-loop-k l = l.k

@@ -15,6 +15,3 @@ abbrev pub invariant-loop-u : goal.invariant-loop-u
 invariant-loop-u l =
     (l.u ≤ l.n) × (l.to ≤ l.at + 19508 * l.u) × (length l.out ≡ length l.initial.out) × All UnitFitsFields (units_from l.work l.cells l.u (l.n - l.u))
     × ((out' : List ℕ) (r : ℕ) → Put l.to (concat write_unit (units_from l.work l.cells l.u (l.n - l.u))) l.out out' r → Put l.at (concat write_unit (units_of l.work l.cells l.n)) l.initial.out out' r)
-
-abbrev pub decreases-loop-u : goal.decreases-loop-u
-decreases-loop-u l = l.n - l.u

@@ -11,26 +11,26 @@ read_book-requires c = (c.requires.short, refl)
 
 pub park_term-requires : goal.park_term-requires
 park_term-requires c =
-    let is = rw c.in-Read.is at c.read_book.ensures.is in
-    let t = rw c.in-Read-read_term.is at (by_tables is.0 is.2 c.read_term.ensures) in record {
-      framed = framed_as c.index.ensures.0 c.requires;
+    let is = rw c.in-Ok.is at c.read_book.ensures.is in
+    let t = rw c.in-Ok-read_term.is at (by_tables is.0 is.2 c.read_term.ensures) in record {
+      framed = framed_as c.from.ensures c.requires;
       loaded = record { tables = is.0; day = omega (arith, is.1, c.ranges); given = t.given };
       budget_bound = (omega (arith, c.ranges), sym is.1);
     }
 
-pub returns-in-Refused : goal.returns-in-Refused
-returns-in-Refused c =
-    refuses _ (by_book _ _ _ _ (framed _ c.requires.faultless) _ (rw c.in-Refused.is at c.read_book.ensures.is))
+pub returns-in-Err : goal.returns-in-Err
+returns-in-Err c =
+    rw c.number.ensures.value (refuses _ (by_book _ _ _ _ (framed _ c.requires.faultless) _ (rw c.in-Err.is at c.read_book.ensures.is)))
 
-pub returns-in-Refused-read_term : goal.returns-in-Refused-read_term
-returns-in-Refused-read_term c =
-    let is = rw c.in-Read.is at c.read_book.ensures.is in
-    let e = rw c.in-Refused-read_term.is at (by_tables is.0 is.2 c.read_term.ensures) in
-    as_asked refl is.1 (refuses _ (by_line _ _ _ _ (framed _ c.requires.faultless) _ is.0.read _ e))
+pub returns-in-Err-read_term : goal.returns-in-Err-read_term
+returns-in-Err-read_term c =
+    let is = rw c.in-Ok.is at c.read_book.ensures.is in
+    let e = rw c.in-Err-read_term.is at (by_tables is.0 is.2 c.read_term.ensures) in
+    rw c.number-in-Err-read_term.ensures.value (as_asked refl is.1 (refuses _ (by_line _ _ _ _ (framed _ c.requires.faultless) _ is.0.read _ e)))
 
-pub returns-in-Read-read_term : goal.returns-in-Read-read_term
-returns-in-Read-read_term c =
-    let is = rw c.in-Read.is at c.read_book.ensures.is in
-    let t = rw c.in-Read-read_term.is at (by_tables is.0 is.2 c.read_term.ensures) in
-    let u = c.index.ensures.0 in
+pub returns-in-Ok-read_term : goal.returns-in-Ok-read_term
+returns-in-Ok-read_term c =
+    let is = rw c.in-Ok.is at c.read_book.ensures.is in
+    let t = rw c.in-Ok-read_term.is at (by_tables is.0 is.2 c.read_term.ensures) in
+    let u = c.from.ensures in
     as_asked u is.1 (parked_alike _ _ _ _ (framed_as u c.requires) is.0 t (as_asked refl (sym is.1) c.park_term.ensures))

@@ -4,14 +4,14 @@ use Rattle.points.proofs.park_term.Goals as goal
 
 pub run_named-requires : goal.run_named-requires
 run_named-requires c =
-    let p = rw c.in-At.is at c.place.ensures.is in
+    let p = rw c.in-Ok.is at c.place.ensures.is in
     let q = c.requires in
     record { framed = q.framed; loaded = q.loaded; budget_bound = q.budget_bound; placed = record { is = p.0; slot = p.1 } }
 
-pub returns-in-Refused : goal.returns-in-Refused
-returns-in-Refused c =
+pub returns-in-Err : goal.returns-in-Err
+returns-in-Err c =
     let q = c.requires in
-    unplaced q.framed q.loaded.tables q.budget_bound.1 q.loaded.given _ (rw c.in-Refused.is at c.place.ensures.is)
+    rw c.number.ensures.value (unplaced q.framed q.loaded.tables q.budget_bound.1 q.loaded.given _ (rw c.in-Err.is at c.place.ensures.is))
 
-pub returns-in-At : goal.returns-in-At
-returns-in-At c = c.run_named.ensures
+pub returns-in-Ok : goal.returns-in-Ok
+returns-in-Ok c = c.run_named.ensures

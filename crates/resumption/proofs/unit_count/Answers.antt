@@ -2,8 +2,8 @@
 use Rattle.resumption.proofs.Slot.{lent_is, counts_run, counts_none}
 use Rattle.resumption.proofs.unit_count.Goals as goal
 
-pub returns-in-Run : goal.returns-in-Run
-returns-in-Run c = counts_run c.«open».ensures (lent_is _ c.args.k c.requires) _ _ c.in-Run.is
+pub returns-in_err-opened : goal.returns-in_err-opened
+returns-in_err-opened c = rw c.from_residual.ensures (counts_none c.«open».ensures (lent_is _ c.args.k c.requires) c.in_err-opened.was)
 
-pub returns-in-Broken : goal.returns-in-Broken
-returns-in-Broken c = counts_none c.«open».ensures (lent_is _ c.args.k c.requires) c.in-Broken.is
+pub returns : goal.returns
+returns c = counts_run c.«open».ensures (lent_is _ c.args.k c.requires) c.in_ok-opened.was

@@ -8,6 +8,3 @@ use Rattle.point_frames.proofs.steps.from.Given as goal
 
 abbrev pub invariant-loop-i : goal.invariant-loop-i
 invariant-loop-i l = (l.i ≤ 16) × (16 ≤ l.k → l.i ≡ 16) × (l.k ≤ 16 → l.k ≤ l.i) × Told (drop l.i (steps_in l.operators l.o)) l.r
-
-abbrev pub decreases-loop-i : goal.decreases-loop-i
-decreases-loop-i l = l.i

@@ -10,6 +10,3 @@ abbrev pub invariant-loop-v : goal.invariant-loop-v
 invariant-loop-v l =
     (l.v ≤ l.units) × JobsLeft (all_jobs (store l.work l.cells) l.units) (λ x. upto (λ w. jobs_at x (stack_in (store l.work l.cells) l.units w)) l.v) l.initial.jobs l.jobs
     × ExitsLeft l.cells l.units (all_exits (store l.work l.cells) l.units) (λ u i. upto (λ w. exits_to u i (stack_in (store l.work l.cells) l.units w)) l.v) l.initial.exits l.exits
-
-abbrev pub decreases-loop-v : goal.decreases-loop-v
-decreases-loop-v l = l.v

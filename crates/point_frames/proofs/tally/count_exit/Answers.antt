@@ -3,6 +3,7 @@ use Prim.Native.Nat.{◌<◌}
 use native.Mathlib.Omega.{arith}
 use Rattle.point_frames.proofs.Counts.{exit_room, exit_stored, exit_no_frame, exit_no_unit}
 use Rattle.point_frames.proofs.tally.count_exit.Goals as goal
+use Rattle.point_frames.proofs.tally.count_exit.Goals.{else-v-units-via-then-v-units+else-i-height, else-v-units-via-else-v-units}
 
 pub height-requires : goal.height-requires
 height-requires c =
@@ -21,13 +22,13 @@ returns-then-i-height c =
     exit_stored c.requires.0 c.index-v.ensures.0 c.offset-i.ensures.0 c.height.result c.requires.1.long c.if-v-units.true
     c.height.ensures c.if-i-height.true
 
-pub returns-else-i-height : goal.returns-else-i-height
-returns-else-i-height c =
-    exit_no_frame c.requires.0 c.index-v.ensures.0 c.offset-i.ensures.0 c.height.result c.requires.1.long c.height.ensures c.if-i-height.false
-
 pub returns-else-v-units : goal.returns-else-v-units
 returns-else-v-units c =
-    exit_no_unit c.requires.0 c.index-v.ensures.0 c.offset-i.ensures.0 0 c.requires.1.long c.if-v-units.false
+    elim c.else-v-units.branch [
+      | else-v-units-via-then-v-units+else-i-height w ↦
+          exit_no_frame c.requires.0 c.index-v.ensures.0 c.offset-i.ensures.0 w.height.result c.requires.1.long w.height.ensures w.if-i-height.false
+      | else-v-units-via-else-v-units w ↦ exit_no_unit c.requires.0 c.index-v.ensures.0 c.offset-i.ensures.0 0 c.requires.1.long w.if-v-units.false
+    ]
 
 pub overflow_mul-k : goal.overflow_mul-k
 overflow_mul-k c = omega (arith, c.requires.0.few)
@@ -37,9 +38,6 @@ overflow_add-k c = omega (arith, c.requires.0.few)
 
 pub offset_bounds-exits-k : goal.offset_bounds-exits-k
 offset_bounds-exits-k c = omega (arith, c.requires.0.few)
-
-pub offset_bounds-exits-k-then-i-height : goal.offset_bounds-exits-k-then-i-height
-offset_bounds-exits-k-then-i-height c = omega (arith, c.requires.0.few)
 
 pub bounds-exits-k : goal.bounds-exits-k
 bounds-exits-k c =

@@ -9,6 +9,3 @@ abbrev pub invariant-loop-h : goal.invariant-loop-h
 invariant-loop-h l =
     (l.h ≤ height_in l.cells l.v) × JobsLeft (jobs_of (stack_in (store l.work l.cells) l.units l.v)) (jobs_of (stack_of l.work (base l.v) l.h)) l.initial.jobs l.jobs
     × ExitsLeft l.cells l.units (exits_of (stack_in (store l.work l.cells) l.units l.v)) (exits_of (stack_of l.work (base l.v) l.h)) l.initial.exits l.exits
-
-abbrev pub decreases-loop-h : goal.decreases-loop-h
-decreases-loop-h l = l.h

@@ -8,6 +8,3 @@ use Rattle.point_frames.proofs.tally.distinct.Given as goal
 
 abbrev pub invariant-loop-x : goal.invariant-loop-x
 invariant-loop-x l = (l.x ≤ l.n) × (each_below (λ y. leb (get_or l.jobs y 0) 1) l.n ≡ each_below (λ y. leb (get_or l.jobs y 0) 1) l.x)
-
-abbrev pub decreases-loop-x : goal.decreases-loop-x
-decreases-loop-x l = l.x

@@ -6,6 +6,7 @@ use Rattle.units.specs.Frames.{frame_at}
 use Rattle.units.specs.Stacks.{store}
 use Rattle.point_frames.proofs.Stacks.{heights, frame_there, frame_missing, no_unit}
 use Rattle.point_frames.proofs.tally.frame.Goals as goal
+use Rattle.point_frames.proofs.tally.frame.Goals.{else-v-units-via-then-v-units+else-i-height, else-v-units-via-else-v-units}
 
 pub height-requires : goal.height-requires
 height-requires c =
@@ -36,10 +37,11 @@ returns-then-i-height c =
     let g = frame_there (store c.args.work.now c.args.cells.now) c.args.units c.args.v c.if-v-units.true c.args.i (omega (arith, c.height.ensures)) in
     (g ∙ ap (λ (x : ℕ). frame_at c.args.work.now (x + 3 * c.args.i)) (sym c.base_of.ensures) ∙ sym c.frame_at.ensures.0, c.frame_at.ensures.1)
 
-pub returns-else-i-height : goal.returns-else-i-height
-returns-else-i-height c =
-    (frame_missing (store c.args.work.now c.args.cells.now) c.args.units c.args.v c.if-v-units.true c.args.i (omega (arith, c.height.ensures)), tt)
-
-pub returns-else-v-units : goal.returns-else-v-units
-returns-else-v-units c =
-    (no_unit (store c.args.work.now c.args.cells.now) c.args.units c.args.v c.if-v-units.false c.args.i, tt)
+pub returns : goal.returns
+returns c =
+    let k = store c.args.work.now c.args.cells.now in
+    elim c.else-v-units.branch [
+      | else-v-units-via-then-v-units+else-i-height w ↦
+          (frame_missing k c.args.units c.args.v w.if-v-units.true c.args.i (let h = w.height.ensures in let l = w.if-i-height.false in omega (arith, h, l)), tt)
+      | else-v-units-via-else-v-units w ↦ (no_unit k c.args.units c.args.v w.if-v-units.false c.args.i, tt)
+    ]
