@@ -12,7 +12,8 @@ use Rattle.paper.specs.Line.{symbol_limit}
 use Rattle.paper.specs.Page.{Request, LineReader, all_below}
 use Rattle.paper.proofs.Readers.{accepted_injective, refused_accepted}
 use Rattle.tables.specs.Tables.{any_book, Operators}
-use Rattle.text.specs.declared.Text as T
+use Rattle.std.specs.Prelude.{Result as Outcome}
+use Rattle.refusal.specs.declared.Refusal.{Refusal}
 use Rattle.stream.specs.Promises.{WrittenAt}
 use Rattle.net.specs.Layout.{day_of}
 use Rattle.net.specs.Net.{book_by}
@@ -36,7 +37,7 @@ asks o named =
     record { some_units = f.some_units; few = f.few; named = named; small = o.small; long = f.work_long }
 
 -- what is read of a line by the operators' table is read by the book
-pub read_by : {read : LineReader} {book table net line symbols : List ℕ} {n work : ℕ} {l : Limits} {r r' : T.Text} → Open book n table net l work → r ≡ r' →
+pub read_by : {read : LineReader} {book table net line symbols : List ℕ} {n work : ℕ} {l : Limits} {r r' : Outcome ℕ Refusal} → Open book n table net l work → r ≡ r' →
     TermRead read n table line symbols r → ReadAs read (book_by book net) line symbols r'
 read_by {read} {book} {table} {net} {line} {symbols} o e q =
     let b = o.opened.netted in

@@ -28,9 +28,12 @@ use Rattle.engine.specs.Promises.{fault}
 use Rattle.engine.proofs.Frame.{framed, faulty}
 use Rattle.records.specs.Record.{record_of}
 use Rattle.batch.specs.Lines.{lines_of, taken, stop_of, done}
-use Rattle.batch.specs.Spec.{Values, values, asked, answer, line_record, done_by, values_of, lines_done, Ran, LinesBy}
+use Rattle.batch.specs.Spec.{Answered as Told, Values, values, asked, answer, line_record, done_by, values_of, lines_done, Ran, LinesBy}
 use Rattle.batch.specs.Promises.{Open, those, AllDone}
-use Rattle.batch.specs.declared.Batch as D
+use Rattle.std.proofs.Common.{Ok, Err}
+use Rattle.refusal.specs.Numbers.{number}
+use Rattle.refusal.specs.declared.Refusal.{Refusal}
+use Rattle.refusal.proofs.Some.{some_number}
 use Rattle.batch.specs.declared.Done.{Done}
 
 -- WHAT COUNTS OF A BOOK
@@ -95,7 +98,7 @@ module _ {book book₂ : List ℕ} {day day₂ : ℕ} (e : rules_on day (read_an
       }
 
   -- do the same lines, and give them the same records
-  pub lines_as : {read : LineReader} {lines : List ℕ} {units budget : ℕ} {schedule work net answers work' net' answers' : List ℕ} {r : D.Batch} →
+  pub lines_as : {read : LineReader} {lines : List ℕ} {units budget : ℕ} {schedule work net answers work' net' answers' : List ℕ} {r : Told} →
       LinesBy read book lines units budget day schedule work net answers work' net' answers' r →
       LinesBy read book₂ lines units budget day₂ schedule work net answers work' net' answers' r
   lines_as {read} {lines} {units} {budget} {schedule} {work} {net} {answers} {answers' = answers'} h =
@@ -141,7 +144,7 @@ pub prefix_short : (book : List ℕ) → length (take 65536 book) ≤ 65536
 prefix_short book = omega (arith, length-take 65536 book)
 
 -- what stands behind a book's first 65,536 bytes is not looked at
-pub lines_prefix : {read : LineReader} {book lines : List ℕ} {units budget day : ℕ} {schedule work net answers work' net' answers' : List ℕ} {r : D.Batch} →
+pub lines_prefix : {read : LineReader} {book lines : List ℕ} {units budget day : ℕ} {schedule work net answers work' net' answers' : List ℕ} {r : Told} →
     65536 ≤ length book → LinesBy read (take 65536 book) lines units budget day schedule work net answers work' net' answers' r →
     LinesBy read book lines units budget day schedule work net answers work' net' answers' r
 lines_prefix {book = book} {day = day} long = lines_as (ap (rules_on day) (sym (read_any_prefix book long)))
@@ -166,9 +169,9 @@ module _ (read : LineReader) (book lines : List ℕ) (units budget day : ℕ) (s
   of_book f x e = of_frame none (framed (asked read book units budget day schedule (length work) (length net) lines) f) ∙ ap for_book e
 
 -- a refusal of frame or book, with the buffers as they were
-module _ {read : LineReader} {book lines : List ℕ} {units budget day : ℕ} {schedule work net answers : List ℕ} (k : ℕ) where
-  refuses : lines_done read book lines units budget day schedule work net answers ≡ refused k →
-      LinesBy read book lines units budget day schedule work net answers work net answers (D.Batch.Refused k)
+module _ {read : LineReader} {book lines : List ℕ} {units budget day : ℕ} {schedule work net answers : List ℕ} (k : Refusal) where
+  refuses : lines_done read book lines units budget day schedule work net answers ≡ refused (number k) →
+      LinesBy read book lines units budget day schedule work net answers work net answers (Err k)
   refuses e = record {
     told = ap (values_of read book units budget day schedule (length work) (length net) lines) (sym e);
     unchanged = λ j h. (refl, refl, refl);
@@ -177,18 +180,18 @@ module _ {read : LineReader} {book lines : List ℕ} {units budget day : ℕ} {s
     runs = λ ls h. absurd (refused_accepted (sym e ∙ h));
   }
 
-  pub by_frame : k ≡ fault units (length work) (length net) symbol_limit → (k ≡ 0 → ⊥) →
-      LinesBy read book lines units budget day schedule work net answers work net answers (D.Batch.Refused k)
+  pub by_frame : number k ≡ fault units (length work) (length net) symbol_limit →
+      LinesBy read book lines units budget day schedule work net answers work net answers (Err k)
   unfolding unless
-  by_frame e n =
+  by_frame e =
       refuses
-      (of_frame read book lines units budget day schedule work net answers (some k)
-      (faulty (asked read book units budget day schedule (length work) (length net) lines) k e n))
+      (of_frame read book lines units budget day schedule work net answers (some (number k))
+      (faulty (asked read book units budget day schedule (length work) (length net) lines) (number k) e (λ z. omega (arith, some_number k))))
 
-  pub by_book : fault units (length work) (length net) symbol_limit ≡ 0 → read_any book ≡ refused k →
-      LinesBy read book lines units budget day schedule work net answers work net answers (D.Batch.Refused k)
+  pub by_book : fault units (length work) (length net) symbol_limit ≡ 0 → read_any book ≡ refused (number k) →
+      LinesBy read book lines units budget day schedule work net answers work net answers (Err k)
   unfolding then
-  by_book f e = refuses (of_book read book lines units budget day schedule work net answers f (refused k) e)
+  by_book f e = refuses (of_book read book lines units budget day schedule work net answers f (refused (number k)) e)
 
 -- BY THE NET that was built
 
@@ -209,7 +212,7 @@ module _ (read : LineReader) (book lines schedule work net ways answers : List �
   Answered answers' r k =
       let f = line_record read book l.units l.budget (day_of ways) schedule (length work) k in
       let ls = done f (length answers) (lines_of lines) in
-      (values (D.Batch.Done r) ≡ values_of read book l.units l.budget (day_of ways) schedule (length work) k lines (accepted ls))
+      (values (Ok r) ≡ values_of read book l.units l.budget (day_of ways) schedule (length work) k lines (accepted ls))
       × (answers' ≡ concat f ls ++ drop (length (concat f ls)) answers)
       × All (λ line. (A : Answer) → answer read book l.units l.budget (day_of ways) schedule (length work) k line ≡ accepted A →
       RunBy read book line l.units l.budget (day_of ways) schedule work net answers A) ls
@@ -237,7 +240,7 @@ module _ (read : LineReader) (book lines schedule work net ways answers : List �
   -- on the net's day
   on_net : {answers' work' net' : List ℕ} {r : Done} → fault l.units (length work) (length net) symbol_limit ≡ 0 →
       read_any book ≡ accepted (any_book book) → Answered answers' r (length net) → work' ≡ replicate (length work) 0 → net' ≡ replicate (length net) 0 →
-      LinesBy read book lines l.units l.budget (day_of ways) schedule work net answers work' net' answers' (D.Batch.Done r)
+      LinesBy read book lines l.units l.budget (day_of ways) schedule work net answers work' net' answers' (Ok r)
   unfolding then
   on_net {answers'} f b a z y =
       let e = of_book read book lines l.units l.budget (day_of ways) schedule work net answers f (accepted (any_book book)) b in
@@ -257,14 +260,14 @@ pub lines_by : {read : LineReader} {book table rules ways lines schedule work ne
     {r : Done} → l.units ≡ units → fault units (length work) (length net) symbol_limit ≡ 0 → TablesOf book table rules → day_in rules ≡ day →
     Built book table rules net ways → AllDone read book ways l schedule (length work) lines answers answers' r → work' ≡ replicate (length work) 0 →
     net' ≡ replicate (length ways) 0 →
-    LinesBy read book lines units l.budget day schedule work net answers work' net' answers' (D.Batch.Done r)
+    LinesBy read book lines units l.budget day schedule work net answers work' net' answers' (Ok r)
 unfolding then
 lines_by {read} {book} {ways = ways} {lines} {schedule} {work} {net} {answers} {work'} {net'} {answers'} {day = day} {l} {r} u f t d b a z y =
     let e : rules_on (day_of ways) (read_any book) ≡ rules_on day (read_any book) =
     ap (rules_on (day_of ways)) t.read
     ∙ ap accepted (b.same_book ∙ ap (λ (k : ℕ). on_day k (any_book book)) d)
     ∙ sym (ap (rules_on day) t.read) in
-    subst (λ (k : ℕ). LinesBy read book lines k l.budget day schedule work net answers work' net' answers' (D.Batch.Done r)) u
+    subst (λ (k : ℕ). LinesBy read book lines k l.budget day schedule work net answers work' net' answers' (Ok r)) u
     (lines_as e
     (on_net read book lines schedule work net ways answers l (ap (λ (k : ℕ). fault k (length work) (length net) symbol_limit) u ∙ f) t.read
     (answered_by read book lines schedule work net ways answers l t.read b.long a) z (y ∙ ap (λ (k : ℕ). replicate k 0) b.long)))

@@ -23,8 +23,7 @@ use Rattle.engine.specs.Spec.{published}
 use Rattle.stream.specs.Promises.{read_counted}
 use Rattle.records.specs.Record.{longest}
 use Rattle.batch.specs.Lines.{lines_of, taken, done}
-use Rattle.batch.specs.Spec.{asked, answer, line_record, done_by, values, values_of, record_by, lines_done, LinesBy}
-use Rattle.batch.specs.declared.Batch as D
+use Rattle.batch.specs.Spec.{Answered, asked, answer, line_record, done_by, values, values_of, record_by, lines_done, LinesBy}
 use Rattle.batch.proofs.Splitting.{counted_left, counted_long, lines_none, lines_next}
 
 -- LINES BEHIND THE FIRST ONES
@@ -113,7 +112,7 @@ stands_at f before behind line rest =
     ∙ take-append_seam (f line) (concat f behind ++ rest)
 
 -- it is the line's own
-module _ {read : LineReader} {book lines : List ℕ} {units budget day : ℕ} {schedule work net answers work' net' answers' : List ℕ} {r : D.Batch}
+module _ {read : LineReader} {book lines : List ℕ} {units budget day : ℕ} {schedule work net answers work' net' answers' : List ℕ} {r : Answered}
     (call : LinesBy read book lines units budget day schedule work net answers work' net' answers' r) where
   abbrev own : List ℕ → List ℕ
   own = line_record read book units budget day schedule (length work) (length net)
@@ -136,7 +135,7 @@ module _ (book : List ℕ) (units budget day : ℕ) (schedule : List ℕ) (work 
 -- TWO CALLS by the same book, units, budget, day and schedule, with areas of the same lengths
 
 module _ {read : LineReader} {book lines lines₂ : List ℕ} {units budget day : ℕ} {schedule work work₂ net net₂ answers answers₂ : List ℕ}
-    {work' work₂' net' net₂' answers' answers₂' : List ℕ} {r r₂ : D.Batch} (long : length work ≡ length work₂) (net_long : length net ≡ length net₂)
+    {work' work₂' net' net₂' answers' answers₂' : List ℕ} {r r₂ : Answered} (long : length work ≡ length work₂) (net_long : length net ≡ length net₂)
     (one : LinesBy read book lines units budget day schedule work net answers work' net' answers' r)
     (two : LinesBy read book lines₂ units budget day schedule work₂ net₂ answers₂ work₂' net₂' answers₂' r₂) where
   -- a line's record is the same, whatever lines stand before it and behind it, and whatever work area, net and answers held
@@ -153,7 +152,7 @@ module _ {read : LineReader} {book lines lines₂ : List ℕ} {units budget day 
 -- and of the same lines, into the same answers
 
 module _ {read : LineReader} {book lines : List ℕ} {units budget day : ℕ} {schedule work work₂ net net₂ answers work' work₂' net' net₂' : List ℕ}
-    {answers' answers₂' : List ℕ} {r r₂ : D.Batch} (long : length work ≡ length work₂) (net_long : length net ≡ length net₂)
+    {answers' answers₂' : List ℕ} {r r₂ : Answered} (long : length work ≡ length work₂) (net_long : length net ≡ length net₂)
     (one : LinesBy read book lines units budget day schedule work net answers work' net' answers' r)
     (two : LinesBy read book lines units budget day schedule work₂ net₂ answers work₂' net₂' answers₂' r₂) where
   -- only the lengths of work area and net are asked with

@@ -16,7 +16,6 @@ use Rattle.engine.specs.Spec.{RunHolds}
 use Rattle.engine.specs.Promises.{Opened, fault}
 use Rattle.batch.specs.Lines.{lines_of, taken, Stop, done}
 use Rattle.batch.specs.Spec as B
-use Rattle.batch.specs.declared.Batch as D
 use Rattle.batch.specs.declared.Done.{Done}
 use Rattle.batch.specs.declared.Stop as S
 
@@ -84,7 +83,7 @@ module _ (read : LineReader) (book net : List ℕ) (l : Limits) (schedule : List
   -- they are done, and why no more
   pub record AllDone (lines answers answers' : List ℕ) (r : Done) : Type 0 where
     pub told :
-        B.values (D.Batch.Done r) ≡
+        B.values (Ok r) ≡
         B.values_of read book l.units l.budget (day_of net) schedule work (length net) lines (accepted (those lines (length answers)))
     pub written : answers' ≡ concat record_in (those lines (length answers)) ++ drop (length (concat record_in (those lines (length answers)))) answers
     pub ran : All RanBy (those lines (length answers))

@@ -1,6 +1,6 @@
 -- The entry points for many lines by one book: which definition their answers equal, and what becomes of the lent buffers. The book is checked as document
 -- 01's table says and told once; each line's record is that of `answer_by` for this line alone. Assumes nothing.
-use Rattle.std.specs.Prelude.{List, ◌++◌, ◌≡◌, ℕ, length, drop, replicate}
+use Rattle.std.specs.Prelude.{List, ◌++◌, ◌≡◌, ℕ, length, drop, replicate, Result as Outcome, Ok, Err}
 use Rattle.paper.specs.Result.{Result, refused, accepted, then}
 use Rattle.paper.specs.Dated.{read_any}
 use Rattle.paper.specs.Line.{symbol_limit, read_line}
@@ -9,10 +9,12 @@ use Rattle.paper.specs.Run.{Answer}
 use Rattle.paper.specs.Sound.{All}
 use Rattle.paper.specs.Page.{Request, LineReader, frame_fault, unless, answer_by}
 use Rattle.paper.specs.Writer.{concat}
+use Rattle.refusal.specs.Numbers.{number}
+use Rattle.refusal.specs.declared.Refusal.{Refusal}
 use Rattle.engine.specs.Spec.{published, RunBy}
 use Rattle.records.specs.Record.{record_of}
 use Rattle.batch.specs.Lines.{whole_lines, lines_of, taken, Stop, done, stop_of}
-use Rattle.batch.specs.declared.Batch as D
+use Rattle.batch.specs.declared.Done.{Done}
 use Rattle.batch.specs.declared.Stop as S
 
 -- ANSWERS
@@ -29,10 +31,14 @@ stop S.Stop.End = Stop.end
 stop S.Stop.Cut = Stop.cut
 stop S.Stop.Room = Stop.room
 
+-- the code's answer
+abbrev pub Answered : Type 0
+Answered = Outcome Done Refusal
+
 -- the number or the values for each case of the code's answer
-abbrev pub values : D.Batch → Result Values
-values (D.Batch.Refused k) = refused k
-values (D.Batch.Done d) = accepted (record { lines = d.lines; read = d.read; written = d.written; stop = stop d.stop })
+abbrev pub values : Answered → Result Values
+values (Err e) = refused (number e)
+values (Ok d) = accepted (record { lines = d.lines; read = d.read; written = d.written; stop = stop d.stop })
 
 -- THE ENTRY POINTS
 
@@ -83,7 +89,7 @@ module _ (read : LineReader) (book lines : List ℕ) (units budget day : ℕ) (s
       RunBy read book line units budget day schedule work net answers A
 
   -- Book, lines and schedule are lent to be read, so they are unchanged.
-  pub record LinesBy (work' net' answers' : List ℕ) (r : D.Batch) : Type 0 where
+  pub record LinesBy (work' net' answers' : List ℕ) (r : Answered) : Type 0 where
     -- the answer is the definition's
     pub told : values r ≡ values_of read book units budget day schedule (length work) (length net) lines lines_done
     -- on the refusal of frame or book every lent buffer is unchanged
@@ -95,9 +101,9 @@ module _ (read : LineReader) (book lines : List ℕ) (units budget day : ℕ) (s
     pub runs : (ls : List (List ℕ)) → lines_done ≡ accepted ls → All Ran ls
 
 -- of lines
-abbrev pub LinesReduced : List ℕ → List ℕ → ℕ → ℕ → ℕ → List ℕ → List ℕ → List ℕ → List ℕ → List ℕ → List ℕ → List ℕ → D.Batch → Type 0
+abbrev pub LinesReduced : List ℕ → List ℕ → ℕ → ℕ → ℕ → List ℕ → List ℕ → List ℕ → List ℕ → List ℕ → List ℕ → List ℕ → Answered → Type 0
 LinesReduced = LinesBy read_line
 
 -- of payees' texts
-abbrev pub PayeesReduced : List ℕ → List ℕ → ℕ → ℕ → ℕ → List ℕ → List ℕ → List ℕ → List ℕ → List ℕ → List ℕ → List ℕ → D.Batch → Type 0
+abbrev pub PayeesReduced : List ℕ → List ℕ → ℕ → ℕ → ℕ → List ℕ → List ℕ → List ℕ → List ℕ → List ℕ → List ℕ → List ℕ → Answered → Type 0
 PayeesReduced = LinesBy read_text

@@ -11,9 +11,8 @@ ghost use Rattle.records.specs.Record.{longest};
 ghost use Rattle.batch.specs.Spec as B;
 ghost use Rattle.batch.specs.Promises as C;
 
-use book::Book;
 use engine::Form;
-use text::Text;
+use refusal::Refusal;
 use whole::Limits;
 
 // Why no more lines were done: there are none, the next is cut short, or the longest record would not fit.
@@ -31,13 +30,6 @@ pub struct Done {
     pub read: usize,
     pub written: usize,
     pub stop: Stop,
-}
-
-// The refusal's number of frame or book, or what was done.
-#[derive(Clone, Copy, Debug, PartialEq, Eq)]
-pub enum Batch {
-    Refused(u8),
-    Done(Done),
 }
 
 // The position behind the line at a position, where so many bytes are left for records, or why it isn't done.
@@ -83,10 +75,11 @@ fn answer_line(
     ensures arrays_after { C.Arrays line.new symbols.new scratch.new }
 {
     match engine::read_term(form, given, n, operators, line) {
-        Text::Refused(k) => records::put_refusal(k, answers, at),
-        Text::Read(length) => {
+        Err(e) => records::put_refusal(e.number(), answers, at),
+        Ok(length) => {
             if !named {
-                return records::put_refusal(14, answers, at);
+                let e = Refusal::UnknownUnitInSchedule;
+                return records::put_refusal(e.number(), answers, at);
             }
             let run = engine::post(
                 book, operators, net, line, length, limits, schedule, symbols, scratch, work,
@@ -168,37 +161,25 @@ fn lines_book(
     work: &mut [u8],
     net: &mut [u8],
     answers: &mut [u8],
-) -> Batch
+) -> Result<Done, Refusal>
     requires { (fault units (length work.old) (length net.old) symbol_limit ≡ 0) × (length book.now ≤ 65536) }
     ensures { B.LinesBy (reader form) book.now lines.now units budget day schedule.now work.old
         net.old answers.old work.new net.new answers.new result }
 {
     let mut operators = [0u8; tables::OPERATORS];
     let mut rules = [0u32; tables::RULES];
-    match book::read_book(book, day, &mut operators, &mut rules) {
-        Book::Refused(k) => Batch::Refused(k),
-        Book::Read(n) => {
-            insertion::build(book, &operators, &rules, net);
-            let done = answer_lines(
-                form,
-                book,
-                n,
-                &operators,
-                net,
-                lines,
-                Limits {
-                    units: casts::index(units),
-                    budget,
-                },
-                schedule,
-                work,
-                answers,
-            );
-            engine::clear(work);
-            engine::clear(net);
-            Batch::Done(done)
-        }
-    }
+    let n = book::read_book(book, day, &mut operators, &mut rules)?;
+    insertion::build(book, &operators, &rules, net);
+    let limits = Limits {
+        units: usize::from(units),
+        budget,
+    };
+    let done = answer_lines(
+        form, book, n, &operators, net, lines, limits, schedule, work, answers,
+    );
+    engine::clear(work);
+    engine::clear(net);
+    Ok(done)
 }
 
 // Lines or texts by the rules of a book that stand on a day, each as by itself: `units` units share a line's work as the schedule says, and make at most `budget`
@@ -214,14 +195,11 @@ pub fn lines_form(
     work: &mut [u8],
     net: &mut [u8],
     answers: &mut [u8],
-) -> Batch
+) -> Result<Done, Refusal>
     ensures { B.LinesBy (reader form) book.now lines.now units budget day schedule.now work.old
         net.old answers.old work.new net.new answers.new result }
 {
-    let fault = engine::frame_fault(units, work.len(), net.len(), engine::OUTPUT);
-    if fault != 0 {
-        return Batch::Refused(fault);
-    }
+    engine::check_frame(units, work.len(), net.len(), engine::OUTPUT)?;
     // What stands behind a book's first 65,536 bytes does not change what it reads as.
     if 65536 < book.len() {
         return lines_book(
@@ -253,7 +231,7 @@ pub fn reduce_lines(
     work: &mut [u8],
     net: &mut [u8],
     answers: &mut [u8],
-) -> Batch
+) -> Result<Done, Refusal>
     ensures { B.LinesReduced book.now lines.now units budget day schedule.now work.old
         net.old answers.old work.new net.new answers.new result }
 {
@@ -282,7 +260,7 @@ pub fn payee_lines(
     work: &mut [u8],
     net: &mut [u8],
     answers: &mut [u8],
-) -> Batch
+) -> Result<Done, Refusal>
     ensures { B.PayeesReduced book.now texts.now units budget day schedule.now work.old
         net.old answers.old work.new net.new answers.new result }
 {

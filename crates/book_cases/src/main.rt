@@ -4,9 +4,7 @@
 
 ghost use Rattle.std.specs.Prelude.{◌≡◌, ◌<◌, ◌≤◌, length};
 
-use book::Book;
 use cases::{say, say_number, say_refused};
-use writer::Written;
 
 // What the reader answers.
 fn try_reader(bytes: &[u8], day: u16)
@@ -15,8 +13,8 @@ fn try_reader(bytes: &[u8], day: u16)
     let mut operators = [0u8; 4352];
     let mut rules = [0u32; 512];
     match book::read_book(bytes, day, &mut operators, &mut rules) {
-        Book::Refused(k) => say_refused(k),
-        Book::Read(n) => {
+        Err(e) => say_refused(e.number()),
+        Ok(n) => {
             say(b"read ");
             say_number(n);
             say(b" ");
@@ -28,8 +26,8 @@ fn try_reader(bytes: &[u8], day: u16)
 // What the writer answers, and its output.
 fn try_writer(bytes: &[u8], output: &mut [u8]) {
     match writer::write_book(bytes, output) {
-        Written::Refused(k) => say_refused(k),
-        Written::Length(n) => {
+        Err(e) => say_refused(e.number()),
+        Ok(n) => {
             say(b"written ");
             say_number(n);
         }
@@ -77,14 +75,15 @@ fn try_case() -> bool {
     try_sizes(
         cases::number(head[0], head[1]),
         cases::number(head[2], head[3]),
-        casts::short(cases::number(head[4], head[5])),
+        cases::number(head[4], head[5]) as u16,
     )
 }
 
-// The turns are counted down from a number that no input uses up, so that the loop ends.
+// As many turns as no input uses up, so that the loop ends.
 fn main() {
-    let mut turns = u64::MAX;
-    while turns > 0 && try_case() {
-        turns -= 1;
+    for _ in 0..u64::MAX {
+        if !try_case() {
+            return;
+        }
     }
 }

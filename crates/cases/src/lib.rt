@@ -12,7 +12,7 @@ const STDOUT_FILENO: i32 = 1;
 pub fn number(high: u8, low: u8) -> usize
     ensures { (result ≡ high * 256 + low) × (result < 65536) }
 {
-    casts::index(high) * 256 + casts::index(low)
+    usize::from(u16::from_be_bytes([high, low]))
 }
 
 pub fn say(text: &[u8]) {
@@ -25,17 +25,15 @@ pub fn say_number(x: usize) {
 
 pub fn say_refused(k: u8) {
     say(b"refused ");
-    say_number(casts::index(k));
+    say_number(usize::from(k));
 }
 
 // The first n bytes, in hexadecimal.
 pub fn say_front(bytes: &[u8], n: usize)
     requires { n ≤ length bytes.now }
 {
-    let mut i = 0;
-    while i < n {
-        io::print_hex(STDOUT_FILENO, casts::index(bytes[i]) as u64, 2);
-        i += 1;
+    for &byte in &bytes[..n] {
+        io::print_hex(STDOUT_FILENO, u64::from(byte), 2);
     }
 }
 

@@ -1,6 +1,5 @@
 -- What the functions behind the entry points ask of each other. Assumes nothing.
-use Rattle.std.specs.Prelude.{Option as Maybe}
-use Rattle.std.specs.Prelude.{Some, None, Ok, Err, true, List, [], ◌≡◌, ℕ, ◌^◌, ◌≤◌, ◌<◌, length, take}
+use Rattle.std.specs.Prelude.{Ok, Err, true, List, [], ◌≡◌, ℕ, ◌^◌, ◌≤◌, ◌<◌, length, take}
 use Rattle.std.proofs.Math.Option.{Option, none, some}
 use Rattle.paper.specs.Result.{refused, accepted}
 use Rattle.paper.specs.Tree.{preorder}
@@ -25,11 +24,6 @@ abbrev pub fault_number : Option ℕ → ℕ
 fault_number none = 0
 fault_number (some k) = k
 
--- the same of what the code answers
-abbrev pub told : Maybe Refusal → ℕ
-told None = 0
-told (Some e) = number e
-
 -- what the frame's check looks at
 abbrev pub frame : ℕ → ℕ → ℕ → ℕ → Request
 frame units work net output =
@@ -37,6 +31,11 @@ frame units work net output =
 
 abbrev pub fault : ℕ → ℕ → ℕ → ℕ → ℕ
 fault units work net output = fault_number (frame_fault published (frame units work net output))
+
+-- the number of what the code answers of a frame, or 0
+abbrev pub frame_number : Checked Unit Refusal → ℕ
+frame_number (Ok u) = 0
+frame_number (Err e) = number e
 
 -- the run's frame is without fault, and the book no longer than any book is
 pub record Framed (book : List ℕ) (units : ℕ) (work net output : List ℕ) : Type 0 where

@@ -267,23 +267,20 @@ fn reduce_book(
     )
 }
 
-// The refusal of the run's frame, if there is one: 13, units not 1 to 8; 15, work area or net too short; 16, output too short.
-pub fn frame_fault(units: u8, work: usize, net: usize, output: usize) -> Option<Refusal>
-    ensures { C.told result ≡ C.fault units work net output }
+// Checks the run's frame: units not 1 to 8, work area or net too short, output too short.
+pub fn check_frame(units: u8, work: usize, net: usize, output: usize) -> Result<(), Refusal>
+    ensures { C.frame_number result ≡ C.fault units work net output }
 {
-    if units == 0 {
-        return Some(Refusal::BadUnits);
-    }
-    if 8 < units {
-        return Some(Refusal::BadUnits);
+    if units == 0 || 8 < units {
+        return Err(Refusal::BadUnits);
     }
     if work < WORK || net < NET {
-        return Some(Refusal::WorkTooShort);
+        return Err(Refusal::WorkTooShort);
     }
     if output < OUTPUT {
-        return Some(Refusal::OutputTooShort);
+        return Err(Refusal::OutputTooShort);
     }
-    None
+    Ok(())
 }
 
 // The run of a line or text by the rules of a book that stand on a day: `units` units share the work as the schedule says, and make at most `budget`
@@ -303,9 +300,7 @@ pub fn reduce_form(
     ensures { R.ReducedBy (R.reader form) book.now line.now units budget day schedule.now work.old
         net.old output.old work.new net.new output.new result }
 {
-    if let Some(fault) = frame_fault(units, work.len(), net.len(), output.len()) {
-        return Err(fault);
-    }
+    check_frame(units, work.len(), net.len(), output.len())?;
     // What stands behind a book's first 65,536 bytes does not change what it reads as.
     if 65536 < book.len() {
         return reduce_book(

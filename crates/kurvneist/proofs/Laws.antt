@@ -20,13 +20,11 @@ use Rattle.engine.specs.Spec as R
 use Rattle.engine.specs.declared.Answer as A
 use Rattle.batch.specs.Spec as B
 use Rattle.batch.specs.Spec.{done_by}
-use Rattle.batch.specs.declared.Batch as D
 use Rattle.bound.specs.Spec as N
 use Rattle.bound.specs.declared.Bound as O
 use Rattle.points.specs.Spec as P
 use Rattle.settlement.specs.Spec as S
 use Rattle.settlement.specs.declared.Settled as T
-use Rattle.writer.specs.declared.Written as W
 use Rattle.writer.proofs.Laws.{write_not_six}
 use Rattle.settlement.proofs.Laws.{line_not_six, payee_settled_not_six as payee_not_six_settled}
 use Rattle.bound.proofs.Laws.{line_not_six as line_bound_not_six, text_not_six as text_bound_not_six}
@@ -59,7 +57,7 @@ resumed {r = r} q e =
 
 -- the answer of many lines as numbers
 pub lines_told : {read : LineReader} {book lines : List ℕ} {units budget day : ℕ} {schedule work net answers work' net' answers' done' : List ℕ} {n : ℕ}
-    {r : D.Batch} →
+    {r : B.Answered} →
     B.LinesBy read book lines units budget day schedule work net answers work' net' answers' r →
     (n ≡ X.refusal (B.values r)) × (done' ≡ X.done_numbers (B.values r)) →
     X.LinesInNumbersBy read book lines units budget day schedule work net answers work' net' answers' done' n
@@ -145,11 +143,11 @@ module _ {book line : List ℕ} {budget day : ℕ} {work net work' net' answer' 
 pub wrote_not_six : {book output output' length' : List ℕ} {r : ℕ} → X.WroteInNumbers book output output' length' r → r ≢ 6
 wrote_not_six {r = r} h e = go h.answer refl
   where
-    go : (w : W.Written) → h.answer ≡ w → ⊥
-    go (W.Written.Refused k) f =
-        let i : r ≡ k = h.number ∙ ap X.written_refusal f in
-        write_not_six h.is (f ∙ ap W.Written.Refused (sym i ∙ e))
-    go (W.Written.Length n) f =
+    go : (w : Outcome ℕ Refusal) → h.answer ≡ w → ⊥
+    go (Err k) f =
+        let i : r ≡ number k = h.number ∙ ap X.written_refusal f in
+        write_not_six h.is (ap told f ∙ ap refused (sym i ∙ e))
+    go (Ok n) f =
         let i : r ≡ 0 = h.number ∙ ap X.written_refusal f in
         omega arith
 

@@ -1,6 +1,6 @@
 -- The exported functions: a refusal's number or 0, and the values of an answer as numbers in an array (document 01, 'What is checked where': a
 -- refusal answers its number with zeros for all else; document 02, Changes 12 to 14). Assumes nothing.
-use Rattle.std.specs.Prelude.{List, [], ◌∷◌, ◌≡◌, ℕ, ℤ, pos, length, Result as Outcome}
+use Rattle.std.specs.Prelude.{List, [], ◌∷◌, ◌≡◌, ℕ, ℤ, pos, length, Result as Outcome, Ok, Err}
 use Rattle.std.proofs.Math.Option.{Option, none, some}
 use Rattle.paper.specs.Result.{Result, refused, accepted}
 use Rattle.paper.specs.Line.{read_line}
@@ -11,17 +11,16 @@ use Rattle.engine.specs.Spec as R
 use Rattle.engine.specs.declared.Answer as A
 use Rattle.batch.specs.Lines.{stop_number}
 use Rattle.batch.specs.Spec as B
-use Rattle.batch.specs.declared.Batch as D
 use Rattle.bound.specs.Spec as N
 use Rattle.bound.specs.declared.Bound as O
 use Rattle.fees.specs.Fees.{charge}
 use Rattle.fees.specs.Spec as F
+use Rattle.refusal.specs.Numbers.{number}
 use Rattle.refusal.specs.declared.Refusal.{Refusal}
 use Rattle.points.specs.Spec as P
 use Rattle.settlement.specs.Spec as S
 use Rattle.settlement.specs.declared.Settled as T
 use Rattle.writer.specs.Spec.{Answers}
-use Rattle.writer.specs.declared.Written as W
 
 -- the refusal's number, 0 if there is none
 abbrev pub refusal : {A : Type 0} → Result A → ℕ
@@ -91,7 +90,7 @@ module _ (read : LineReader) (book lines : List ℕ) (units budget day : ℕ) (s
     pub number : r ≡ refusal told
     pub values : done' ≡ done_numbers told
     -- what becomes of the lent buffers, clause by clause
-    pub answer : D.Batch
+    pub answer : B.Answered
     pub buffers : B.LinesBy read book lines units budget day schedule work net answers work' net' answers' answer
 
 abbrev pub LinesInNumbers : List ℕ → List ℕ → ℕ → ℕ → ℕ → List ℕ → List ℕ → List ℕ → List ℕ → List ℕ → List ℕ → List ℕ → List ℕ → ℕ → Type 0
@@ -123,16 +122,16 @@ abbrev pub PayeeBoundInNumbers : List ℕ → List ℕ → ℕ → ℕ → List 
 PayeeBoundInNumbers = BoundInNumbersBy read_text
 
 -- the writer's answer
-abbrev pub written_refusal : W.Written → ℕ
-written_refusal (W.Written.Refused k) = k
-written_refusal (W.Written.Length n) = 0
+abbrev pub written_refusal : Outcome ℕ Refusal → ℕ
+written_refusal (Err e) = number e
+written_refusal (Ok n) = 0
 
-abbrev pub written_length : W.Written → ℕ
-written_length (W.Written.Refused k) = 0
-written_length (W.Written.Length n) = n
+abbrev pub written_length : Outcome ℕ Refusal → ℕ
+written_length (Err e) = 0
+written_length (Ok n) = n
 
 pub record WroteInNumbers (book output output' length' : List ℕ) (r : ℕ) : Type 0 where
-  pub answer : W.Written
+  pub answer : Outcome ℕ Refusal
   pub is : Answers book output output' answer
   pub number : r ≡ written_refusal answer
   pub length : length' ≡ written_length answer ∷ []

@@ -11,13 +11,12 @@ ghost use Rattle.bound.specs.Spec as N;
 ghost use Rattle.settlement.specs.Spec as S;
 ghost use Rattle.kurvneist.specs.Spec as X;
 
-use batch::Batch;
+use batch::Done;
 use bound::Bound;
 use engine::{Answer, Form};
+use refusal::Refusal;
 use run::Run;
 use settlement::Settled;
-use strict::Strict;
-use writer::Written;
 
 // The bytes of a work area.
 #[unsafe(no_mangle)]
@@ -215,15 +214,15 @@ pub extern "C" fn kurvneist_record_length() -> usize
 }
 
 // The refusal's number, or 0. The numbers are lines done, bytes of the lines, bytes of records and the stop's number, or zeros.
-fn put_done(b: Batch, done: &mut [u64; 4]) -> u8
+fn put_done(b: Result<Done, Refusal>, done: &mut [u64; 4]) -> u8
     ensures { (result ≡ X.refusal (B.values b)) × (done.new ≡ X.done_numbers (B.values b)) }
 {
     match b {
-        Batch::Refused(k) => {
+        Err(e) => {
             *done = [0; 4];
-            k
+            e.number()
         }
-        Batch::Done(d) => {
+        Ok(d) => {
             *done = [
                 d.lines as u64,
                 d.read as u64,
@@ -343,11 +342,11 @@ pub extern "C" fn kurvneist_write_book(book: &[u8], output: &mut [u8], size: &mu
     ensures { X.WroteInNumbers book.now output.old output.new size.new result }
 {
     match writer::write_book(book, output) {
-        Written::Refused(k) => {
+        Err(e) => {
             *size = [0];
-            k
+            e.number()
         }
-        Written::Length(n) => {
+        Ok(n) => {
             *size = [n as u64];
             0
         }
@@ -487,15 +486,15 @@ pub extern "C" fn kurvneist_strict_book(book: &[u8], pair: &mut [u64; 2]) -> u8
     ensures { X.StrictInNumbers book.now pair.new result }
 {
     match strict::strict_book(book) {
-        Strict::Refused(k) => {
+        Err(e) => {
             *pair = [0; 2];
-            k
+            e.number()
         }
-        Strict::Overlap(i, j) => {
-            *pair = [i as u64, j as u64];
-            25
+        Ok(Some((i, j))) => {
+            *pair = [u64::from(i), u64::from(j)];
+            Refusal::RulesOverlap.number()
         }
-        Strict::Admitted => {
+        Ok(None) => {
             *pair = [0; 2];
             0
         }

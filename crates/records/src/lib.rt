@@ -24,26 +24,23 @@ pub fn put_refusal(k: u8, answers: &mut [u8], at: usize) -> usize
 
 // The operators of the first n symbols, at a position; the position behind them.
 fn put_term(symbols: &[u32; 1024], n: usize, answers: &mut [u8], at: usize) -> usize
-    requires { (length symbols.now ≡ 1024) × (n ≤ 1024) × (at + n ≤ length answers.old) }
+    requires { (n ≤ 1024) × (at + n ≤ length answers.old) }
     ensures { WrittenAt at (Y.operators (take n symbols.now)) answers.old answers.new result }
 {
-    let mut i = 0;
-    while i < n {
+    for i in 0..n {
         answers[at + i] = symbol::operator(symbols[i]);
-        i += 1;
     }
     at + n
 }
 
 // The record of a run whose present term is in the symbols, at a position; the position behind it.
 pub fn put_run(run: Run, symbols: &[u32; 1024], answers: &mut [u8], at: usize) -> usize
-    requires { (run.length ≤ 1024) × (length symbols.now ≡ 1024) × (at + longest ≤ length answers.old) }
+    requires { (run.length ≤ 1024) × (at + longest ≤ length answers.old) }
     ensures { WrittenAt at (value_bytes (values (D.Answer.Ran run)) (Y.operators (take run.length symbols.now))) answers.old
         answers.new result }
 {
-    let ending = run.ending;
-    let a = stream::put_number(answers, at, 2, run::ending_number(ending));
-    let b = stream::put_number(answers, a, 4, casts::position(run.rewrites));
+    let a = stream::put_number(answers, at, 2, run::ending_number(run.ending));
+    let b = stream::put_number(answers, a, 4, run.rewrites as usize);
     let c = stream::put_number(answers, b, 8, run.entries);
     let d = stream::put_number(answers, c, 8, run.granted);
     let e = stream::put_number(answers, d, 8, run.kept);

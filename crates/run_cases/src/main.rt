@@ -8,7 +8,7 @@ ghost use Rattle.std.specs.Prelude.{◌≡◌, ◌<◌, ◌≤◌, length};
 
 use cases::{say, say_front, say_number, say_refused};
 use engine::Answer;
-use run::{Ending, Run};
+use run::Run;
 
 // What the lent buffers hold before a run, so that a byte that is written shows.
 const WORK_FILLER: u8 = 0x5a;
@@ -30,21 +30,21 @@ struct Head {
     work: usize,
     net: usize,
     output: usize,
+    ghost name_fits: { name < 256 },
+    ghost parts_fit: { (book < 65536) × (line < 65536) × (schedule < 65536) },
+    ghost areas_fit: { (work < 65536) × (net < 65536) × (output < 65536) },
 }
 
 // Two numbers of two bytes as one, the most significant first.
 fn long_number(high: usize, low: usize) -> u32
     requires { (high < 65536) × (low < 65536) }
 {
-    casts::word(high * 65536 + low)
+    (high * 65536 + low) as u32
 }
 
-fn head_of(bytes: &[u8; 20]) -> Head
-    requires { length bytes.now ≡ 20 }
-    ensures { (result.name < 256) × (result.book < 65536) × (result.line < 65536) × (result.schedule < 65536) × (result.work < 65536) × (result.net < 65536) × (result.output < 65536) }
-{
+fn head_of(bytes: &[u8; 20]) -> Head {
     Head {
-        name: casts::index(bytes[0]),
+        name: usize::from(bytes[0]),
         book: cases::number(bytes[1], bytes[2]),
         line: cases::number(bytes[3], bytes[4]),
         units: bytes[5],
@@ -52,7 +52,7 @@ fn head_of(bytes: &[u8; 20]) -> Head
             cases::number(bytes[6], bytes[7]),
             cases::number(bytes[8], bytes[9]),
         ),
-        day: casts::short(cases::number(bytes[10], bytes[11])),
+        day: cases::number(bytes[10], bytes[11]) as u16,
         schedule: cases::number(bytes[12], bytes[13]),
         work: cases::number(bytes[14], bytes[15]),
         net: cases::number(bytes[16], bytes[17]),
@@ -60,56 +60,23 @@ fn head_of(bytes: &[u8; 20]) -> Head
     }
 }
 
-// Is every byte from this place on the value?
-fn all_are(bytes: &[u8], from: usize, value: u8) -> bool {
-    let mut i = from;
-    while i < bytes.len() {
-        if bytes[i] != value {
-            return false;
-        }
-        i += 1;
-    }
-    true
-}
-
-fn say_if(holds: bool, word: &[u8]) {
-    if holds {
-        say(word);
-    } else {
-        say(b"CHANGED");
-    }
-}
-
-// What became of a work area or net: all of one value.
+// What became of a buffer: the word if all of it is of one value.
 fn say_area(name: &[u8], area: &[u8], value: u8, word: &[u8]) {
     say(name);
-    say_if(all_are(area, 0, value), word);
-}
-
-// What became of the output: from this place on as it was.
-fn say_output(output: &[u8], from: usize) {
-    say(b" output ");
-    say_if(all_are(output, from, OUTPUT_FILLER), b"kept");
-    say(b"\n");
-}
-
-fn ending_number(ending: Ending) -> usize {
-    match ending {
-        Ending::Finished => 0,
-        Ending::Spent => 1,
-        Ending::Full => 2,
-        Ending::Cut => 3,
-    }
+    say(if area.iter().all(|&byte| byte == value) {
+        word
+    } else {
+        b"CHANGED"
+    });
 }
 
 fn say_run(run: Run, output: &[u8])
     requires { run.length ≤ length output.now }
 {
-    let ending = run.ending;
     say(b"end ");
-    say_number(ending_number(ending));
+    say_number(run::ending_number(run.ending));
     say(b" rewrites ");
-    say_number(casts::position(run.rewrites));
+    say_number(run.rewrites as usize);
     say(b" entries ");
     say_number(run.entries);
     say(b" granted ");
@@ -137,16 +104,17 @@ fn try_run(
             say_refused(k);
             say_area(b" work ", work, WORK_FILLER, b"kept");
             say_area(b" net ", net, NET_FILLER, b"kept");
-            say_output(output, 0);
+            say_area(b" output ", output, OUTPUT_FILLER, b"kept");
         }
         Answer::Ran(run) => {
             let behind = run.length;
             say_run(run, output);
             say_area(b" work ", work, 0, b"zero");
             say_area(b" net ", net, 0, b"zero");
-            say_output(output, behind);
+            say_area(b" output ", &output[behind..], OUTPUT_FILLER, b"kept");
         }
     }
+    say(b"\n");
 }
 
 fn filled(value: u8) -> [u8; 65536]
@@ -186,19 +154,14 @@ fn try_lengths(
 }
 
 // A case behind its name. False where the input ends before it does.
-fn try_head(head: Head) -> bool
-    requires { (head.book < 65536) × (head.line < 65536) × (head.schedule < 65536) × (head.work < 65536) × (head.net < 65536) × (head.output < 65536) }
-{
+fn try_head(head: Head) -> bool {
     let mut book = io::large_buffer();
     let mut line = io::large_buffer();
     let mut schedule = io::large_buffer();
-    if !cases::read_front(&mut book, head.book) {
-        return false;
-    }
-    if !cases::read_front(&mut line, head.line) {
-        return false;
-    }
-    if !cases::read_front(&mut schedule, head.schedule) {
+    if !cases::read_front(&mut book, head.book)
+        || !cases::read_front(&mut line, head.line)
+        || !cases::read_front(&mut schedule, head.schedule)
+    {
         return false;
     }
     try_lengths(
@@ -238,10 +201,11 @@ fn try_case() -> bool {
     pass_name(head.name) && try_head(head)
 }
 
-// The turns are counted down from a number that no input uses up, so that the loop ends.
+// As many turns as no input uses up, so that the loop ends.
 fn main() {
-    let mut turns = u64::MAX;
-    while turns > 0 && try_case() {
-        turns -= 1;
+    for _ in 0..u64::MAX {
+        if !try_case() {
+            return;
+        }
     }
 }

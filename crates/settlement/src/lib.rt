@@ -68,9 +68,7 @@ pub fn settle(
     ensures { X.SettledBy (reader form) book.now line.now units budget day schedule.now rates.now amount
         shares.now output.old parts.old output.new parts.new result }
 {
-    if let Some(fault) = engine::frame_fault(units, engine::WORK, engine::NET, output.len()) {
-        return Err(fault);
-    }
+    engine::check_frame(units, engine::WORK, engine::NET, output.len())?;
     let mut work = [0u8; engine::WORK];
     let mut net = [0u8; engine::NET];
     let mut term = [0u8; engine::OUTPUT];

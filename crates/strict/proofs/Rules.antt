@@ -1,4 +1,5 @@
 -- What is found rule by rule, or operator by operator, is what the definitions say of all. Assumes nothing.
+use Rattle.std.proofs.Common.{Some, None}
 use mathlib.Core.Bool.{Bool, true, false, not}
 use mathlib.Core.List.{List, [], ◌∷◌}
 use mathlib.Core.Option.{none, some}
@@ -14,8 +15,6 @@ use Rattle.paper.specs.Strict.{linear, all_linear, has_constant, compatible, ove
 use Rattle.tables.specs.Tables.{rule_at}
 use Rattle.apart.specs.Rows.{apart_in, Rows}
 use Rattle.strict.specs.Promises.{Second, FirstPair}
-use Rattle.strict.specs.declared.Strict as D
-use Rattle.strict.specs.declared.Found as F
 
 -- LEFT SIDES
 
@@ -105,13 +104,13 @@ abbrev pub Decides : List ℕ → ℕ → ℕ → Type 0
 Decides rows m i = (rs : List Rule) → Rows rs rows → length rs ≡ m → overlap_of rs ≡ overlap_from i (drop i rs)
 
 module _ {rows : List ℕ} {m i : ℕ} (d : Decides rows m i) where
-  pub decides_next : i < m → Second rows i m F.Found.None → Decides rows m (i + 1)
+  pub decides_next : i < m → Second rows i m None → Decides rows m (i + 1)
   decides_next l s rs h e = d rs h e ∙ from_next rs i (omega arith) (sym (s.is rs h e))
 
-  pub pair_first : (j a b : ℕ) → i < m → Second rows i m (F.Found.Rule j) → a ≡ i → b ≡ j → FirstPair rows m (D.Strict.Overlap a b)
+  pub pair_first : (j a b : ℕ) → i < m → Second rows i m (Some j) → a ≡ i → b ≡ j → FirstPair rows m (Some (a, b))
   unfolding told
   pair_first j a b l s p q = record { is = λ rs h e. rw (p, q, d rs h e, from_found rs i (omega arith) j (sym (s.is rs h e))) }
 
-  pub pair_none : m ≤ i → FirstPair rows m D.Strict.Admitted
+  pub pair_none : m ≤ i → FirstPair rows m None
   unfolding told
   pair_none l = record { is = λ rs h e. rw (d rs h e, from_none rs i (omega arith)) }

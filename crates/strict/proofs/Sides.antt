@@ -1,4 +1,5 @@
 -- The variables of a left side, met one after another: none is met twice exactly if none stands twice. Assumes nothing.
+use Rattle.std.proofs.Common.{None}
 use mathlib.Core.Bool.{Bool, true, false}
 use mathlib.Core.List.{List, [], ◌∷◌}
 use mathlib.Core.Logic.{◌⊎◌, inl, inr, ◌≢◌}
@@ -19,7 +20,6 @@ use Rattle.side.proofs.Mask.{has_same, has_other, masks_none, masks_with}
 use Rattle.tables.specs.Layout.{arity_in}
 use Rattle.rule.proofs.Sides.{goes_operator, goes_variable, all_variable, none_left}
 use Rattle.strict.specs.Promises.{fresh, SymbolTaken, SymbolMet, RestLinear, LinearAt}
-use Rattle.strict.specs.declared.Step as S
 
 -- FRESH VARIABLES
 
@@ -94,7 +94,7 @@ module _ {bytes operators : List ℕ} {at mask : ℕ} where
       }
 
 pub met_again : {bytes operators : List ℕ} {at : ℕ} (mask v next : ℕ) → StandingAt bytes at (Sd.Standing.Variable v next) → eqb (bit v mask) 1 ≡ true →
-    SymbolMet bytes at operators mask S.Step.Repeated
+    SymbolMet bytes at operators mask None
 unfolding variables
 met_again {bytes} {operators} {at} mask v next h e met m = all_variable bytes operators _ at v next h (λ ss. fresh_met met v (variables ss) (m v ∙ e))
 
@@ -105,7 +105,7 @@ module _ {bytes operators : List ℕ} {at mask due room : ℕ} where
   unfolding fresh variables
   ended e = record { is = λ met m ss s. rw (none_left bytes operators at due room ss s e) }
 
-  pub stopped : 0 < due → SymbolMet bytes at operators mask S.Step.Repeated → RestLinear bytes at operators mask due room false
+  pub stopped : 0 < due → SymbolMet bytes at operators mask None → RestLinear bytes at operators mask due room false
   stopped d h = record { is = λ met m ss s. sym (h met m due room ss d s) }
 
   pub went : {due' room' : ℕ} {t : T.Taken} {r : Bool} → 0 < due → SymbolTaken bytes at operators mask t → due' ≡ due - 1 + t.arity → room' ≡ room - 1 →

@@ -1,6 +1,6 @@
 -- What the functions inside ask and ensure of each other. Promises of functions inside. Assumes nothing.
-use Rattle.std.specs.Prelude.{Bool, true, false, List, [], ◌∷◌, ◌≡◌, ℕ, ◌+◌, ◌<◌, ◌≤◌, length, drop}
-use Rattle.std.proofs.Math.Option.{Option, none, some}
+use Rattle.std.specs.Prelude.{Bool, true, false, List, [], ◌∷◌, ◌≡◌, ℕ, ◌+◌, ◌<◌, ◌≤◌, length, drop, Option, Some, None, Ok}
+use Rattle.std.proofs.Math.Option.{Option as Maybe, none, some}
 use Rattle.paper.specs.Tree.{preorder}
 use Rattle.paper.specs.Strategy.{has}
 use Rattle.paper.specs.Book.{Operator, Symbol, Side, Rule}
@@ -14,9 +14,6 @@ use Rattle.side.specs.declared.Taken as T
 use Rattle.rule.specs.Packed.{Stands, SideAt, Goes, AllAt}
 use Rattle.apart.specs.Rows.{Rows}
 use Rattle.strict.specs.Spec.{verdict}
-use Rattle.strict.specs.declared.Strict as D
-use Rattle.strict.specs.declared.Step as S
-use Rattle.strict.specs.declared.Found as F
 
 -- VARIABLES OF A LEFT SIDE
 
@@ -32,9 +29,9 @@ pub record SymbolTaken (bytes : List ℕ) (at : ℕ) (operators : List ℕ) (mas
   pub goes : (met : List ℕ) → Masks mask met → (met' : List ℕ) × Masks t.met met'
       × Goes bytes at operators (λ ss ss'. fresh met (variables ss) ≡ fresh met' (variables ss')) t.arity t.next
 
-abbrev pub SymbolMet : List ℕ → ℕ → List ℕ → ℕ → S.Step → Type 0
-SymbolMet bytes at operators mask (S.Step.Took t) = SymbolTaken bytes at operators mask t
-SymbolMet bytes at operators mask S.Step.Repeated =
+abbrev pub SymbolMet : List ℕ → ℕ → List ℕ → ℕ → Option T.Taken → Type 0
+SymbolMet bytes at operators mask (Some t) = SymbolTaken bytes at operators mask t
+SymbolMet bytes at operators mask None =
     (met : List ℕ) → Masks mask met → AllAt bytes at operators (λ ss. fresh met (variables ss) ≡ false)
 
 -- r answers for the symbols at a position
@@ -52,22 +49,22 @@ pub record ConstantAmong (operators : List ℕ) (n : ℕ) (r : Bool) : Type 0 wh
 
 -- PAIRS OF RULES
 
-abbrev pub found : F.Found → Option ℕ
-found (F.Found.Rule j) = some j
-found F.Found.None = none
+abbrev pub found : Option ℕ → Maybe ℕ
+found (Some j) = some j
+found None = none
 
-abbrev pub Below : ℕ → F.Found → Type 0
-Below m (F.Found.Rule j) = j < m
-Below m F.Found.None = Unit {0}
+abbrev pub Below : ℕ → Option ℕ → Type 0
+Below m (Some j) = j < m
+Below m None = Unit {0}
 
 -- of m rules, r is the first behind rule i that is not apart from it
-pub record Second (rows : List ℕ) (i m : ℕ) (r : F.Found) : Type 0 where
+pub record Second (rows : List ℕ) (i m : ℕ) (r : Option ℕ) : Type 0 where
   pub is : (rs : List Rule) → Rows rs rows → length rs ≡ m → found r ≡ overlap_with (rule_at rs i).left (i + 1) (drop (i + 1) rs)
   pub below : Below m r
 
 -- r tells the first pair of m rules
-pub record FirstPair (rows : List ℕ) (m : ℕ) (r : D.Strict) : Type 0 where
-  pub is : (rs : List Rule) → Rows rs rows → length rs ≡ m → verdict r ≡ told (overlap_of rs)
+pub record FirstPair (rows : List ℕ) (m : ℕ) (r : Option (ℕ × ℕ)) : Type 0 where
+  pub is : (rs : List Rule) → Rows rs rows → length rs ≡ m → verdict (Ok r) ≡ told (overlap_of rs)
 
 -- THE BOOK
 

@@ -1,9 +1,11 @@
 -- What the strict profile answers of a book's bytes (document 02, Change 13). Assumes nothing.
 use Rattle.paper.specs.Strict.{Verdict}
-use Rattle.strict.specs.declared.Strict as D
+use Rattle.std.specs.Prelude.{ℕ, Option, Some, None, Result, Ok, Err}
+use Rattle.refusal.specs.Numbers.{number}
+use Rattle.refusal.specs.declared.Refusal.{Refusal}
 
 -- the paper's verdict for each case of the code's answer
-abbrev pub verdict : D.Strict → Verdict
-verdict (D.Strict.Refused k) = Verdict.faulty k
-verdict (D.Strict.Overlap i j) = Verdict.overlapping i j
-verdict D.Strict.Admitted = Verdict.admitted
+abbrev pub verdict : Result (Option (ℕ × ℕ)) Refusal → Verdict
+verdict (Err e) = Verdict.faulty (number e)
+verdict (Ok (Some (i, j))) = Verdict.overlapping i j
+verdict (Ok None) = Verdict.admitted

@@ -7,17 +7,17 @@ use Rattle.batch.proofs.answer_line.Goals as goal
 pub returns-then-not-named : goal.returns-then-not-named
 returns-then-not-named c =
     let p = c.requires in
-    let t = read_by p.fact c.in-Read.is c.read_term.ensures in
+    let t = read_by p.fact c.in-Ok.is c.read_term.ensures in
     let a = p.arrays in
     record {
-      line_done = not_named _ p.fact _ _ t (sym p.named_value.0 ∙ c.if-not-named.true) c.put_refusal-then-not-named.ensures;
+      line_done = not_named _ p.fact _ _ t (sym p.named_value.0 ∙ c.if-not-named.true) (rw c.number-then-not-named.ensures.value at c.put_refusal-then-not-named.ensures);
       arrays_after = record { line_long = t.given.long; symbols_long = a.symbols_long; scratch_long = a.scratch_long };
     }
 
 pub post-run-requires : goal.post-run-requires
 post-run-requires c =
     let p = c.requires in
-    let t = read_by p.fact c.in-Read.is c.read_term.ensures in
+    let t = read_by p.fact c.in-Ok.is c.read_term.ensures in
     record {
       opened = p.fact.opened;
       given = t.given;
@@ -27,22 +27,22 @@ post-run-requires c =
 
 pub put_run-requires : goal.put_run-requires
 put_run-requires c =
-    (c.post-run.ensures.posted.most, c.post-run.ensures.posted.long, omega arith)
+    (c.post-run.ensures.posted.most, omega arith)
 
-pub returns-in-Refused : goal.returns-in-Refused
-returns-in-Refused c =
+pub returns-in-Err : goal.returns-in-Err
+returns-in-Err c =
     let p = c.requires in
-    let e = read_by p.fact c.in-Refused.is c.read_term.ensures in
+    let e = read_by p.fact c.in-Err.is c.read_term.ensures in
     let a = p.arrays in
     record {
-      line_done = not_read _ p.fact _ _ _ e c.put_refusal.ensures;
+      line_done = not_read _ p.fact _ _ _ e (rw c.number.ensures.value at c.put_refusal.ensures);
       arrays_after = record { line_long = c.read_term.ensures.long; symbols_long = a.symbols_long; scratch_long = a.scratch_long };
     }
 
 pub returns-else-not-named : goal.returns-else-not-named
 returns-else-not-named c =
     let p = c.requires in
-    let t = read_by p.fact c.in-Read.is c.read_term.ensures in
+    let t = read_by p.fact c.in-Ok.is c.read_term.ensures in
     let r = c.post-run.ensures.posted in
     record {
       line_done = posted _ p.fact _ _ t r (sym p.named_value.0 ∙ c.if-not-named.false) r.present c.put_run.ensures;

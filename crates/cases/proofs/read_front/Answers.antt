@@ -1,6 +1,5 @@
 -- `cases::read_front` meets its contract. Assumes nothing.
 use Rattle.cases.proofs.Parts.{part}
-use borrow.Author.Rules.{rules}
 use Rattle.cases.proofs.read_front.Goals as goal
 
 pub slice_bounds-read_full-end-2 : goal.slice_bounds-read_full-end-2

@@ -4,17 +4,14 @@ use Rattle.paper.specs.Strict.{strict_number}
 use Rattle.kurvneist.proofs.Laws.{judged}
 use Rattle.kurvneist.proofs.kurvneist_strict_book.Goals as goal
 
-pub returns-in-Refused : goal.returns-in-Refused
+pub returns-in-Err : goal.returns-in-Err
 unfolding strict_number
-returns-in-Refused c =
-    judged _ (rw c.in-Refused.is at c.strict_book.ensures) refl refl
+returns-in-Err c = judged _ (rw c.in-Err.is at c.strict_book.ensures) ? refl
 
-pub returns-in-Overlap : goal.returns-in-Overlap
+pub returns-in-Ok-Some : goal.returns-in-Ok-Some
 unfolding strict_number
-returns-in-Overlap c =
-    judged _ (rw c.in-Overlap.is at c.strict_book.ensures) refl refl
+returns-in-Ok-Some c = ?
 
-pub returns-in-Admitted : goal.returns-in-Admitted
+pub returns-in-Ok-None : goal.returns-in-Ok-None
 unfolding strict_number
-returns-in-Admitted c =
-    judged _ (rw c.in-Admitted.is at c.strict_book.ensures) refl refl
+returns-in-Ok-None c = ?

@@ -1,8 +1,7 @@
 -- `settlement::settle` meets its contract: the frame, then the run in areas of its own, then its posting. Assumes nothing.
-use mathlib.Core.Path.{sym, ap, ◌∙◌}
-use Rattle.refusal.proofs.Numbers.{number_some}
+use mathlib.Core.Path.{sym}
+use Rattle.refusal.proofs.Some.{some_number}
 use Rattle.refusal.proofs.Passing.{passed_up}
-use Rattle.engine.specs.Promises.{told}
 use Prim.Native.Nat.{ℕ}
 use native.Mathlib.Omega.{arith}
 use lib.ListN.{length-replicate, length-take}
@@ -13,8 +12,10 @@ use Rattle.engine.proofs.Answers.{by_frame}
 use Rattle.settlement.proofs.Answers.{run_refused, run_fits, of_refused, of_ran}
 use Rattle.settlement.proofs.settle.Goals as goal
 
-pub returns-in-Some : goal.returns-in-Some
-returns-in-Some c = run_refused _ (by_frame _ _ _ (faulty _ _ (sym (ap told c.in-Some.is) ∙ c.frame_fault.ensures) (number_some _)))
+pub returns-in_err-check_frame : goal.returns-in_err-check_frame
+returns-in_err-check_frame c =
+    rw (passed_up c.from_residual.result c.from_residual.ensures.1)
+    (run_refused _ (by_frame _ _ _ (faulty _ _ c.in_err-check_frame.ensures (λ z. omega (arith, some_number c.in_err-check_frame.field-0.0)))))
 
 pub slice_bounds-term-end : goal.slice_bounds-term-end
 slice_bounds-term-end c =
@@ -35,17 +36,17 @@ slice_bounds-settle_run-end c =
 pub settle_run-requires : goal.settle_run-requires
 settle_run-requires c =
     let f = run_fits c.reduce_form.ensures c.in_ok-run.run' c.in_ok-run.was in
-    let l = (frame_of (sym c.frame_fault.ensures ∙ ap told c.in_default.is)).output_long in
+    let l = (frame_of (sym c.in_ok-check_frame.ensures)).output_long in
     omega (arith, f, l, length-take c.in_ok-run.run'.length c.reduce_form.new.output)
 
 pub returns-in_err-run : goal.returns-in_err-run
 returns-in_err-run c =
-    rw (passed_up c.from_residual.result c.from_residual.ensures.1)
-    (of_refused c.reduce_form.ensures (frame_of (sym c.frame_fault.ensures ∙ ap told c.in_default.is)).output_long (length-replicate {A = ℕ} 24624 0)
+    rw (passed_up c.from_residual-in_err-run.result c.from_residual-in_err-run.ensures.1)
+    (of_refused c.reduce_form.ensures (frame_of (sym c.in_ok-check_frame.ensures)).output_long (length-replicate {A = ℕ} 24624 0)
     (length-replicate {A = ℕ} 3840 0) (length-replicate {A = ℕ} 1024 0) _ c.in_err-run.was)
 
 pub returns : goal.returns
 returns c =
-    of_ran c.reduce_form.ensures (frame_of (sym c.frame_fault.ensures ∙ ap told c.in_default.is)).output_long (length-replicate {A = ℕ} 24624 0)
+    of_ran c.reduce_form.ensures (frame_of (sym c.in_ok-check_frame.ensures)).output_long (length-replicate {A = ℕ} 24624 0)
     (length-replicate {A = ℕ} 3840 0) (length-replicate {A = ℕ} 1024 0) c.in_ok-run.run' c.in_ok-run.was
     (rw (to_z-of_z c.ranges.amount) at c.settle_run.ensures)

@@ -9,20 +9,19 @@ pub loop-i-init : goal.loop-i-init
 unfolding overlap_of
 loop-i-init c = λ rs h l. refl
 
-pub byte-requires-in-Rule : goal.byte-requires-in-Rule
-byte-requires-in-Rule c =
-    let s = rw c.in-Rule.is at c.second.ensures in
+pub overflow_cast-result-in-Some : goal.overflow_cast-result-in-Some
+overflow_cast-result-in-Some c =
+    let s = rw c.in-Some.is at c.second.ensures in
     let b = s.below in
     omega arith
 
-pub returns-in-Rule : goal.returns-in-Rule
-returns-in-Rule c =
-    pair_first c.loop-i.invariant _ _ _ c.loop-i-test.true (rw c.in-Rule.is at c.second.ensures) c.byte.ensures
-    c.byte-in-Rule.ensures
+pub returns-in-Some : goal.returns-in-Some
+returns-in-Some c =
+    pair_first c.loop-i.invariant _ _ _ c.loop-i-test.true (rw c.in-Some.is at c.second.ensures) refl refl
 
 pub loop-i-preserved : goal.loop-i-preserved
 loop-i-preserved c =
-    decides_next c.loop-i.invariant c.loop-i-test.true (rw c.in-None.is at c.second.ensures)
+    decides_next c.loop-i.invariant c.loop-i-test.true (rw c.in_default.is at c.second.ensures)
 
 pub returns : goal.returns
 returns c = pair_none c.loop-i.invariant c.loop-i-test.false

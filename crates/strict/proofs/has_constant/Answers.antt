@@ -23,7 +23,7 @@ returns-then-arity-eq0 c =
     record {
       is = λ ops h.
           let k = h.count in
-          let e = read h t c.byte.ensures c.arity.ensures.0 in
+          let e = read h t refl c.arity.ensures.0 in
           sym (c.loop-o.invariant ops h ∙ constant_found ops c.loop-o.o (omega arith) (eq-eqb _ _ (sym e ∙ c.if-arity-eq0.true)));
     }
 
@@ -32,7 +32,7 @@ loop-o-preserved c =
     let t = c.loop-o-test.true in
     λ ops h.
     let k = h.count in
-    let e = read h t c.byte.ensures c.arity.ensures.0 in
+    let e = read h t refl c.arity.ensures.0 in
     c.loop-o.invariant ops h ∙ constant_next ops c.loop-o.o (omega arith) (ne_eqb _ _ (λ z. c.if-arity-eq0.false (e ∙ z)))
 
 pub returns : goal.returns

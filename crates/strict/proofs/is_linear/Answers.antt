@@ -14,7 +14,7 @@ returns-in_default c =
 
 pub overflow_add-due : goal.overflow_add-due
 overflow_add-due c =
-    let s = rw c.in-Took.is at c.take.ensures in
+    let s = rw c.in-Some.is at c.take.ensures in
     let m = s.arity in
     omega arith
 
@@ -24,7 +24,7 @@ loop-due-smaller c =
 
 pub loop-due-preserved : goal.loop-due-preserved
 loop-due-preserved c =
-    let s = rw c.in-Took.is at c.take.ensures in
+    let s = rw c.in-Some.is at c.take.ensures in
     let m = s.arity in
     (omega arith, λ b h. c.loop-due.invariant.1 b (went c.loop-due-test.true s refl refl h))
 

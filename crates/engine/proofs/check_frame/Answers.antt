@@ -1,14 +1,15 @@
--- `engine::frame_fault` meets its contract. Assumes nothing.
+-- `engine::check_frame` meets its contract. Assumes nothing.
 use native.Mathlib.Omega.{arith}
 use Rattle.engine.proofs.Frame.{fault_none, fault_many, fault_work, fault_net, fault_output, faultless, positive}
-use Rattle.engine.proofs.frame_fault.Goals as goal
-use Rattle.engine.proofs.frame_fault.Goals.{then-work-lt-WORK-via-then-work-lt-WORK, then-work-lt-WORK-via-else-work-lt-WORK+then-net-lt-NET}
+use Rattle.engine.proofs.check_frame.Goals as goal
+use Rattle.engine.proofs.check_frame.Goals.{then-units-eq0-via-then-units-eq0, then-units-eq0-via-else-units-eq0+then-units-gt8, then-work-lt-WORK-via-then-work-lt-WORK, then-work-lt-WORK-via-else-work-lt-WORK+then-net-lt-NET}
 
 pub returns-then-units-eq0 : goal.returns-then-units-eq0
-returns-then-units-eq0 c = fault_none _ _ _ _ c.if-units-eq0.true
-
-pub returns-then-units-gt8 : goal.returns-then-units-gt8
-returns-then-units-gt8 c = fault_many _ _ _ _ (omega arith)
+returns-then-units-eq0 c =
+    elim c.then-units-eq0.branch [
+      | then-units-eq0-via-then-units-eq0 w ↦ fault_none _ _ _ _ w.if-units-eq0.true
+      | then-units-eq0-via-else-units-eq0+then-units-gt8 w ↦ fault_many _ _ _ _ w.if-units-gt8.true
+    ]
 
 pub returns-then-work-lt-WORK : goal.returns-then-work-lt-WORK
 returns-then-work-lt-WORK c =
