@@ -21,7 +21,7 @@ use Rattle.whole.specs.declared.Limits.{Limits}
 use Rattle.run.specs.declared.Run.{Run}
 use Rattle.engine.specs.Spec.{values, RunHolds}
 use Rattle.engine.specs.Promises.{Taken, ReadAs, TermRead, Asked, Posted}
-use Rattle.engine.specs.declared.Answer as D
+use Rattle.std.specs.Prelude.{Ok}
 use Rattle.engine.proofs.Frame.{framed, frame_of}
 use Rattle.engine.proofs.Answers.{by_line, by_schedule, by_run}
 use Rattle.records.specs.Record.{value_bytes, record_of}
@@ -78,12 +78,12 @@ module _ (read : LineReader) {book table net : List ℕ} {n work : ℕ} {l : Lim
           by_run read asked (framed asked o.faultless) (any_book book) o.opened.netted.tables.read p.term line_read named
           ∙ ap accepted (sym p.holds.is)
 
-      record_is : {xs : List ℕ} → xs ≡ preorder p.answer.term → value_bytes (values (D.Answer.Ran r)) xs ≡ record_of (accepted p.answer)
+      record_is : {xs : List ℕ} → xs ≡ preorder p.answer.term → value_bytes (values (Ok r)) xs ≡ record_of (accepted p.answer)
       unfolding record_of
       record_is e = ap₂ value_bytes p.values_are e
 
       pub posted : {xs answers answers' : List ℕ} {at next : ℕ} → xs ≡ preorder p.answer.term →
-          WrittenAt at (value_bytes (values (D.Answer.Ran r)) xs) answers answers' next →
+          WrittenAt at (value_bytes (values (Ok r)) xs) answers answers' next →
           LineDone read book net l schedule work line answers answers' at next
       posted e w = record {
         written = put_as (record_is e ∙ ap record_of (sym told)) w;

@@ -11,7 +11,7 @@ use Rattle.paper.specs.Run.{Answer}
 use Rattle.paper.specs.Page.{Request, LineReader, frame_fault, run_checked, answer_by, own_lengths, read_request, line, refused_word, answer_lines, page_by}
 use Rattle.stream.specs.Promises.{WrittenAt}
 use Rattle.engine.specs.Spec as R
-use Rattle.engine.specs.declared.Answer as A
+use Rattle.std.specs.Prelude.{Ok, Err}
 use Rattle.page.specs.Spec.{Paged, fixed_line}
 use Rattle.page.specs.Promises.{asked, run_lines, lines, TermFits}
 
@@ -35,18 +35,18 @@ apart e = let z : ◌≡◌ {A = ℕ} 0 1 = cc in absurd (omega arith)
 abbrev Fronted : Result Answer → List ℕ → Type 0
 Fronted x output = (a : Answer) → x ≡ accepted a → take (length (preorder a.term)) output ≡ preorder a.term
 
-lines_as : (r : A.Answer) (x : Result Answer) (output : List ℕ) → R.values r ≡ R.values_of x → Fronted x output → lines r output ≡ answer_lines x
+lines_as : (r : R.Reply) (x : Result Answer) (output : List ℕ) → R.values r ≡ R.values_of x → Fronted x output → lines r output ≡ answer_lines x
 unfolding answer_lines
-lines_as (A.Answer.Refused k) (refused n) output e h = ap (λ (i : ℕ). line refused_word (i ∷ [])) (same_number e)
-lines_as (A.Answer.Refused k) (accepted a) output e h = absurd (apart e)
-lines_as (A.Answer.Ran r) (refused n) output e h = absurd (apart (sym e))
-lines_as (A.Answer.Ran r) (accepted a) output e h = same_lines output (same_values e) (h a refl)
+lines_as (Err k) (refused n) output e h = ap (λ (i : ℕ). line refused_word (i ∷ [])) (same_number e)
+lines_as (Err k) (accepted a) output e h = absurd (apart e)
+lines_as (Ok r) (refused n) output e h = absurd (apart (sym e))
+lines_as (Ok r) (accepted a) output e h = same_lines output (same_values e) (h a refl)
 
-fits_as : (r : A.Answer) (x : Result Answer) (output : List ℕ) → R.values r ≡ R.values_of x → length output ≡ 1024 →
+fits_as : (r : R.Reply) (x : Result Answer) (output : List ℕ) → R.values r ≡ R.values_of x → length output ≡ 1024 →
     ((a : Answer) → x ≡ accepted a → length (preorder a.term) ≤ 1024) → TermFits r output
-fits_as (A.Answer.Refused k) x output e l h = tt
-fits_as (A.Answer.Ran r) (refused n) output e l h = absurd (apart (sym e))
-fits_as (A.Answer.Ran r) (accepted a) output e l h =
+fits_as (Err k) x output e l h = tt
+fits_as (Ok r) (refused n) output e l h = absurd (apart (sym e))
+fits_as (Ok r) (accepted a) output e l h =
     let m : r.length ≡ length (preorder a.term) = ap (λ (v : R.Values). v.length) (same_values e) in
     (omega (arith, h a refl), omega arith)
 
@@ -56,7 +56,7 @@ same_answer : (read : LineReader) (q : Request) → q.work ≡ (R.published).wor
 unfolding answer_by frame_fault run_checked
 same_answer read q e n f = rw (e, n, f)
 
-module _ {read : LineReader} {book line : List ℕ} {units budget day : ℕ} {schedule work net output work' net' output' : List ℕ} {r : A.Answer}
+module _ {read : LineReader} {book line : List ℕ} {units budget day : ℕ} {schedule work net output work' net' output' : List ℕ} {r : R.Reply}
     (d : R.ReducedBy read book line units budget day schedule work net output work' net' output' r) where
   front : (a : Answer) → R.answered_by read book line units budget day schedule work net output ≡ accepted a →
       take (length (preorder a.term)) output' ≡ preorder a.term

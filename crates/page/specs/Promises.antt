@@ -1,11 +1,11 @@
 -- What the functions behind the page ask of each other: where the parts of an input stand, and which bytes are written where. Assumes nothing.
-use Rattle.std.specs.Prelude.{Bool, List, [], ◌∷◌, ◌++◌, ◌≡◌, ℕ, ◌+◌, ◌-◌, ◌≤◌, length, get_or, take, drop, Option, Some, None}
+use Rattle.std.specs.Prelude.{Bool, List, [], ◌∷◌, ◌++◌, ◌≡◌, ℕ, ◌+◌, ◌-◌, ◌≤◌, length, get_or, take, drop, Option, Some, None, Ok, Err}
 use Rattle.paper.specs.Result.{Result, refused, accepted, Read}
 use Rattle.paper.specs.Dated.{is_dated}
 use Rattle.paper.specs.Page.{Request, number, read_day, read_request, ending_number, decimal, line, refused_word, end_word, rewrites_word, entries_word}
 use Rattle.paper.specs.Page.{granted_word, kept_word, term_word}
 use Rattle.engine.specs.Spec as R
-use Rattle.engine.specs.declared.Answer as A
+use Rattle.refusal.specs.Numbers as N
 use Rattle.page.specs.declared.Parts as P
 
 -- THE PARTS OF AN INPUT
@@ -72,11 +72,11 @@ run_lines v term =
     ++ (line granted_word (v.granted ∷ []) ++ (line kept_word (v.kept ∷ []) ++ line term_word term))))
 
 -- the lines of the engine's answer, its term standing at the front of the output
-abbrev pub lines : A.Answer → List ℕ → List ℕ
-lines (A.Answer.Refused k) output = line refused_word (k ∷ [])
-lines (A.Answer.Ran r) output = run_lines (R.run_values r) (take r.length output)
+abbrev pub lines : R.Reply → List ℕ → List ℕ
+lines (Err e) output = line refused_word (N.number e ∷ [])
+lines (Ok r) output = run_lines (R.run_values r) (take r.length output)
 
 -- the answer's term fits the output and the page
-abbrev pub TermFits : A.Answer → List ℕ → Type 0
-TermFits (A.Answer.Refused k) output = Unit {0}
-TermFits (A.Answer.Ran r) output = (r.length ≤ length output) × (length output ≤ 1024)
+abbrev pub TermFits : R.Reply → List ℕ → Type 0
+TermFits (Err e) output = Unit {0}
+TermFits (Ok r) output = (r.length ≤ length output) × (length output ≤ 1024)

@@ -8,7 +8,7 @@ ghost use Rattle.engine.specs.Spec.{run_values, reader};
 ghost use Rattle.page.specs.Spec as S;
 ghost use Rattle.page.specs.Promises as C;
 
-use engine::{Answer, Form};
+use engine::Form;
 use refusal::Refusal;
 use run::Run;
 
@@ -160,13 +160,13 @@ fn run_lines(r: Run, term: &[u8], page: &mut [u8; PAGE], at: usize) -> usize
 }
 
 // The lines of the engine's answer, whose term stands at the front of the output.
-fn answer(a: Answer, output: &[u8], page: &mut [u8; PAGE], at: usize) -> usize
+fn answer(a: Result<Run, Refusal>, output: &[u8], page: &mut [u8; PAGE], at: usize) -> usize
     requires { (C.TermFits a output.now) × (at ≤ 1000) }
     ensures { WrittenAt at (C.lines a output.now) page.old page.new result }
 {
     match a {
-        Answer::Refused(k) => line(b"refused", usize::from(k), page, at),
-        Answer::Ran(r) => {
+        Err(e) => line(b"refused", usize::from(e.number()), page, at),
+        Ok(r) => {
             let n = r.length;
             run_lines(r, &output[..n], page, at)
         }

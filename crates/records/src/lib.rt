@@ -5,20 +5,21 @@ ghost use Rattle.std.specs.Prelude.{◌∷◌, [], ◌+◌, ◌≤◌, ◌≡◌
 ghost use Rattle.symbol.specs.Record as Y;
 ghost use Rattle.stream.specs.Promises.{WrittenAt};
 ghost use Rattle.engine.specs.Spec.{values};
-ghost use Rattle.engine.specs.declared.Answer as D;
+ghost use Rattle.refusal.specs.Numbers.{number};
 ghost use Rattle.records.specs.Record.{longest, value_bytes};
 
+use refusal::Refusal;
 use run::Run;
 
 // The bytes of the longest record.
 pub const LONGEST: usize = 1056;
 
 // The record of a refusal, at a position; the position behind it.
-pub fn put_refusal(k: u8, answers: &mut [u8], at: usize) -> usize
+pub fn put_refusal(refusal: Refusal, answers: &mut [u8], at: usize) -> usize
     requires { at + longest ≤ length answers.old }
-    ensures { WrittenAt at (k ∷ []) answers.old answers.new result }
+    ensures { WrittenAt at (number refusal ∷ []) answers.old answers.new result }
 {
-    answers[at] = k;
+    answers[at] = refusal.number();
     at + 1
 }
 
@@ -36,7 +37,7 @@ fn put_term(symbols: &[u32; 1024], n: usize, answers: &mut [u8], at: usize) -> u
 // The record of a run whose present term is in the symbols, at a position; the position behind it.
 pub fn put_run(run: Run, symbols: &[u32; 1024], answers: &mut [u8], at: usize) -> usize
     requires { (run.length ≤ 1024) × (at + longest ≤ length answers.old) }
-    ensures { WrittenAt at (value_bytes (values (D.Answer.Ran run)) (Y.operators (take run.length symbols.now))) answers.old
+    ensures { WrittenAt at (value_bytes (values (Ok run)) (Y.operators (take run.length symbols.now))) answers.old
         answers.new result }
 {
     let a = stream::put_number(answers, at, 2, run::ending_number(run.ending));

@@ -7,7 +7,6 @@
 ghost use Rattle.std.specs.Prelude.{◌≡◌, ◌<◌, ◌≤◌, length};
 
 use cases::{say, say_front, say_number, say_refused};
-use engine::Answer;
 use run::Run;
 
 // What the lent buffers hold before a run, so that a byte that is written shows.
@@ -100,13 +99,13 @@ fn try_run(
     output: &mut [u8],
 ) {
     match engine::reduce(book, line, units, budget, day, schedule, work, net, output) {
-        Answer::Refused(k) => {
-            say_refused(k);
+        Err(e) => {
+            say_refused(e.number());
             say_area(b" work ", work, WORK_FILLER, b"kept");
             say_area(b" net ", net, NET_FILLER, b"kept");
             say_area(b" output ", output, OUTPUT_FILLER, b"kept");
         }
-        Answer::Ran(run) => {
+        Ok(run) => {
             let behind = run.length;
             say_run(run, output);
             say_area(b" work ", work, 0, b"zero");

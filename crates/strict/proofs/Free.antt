@@ -10,11 +10,11 @@ use Rattle.paper.specs.Page.{LineReader}
 use Rattle.paper.specs.Strict.{Verdict, strict_of, SameBooks}
 use Rattle.paper.proofs.Rearranged.{ByOperators, line_by_operators, text_by_operators, answers_same}
 use Rattle.engine.specs.Spec.{published, request, values, ReducedBy, Reduced, PayeeReduced}
-use Rattle.engine.specs.declared.Answer as D
+use Rattle.engine.specs.Spec.{Reply}
 use Rattle.engine.proofs.Laws.{answered_alike}
 
 -- the same values, and the same work area, net and output behind them
-module _ {book book₂ line : List ℕ} {units budget day : ℕ} {schedule work net output work' work₂' net' net₂' output' output₂' : List ℕ} {r r₂ : D.Answer}
+module _ {book book₂ line : List ℕ} {units budget day : ℕ} {schedule work net output work' work₂' net' net₂' output' output₂' : List ℕ} {r r₂ : Reply}
     (strict : strict_of book ≡ Verdict.admitted) (same : SameBooks book book₂) where
   by_either : (read : LineReader) → ByOperators read → ReducedBy read book line units budget day schedule work net output work' net' output' r →
       ReducedBy read book₂ line units budget day schedule work net output work₂' net₂' output₂' r₂ →

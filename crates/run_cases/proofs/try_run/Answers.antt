@@ -8,14 +8,13 @@ use Rattle.paper.specs.Result.{Result, refused, accepted}
 use Rattle.paper.specs.Tree.{preorder}
 use Rattle.paper.specs.Run.{Answer}
 use Rattle.engine.specs.Spec as R
-use Rattle.engine.specs.declared.Answer as D
 use Rattle.run_cases.proofs.try_run.Goals as goal
 
 abbrev length_of : Result R.Values → ℕ
 length_of (refused k) = 0
 length_of (accepted v) = v.length
 
-module _ (book line : List ℕ) (units budget day : ℕ) (schedule work net output work' net' output' : List ℕ) (r : D.Answer) where
+module _ (book line : List ℕ) (units budget day : ℕ) (schedule work net output work' net' output' : List ℕ) (r : R.Reply) where
   within_known : R.Reduced book line units budget day schedule work net output work' net' output' r → (a : Result Answer) →
       R.answered book line units budget day schedule work net output ≡ a → length_of (R.values r) ≤ length output'
   within_known d (refused k) e = omega (arith, ap length_of (d.answer ∙ ap R.values_of e))
@@ -30,4 +29,4 @@ module _ (book line : List ℕ) (units budget day : ℕ) (schedule work net outp
 pub say_run-requires : goal.say_run-requires
 say_run-requires c =
     let e = c.reduce.ensures in
-    within _ _ _ _ _ _ _ _ _ _ _ _ _ (rw c.in-Ran.is at e)
+    within _ _ _ _ _ _ _ _ _ _ _ _ _ (rw c.in-Ok.is at e)
