@@ -18,6 +18,10 @@ use Rattle.paper.proofs.Refusals.{answer_not_six, payee_not_six}
 use Rattle.strict.proofs.Laws.{numbers}
 use Rattle.engine.specs.Spec as R
 use Rattle.engine.specs.declared.Answer as A
+use Rattle.std.specs.Prelude.{Result as Outcome, Ok, Err}
+use Rattle.refusal.specs.Numbers.{number}
+use Rattle.refusal.specs.declared.Refusal.{Refusal}
+use Rattle.writer.specs.Spec.{told}
 use Rattle.batch.specs.Spec as B
 use Rattle.batch.specs.Spec.{done_by}
 use Rattle.bound.specs.Spec as N

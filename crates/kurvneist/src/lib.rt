@@ -491,7 +491,7 @@ pub extern "C" fn kurvneist_strict_book(book: &[u8], pair: &mut [u64; 2]) -> u8
             e.number()
         }
         Ok(Some((i, j))) => {
-            *pair = [u64::from(i), u64::from(j)];
+            *pair = [i as u64, j as u64];
             Refusal::RulesOverlap.number()
         }
         Ok(None) => {
