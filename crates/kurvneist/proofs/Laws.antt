@@ -17,7 +17,6 @@ use Rattle.paper.specs.Strict.{Verdict, strict_number, strict_of}
 use Rattle.paper.proofs.Refusals.{answer_not_six, payee_not_six}
 use Rattle.strict.proofs.Laws.{numbers}
 use Rattle.engine.specs.Spec as R
-use Rattle.engine.specs.declared.Answer as A
 use Rattle.std.specs.Prelude.{Result as Outcome, Ok, Err}
 use Rattle.refusal.specs.Numbers.{number}
 use Rattle.refusal.specs.declared.Refusal.{Refusal}
@@ -25,10 +24,8 @@ use Rattle.writer.specs.Spec.{told}
 use Rattle.batch.specs.Spec as B
 use Rattle.batch.specs.Spec.{done_by}
 use Rattle.bound.specs.Spec as N
-use Rattle.bound.specs.declared.Bound as O
 use Rattle.points.specs.Spec as P
 use Rattle.settlement.specs.Spec as S
-use Rattle.settlement.specs.declared.Settled as T
 use Rattle.writer.proofs.Laws.{write_not_six}
 use Rattle.settlement.proofs.Laws.{line_not_six, payee_settled_not_six as payee_not_six_settled}
 use Rattle.bound.proofs.Laws.{line_not_six as line_bound_not_six, text_not_six as text_bound_not_six}
@@ -36,7 +33,7 @@ use Rattle.kurvneist.specs.Spec as X
 
 -- a run's answer as numbers
 pub reduced : {read : LineReader} {book line : List ℕ} {units budget day : ℕ} {schedule work net output work' net' output' answer' : List ℕ} {n : ℕ}
-    {r : A.Answer} →
+    {r : R.Reply} →
     R.ReducedBy read book line units budget day schedule work net output work' net' output' r →
     (n ≡ X.refusal (R.values r)) × (answer' ≡ X.value_numbers (R.values r)) →
     X.ReducedInNumbersBy read book line units budget day schedule work net output work' net' output' answer' n
@@ -45,14 +42,14 @@ reduced {r = r} q e =
 
 -- of a run with a name, and of a resumption
 pub parked : {read : LineReader} {book line : List ℕ} {units budget day : ℕ} {schedule name work net points output work' net' points' output' answer' : List ℕ} {n : ℕ}
-    {r : A.Answer} →
+    {r : R.Reply} →
     P.ParkedBy read book line units budget day schedule name work net points output work' net' points' output' r →
     (n ≡ X.refusal (R.values r)) × (answer' ≡ X.value_numbers (R.values r)) →
     X.ParkedInNumbersBy read book line units budget day schedule name work net points output work' net' points' output' answer' n
 parked {r = r} q e =
     record { number = e.0 ∙ ap X.refusal q.answer; values = e.1 ∙ ap X.value_numbers q.answer; answer = r; buffers = q }
 
-pub resumed : {name schedule work net points output work' net' points' output' answer' : List ℕ} {n : ℕ} {r : A.Answer} →
+pub resumed : {name schedule work net points output work' net' points' output' answer' : List ℕ} {n : ℕ} {r : R.Reply} →
     P.ResumedBy name schedule work net points output work' net' points' output' r →
     (n ≡ X.refusal (R.values r)) × (answer' ≡ X.value_numbers (R.values r)) →
     X.ResumedInNumbers name schedule work net points output work' net' points' output' answer' n
@@ -69,7 +66,7 @@ lines_told {r = r} q e =
     record { number = e.0 ∙ ap X.refusal q.told; values = e.1 ∙ ap X.done_numbers q.told; answer = r; buffers = q }
 
 -- what is told of a schedule's length as numbers
-pub bound_told : {read : LineReader} {book line : List ℕ} {budget day : ℕ} {work net work' net' answer' : List ℕ} {n : ℕ} {r : O.Bound} →
+pub bound_told : {read : LineReader} {book line : List ℕ} {budget day : ℕ} {work net work' net' answer' : List ℕ} {n : ℕ} {r : N.Reply} →
     N.BoundBy read book line budget day work net work' net' r → (n ≡ X.refusal (N.values r)) × (answer' ≡ X.bound_numbers (N.values r)) →
     X.BoundInNumbersBy read book line budget day work net work' net' answer' n
 bound_told {r = r} q e =
@@ -77,9 +74,9 @@ bound_told {r = r} q e =
 
 -- a run and its charge as numbers
 pub settled_told : {read : LineReader} {book line : List ℕ} {units budget day : ℕ} {schedule rates : List ℕ} {amount : ℤ} {ss output : List ℕ} {parts : List ℤ}
-    {output' : List ℕ} {parts' : List ℤ} {answer' : List ℕ} {fee' : List ℤ} {charged' : List ℕ} {n : ℕ} {r : T.Settled} →
+    {output' : List ℕ} {parts' : List ℤ} {answer' : List ℕ} {fee' : List ℤ} {charged' : List ℕ} {n : ℕ} {r : S.Reply} →
     S.SettledBy read book line units budget day schedule rates amount ss output parts output' parts' r →
-    X.SettledNumbers (S.values r) answer' fee' charged' n →
+    X.SettledNumbers (S.values (S.told r)) answer' fee' charged' n →
     X.SettledInNumbersBy read book line units budget day schedule rates amount ss output parts output' parts' answer' fee' charged' n
 settled_told {answer' = answer'} {fee' = fee'} {charged' = charged'} {n = n} {r = r} q s =
     record { numbers = subst (λ (t : Result S.Told). X.SettledNumbers t answer' fee' charged' n) q.answer s; answer = r; buffers = q }

@@ -8,18 +8,15 @@ use Rattle.paper.specs.Text.{read_text}
 use Rattle.paper.specs.Page.{LineReader, ending_number}
 use Rattle.paper.specs.Strict.{Verdict, strict_number, strict_of}
 use Rattle.engine.specs.Spec as R
-use Rattle.engine.specs.declared.Answer as A
 use Rattle.batch.specs.Lines.{stop_number}
 use Rattle.batch.specs.Spec as B
 use Rattle.bound.specs.Spec as N
-use Rattle.bound.specs.declared.Bound as O
 use Rattle.fees.specs.Fees.{charge}
 use Rattle.fees.specs.Spec as F
 use Rattle.refusal.specs.Numbers.{number}
 use Rattle.refusal.specs.declared.Refusal.{Refusal}
 use Rattle.points.specs.Spec as P
 use Rattle.settlement.specs.Spec as S
-use Rattle.settlement.specs.declared.Settled as T
 use Rattle.writer.specs.Spec.{Answers}
 
 -- the refusal's number, 0 if there is none
@@ -39,7 +36,7 @@ module _ (read : LineReader) (book line : List ℕ) (units budget day : ℕ) (sc
     pub number : r ≡ refusal (R.values_of (R.answered_by read book line units budget day schedule work net output))
     pub values : answer' ≡ value_numbers (R.values_of (R.answered_by read book line units budget day schedule work net output))
     -- what becomes of the lent buffers, clause by clause
-    pub answer : A.Answer
+    pub answer : R.Reply
     pub buffers : R.ReducedBy read book line units budget day schedule work net output work' net' output' answer
 
 -- of a line
@@ -58,7 +55,7 @@ module _ (read : LineReader) (book line : List ℕ) (units budget day : ℕ) (sc
     pub number : r ≡ refusal (R.values_of (P.told (P.parked read book line units budget day schedule name work net points output)))
     pub values : answer' ≡ value_numbers (R.values_of (P.told (P.parked read book line units budget day schedule name work net points output)))
     -- what becomes of the lent buffers, clause by clause
-    pub answer : A.Answer
+    pub answer : R.Reply
     pub buffers : P.ParkedBy read book line units budget day schedule name work net points output work' net' points' output' answer
 
 abbrev pub ParkedInNumbers : List ℕ → List ℕ → ℕ → ℕ → ℕ → List ℕ → List ℕ → List ℕ → List ℕ → List ℕ → List ℕ → List ℕ → List ℕ → List ℕ → List ℕ → List ℕ → ℕ → Type 0
@@ -70,7 +67,7 @@ PayeeParkedInNumbers = ParkedInNumbersBy read_text
 pub record ResumedInNumbers (name schedule work net points output work' net' points' output' answer' : List ℕ) (r : ℕ) : Type 0 where
   pub number : r ≡ refusal (P.flat_values_of (P.told (P.resumed name schedule work net points output)))
   pub values : answer' ≡ value_numbers (P.flat_values_of (P.told (P.resumed name schedule work net points output)))
-  pub answer : A.Answer
+  pub answer : R.Reply
   pub buffers : P.ResumedBy name schedule work net points output work' net' points' output' answer
 
 -- MANY LINES: lines done, bytes of the lines, bytes of records, the stop's number
@@ -112,7 +109,7 @@ module _ (read : LineReader) (book line : List ℕ) (budget day : ℕ) (work net
     pub number : r ≡ refusal (N.bound_of read book line budget day work net)
     pub values : answer' ≡ bound_numbers (N.bound_of read book line budget day work net)
     -- what they say, and what becomes of the lent buffers, clause by clause
-    pub answer : O.Bound
+    pub answer : N.Reply
     pub buffers : N.BoundBy read book line budget day work net work' net' answer
 
 abbrev pub BoundInNumbers : List ℕ → List ℕ → ℕ → ℕ → List ℕ → List ℕ → List ℕ → List ℕ → List ℕ → ℕ → Type 0
@@ -178,7 +175,7 @@ module _ (read : LineReader) (book line : List ℕ) (units budget day : ℕ) (sc
     -- the definition's numbers
     pub numbers : SettledNumbers (S.values_of (S.answered read book line units budget day schedule rates amount shares output parts)) answer' fee' charged' r
     -- what becomes of the lent buffers, clause by clause
-    pub answer : T.Settled
+    pub answer : S.Reply
     pub buffers : S.SettledBy read book line units budget day schedule rates amount shares output parts output' parts' answer
 
 abbrev pub LineSettled : List ℕ → List ℕ → ℕ → ℕ → ℕ → List ℕ → List ℕ → ℤ → List ℕ → List ℕ → List ℤ → List ℕ → List ℤ → List ℕ → List ℤ → List ℕ → ℕ → Type 0

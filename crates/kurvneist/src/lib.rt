@@ -13,7 +13,7 @@ ghost use Rattle.kurvneist.specs.Spec as X;
 
 use batch::Done;
 use bound::Bound;
-use engine::{Answer, Form};
+use engine::Form;
 use refusal::Refusal;
 use run::Run;
 use settlement::Settled;
@@ -43,15 +43,15 @@ pub extern "C" fn kurvneist_output_length() -> usize
 }
 
 // The refusal's number, or 0. The numbers are ending, rewrites, entries, granted, kept and length, or zeros.
-fn put_answer(a: Answer, answer: &mut [u64; 6]) -> u8
+fn put_answer(a: Result<Run, Refusal>, answer: &mut [u64; 6]) -> u8
     ensures { (result ≡ X.refusal (values a)) × (answer.new ≡ X.value_numbers (values a)) }
 {
     match a {
-        Answer::Refused(k) => {
+        Err(e) => {
             *answer = [0; 6];
-            k
+            e.number()
         }
-        Answer::Ran(run) => {
+        Ok(run) => {
             *answer = [
                 run::ending_number(run.ending) as u64,
                 run.rewrites as u64,
@@ -281,19 +281,19 @@ pub extern "C" fn kurvneist_payee_lines(
 }
 
 // The refusal's number, or 0. The numbers are the ending of the one-unit run, S and F, or zeros.
-fn put_bound(b: Bound, answer: &mut [u64; 3]) -> u8
+fn put_bound(b: Result<Bound, Refusal>, answer: &mut [u64; 3]) -> u8
     ensures { (result ≡ X.refusal (N.values b)) × (answer.new ≡ X.bound_numbers (N.values b)) }
 {
     match b {
-        Bound::Refused(k) => {
+        Err(e) => {
             *answer = [0; 3];
-            k
+            e.number()
         }
-        Bound::Unknown(e) => {
+        Ok(Bound::Unknown(e)) => {
             *answer = [run::ending_number(e) as u64, 0, 0];
             0
         }
-        Bound::Told(s, f) => {
+        Ok(Bound::Told(s, f)) => {
             *answer = [0, s as u64, f as u64];
             0
         }
@@ -380,24 +380,29 @@ pub extern "C" fn kurvneist_charge(
 }
 
 // The refusal's number, or 0; the run's numbers; the fee, and 1 if there is one.
-fn put_settled(s: Settled, answer: &mut [u64; 6], fee: &mut [i64; 1], charged: &mut [u64; 1]) -> u8
-    ensures { X.SettledNumbers (S.values s) answer.new fee.new charged.new result }
+fn put_settled(
+    s: Result<Settled, Refusal>,
+    answer: &mut [u64; 6],
+    fee: &mut [i64; 1],
+    charged: &mut [u64; 1],
+) -> u8
+    ensures { X.SettledNumbers (S.values (S.told s)) answer.new fee.new charged.new result }
 {
     match s {
-        Settled::Refused(k) => {
+        Err(e) => {
             *fee = [0];
             *charged = [0];
-            put_answer(Answer::Refused(k), answer)
+            put_answer(Err(e), answer)
         }
-        Settled::Ended(run) => {
+        Ok(Settled::Ended(run)) => {
             *fee = [0];
             *charged = [0];
-            put_answer(Answer::Ran(run), answer)
+            put_answer(Ok(run), answer)
         }
-        Settled::Posted(run, f) => {
+        Ok(Settled::Posted(run, f)) => {
             *fee = [f];
             *charged = [1];
-            put_answer(Answer::Ran(run), answer)
+            put_answer(Ok(run), answer)
         }
     }
 }
