@@ -31,7 +31,10 @@ use Rattle.engine.specs.Spec as R
 use Rattle.engine.specs.Spec.{request}
 use Rattle.engine.specs.Promises as E
 use Rattle.engine.specs.Promises.{Framed, Given, Posted}
-use Rattle.engine.specs.declared.Answer as D
+use Rattle.std.specs.Prelude.{Ok, Err}
+use Rattle.refusal.specs.declared.Refusal.{Refusal}
+use Rattle.refusal.specs.declared.Refusal.TheVariants.{UnknownUnitInSchedule}
+use Rattle.refusal.specs.Numbers.{number}
 use Rattle.engine.proofs.Frame.{framed}
 use Rattle.engine.proofs.Runs.{reduced}
 use Rattle.point.specs.Saved.{arrays}
@@ -110,25 +113,25 @@ read_on book rules symbols n g d = subst (λ (i : ℕ). read_line (on_day i (any
 module _ {book table rules symbols schedule name work net points output : List ℕ} {units budget day n : ℕ} (f : Framed book units work net output) (tables : TablesOf book table rules)
     (d : day ≡ day_in rules) (g : Given (book_of book rules) symbols n) where
   -- the points' refusal
-  pub unplaced : (k : ℕ) → place_checked name points ≡ refused k →
-      ParkedBy read_line book (take n symbols) units budget day schedule name work net points output work net points output (D.Answer.Refused k)
+  pub unplaced : (k : Refusal) → place_checked name points ≡ refused (number k) →
+      ParkedBy read_line book (take n symbols) units budget day schedule name work net points output work net points output (Err k)
   unplaced k e =
       let q : Request = request book (take n symbols) units budget day schedule work net output in
-      refuses k (by_points read_line q name points (framed q f.faultless) (any_book book) tables.read g.term (read_on book rules symbols n g d) k e)
+      refuses k (by_points read_line q name points (framed q f.faultless) (any_book book) tables.read g.term (read_on book rules symbols n g d) (number k) e)
 
   -- 14
   pub unnamed : {k : ℕ} → Placed k name points → all_below units schedule ≡ false →
-      ParkedBy read_line book (take n symbols) units budget day schedule name work net points output work net points output (D.Answer.Refused 14)
+      ParkedBy read_line book (take n symbols) units budget day schedule name work net points output work net points output (Err UnknownUnitInSchedule)
   unnamed {k} placed e =
       let q : Request = request book (take n symbols) units budget day schedule work net output in
-      refuses 14 (by_schedule read_line q name points (framed q f.faultless) (any_book book) tables.read g.term (read_on book rules symbols n g d) k placed.is e)
+      refuses UnknownUnitInSchedule (by_schedule read_line q name points (framed q f.faultless) (any_book book) tables.read g.term (read_on book rules symbols n g d) k placed.is e)
 
 pub named : {l : Limits} {book table rules line schedule symbols scratch w cells order ways name work net points output work' net' points' output' : List ℕ} {day k : ℕ} {r : Run} →
     Framed book l.units work net output → l.units ≤ 8 → TablesOf book table rules → day ≡ day_in rules → all_below l.units schedule ≡ true → Built book table rules net ways →
     Posted (book_by book ways) line l schedule symbols r → Ran book ways l schedule (E.first (book_by book ways) l line) symbols scratch w cells order r → Counts r →
     Placed k name points → points' ≡ behind_cut k name book day l r (arrays symbols w cells order) points points →
     work' ≡ replicate (length work) 0 → LeftBy symbols r.length w ways output work' net' output' →
-    ParkedBy read_line book line l.units l.budget day schedule name work net points output work' net' points' output' (D.Answer.Ran r)
+    ParkedBy read_line book line l.units l.budget day schedule name work net points output work' net' points' output' (Ok r)
 named {l} {book} {rules = rules} {line} {schedule} {symbols} {ways = ways} {name = name} {work} {net} {points} {output} {work'} {net'} {points'} {output'} {day} {k} {r}
     f few tables d names built posted ran counts placed e z o =
     let B : Book = book_by book ways in
@@ -139,5 +142,5 @@ named {l} {book} {rules = rules} {line} {schedule} {symbols} {ways = ways} {name
     e ∙ sym (first_behind built.of_book line t posted.term_read few counts ran k name day points)
     ∙ ap (λ (C : Book). behind k (as_point name book day l.budget) points points (part C (limited l.budget) schedule (begun C l.units t))) same in
     accepts (any_book book) t k (framed (request book line l.units l.budget day schedule work net output) f.faultless) tables.read read placed.is names is
-    (subst (λ (i : ℕ). R.Reduced book line l.units l.budget i schedule work net output work' net' output' (D.Answer.Ran r)) (sym d)
+    (subst (λ (i : ℕ). R.Reduced book line l.units l.budget i schedule work net output work' net' output' (Ok r)) (sym d)
     (reduced f tables names built posted z o.net_zero o.handed))

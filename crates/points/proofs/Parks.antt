@@ -22,9 +22,11 @@ use Rattle.paper.proofs.Readers.{accepted_injective, refused_accepted}
 use Rattle.tables.specs.Layout.{day_in}
 use Rattle.tables.specs.Tables.{book_of, TablesOf}
 use Rattle.entry.specs.State.{limited}
-use Rattle.engine.specs.Spec.{published, values_of, request, answered_by, RunBy, ReducedBy}
+use Rattle.std.specs.Prelude.{Err}
+use Rattle.refusal.specs.declared.Refusal.{Refusal}
+use Rattle.refusal.specs.Numbers.{number}
+use Rattle.engine.specs.Spec.{Reply, published, values_of, request, answered_by, RunBy, ReducedBy}
 use Rattle.engine.specs.Promises.{Framed, Taken}
-use Rattle.engine.specs.declared.Answer as D
 use Rattle.engine.proofs.Frame.{framed}
 use Rattle.engine.proofs.Answers.{run_as}
 use Rattle.parking.specs.Points.{After, place_checked, behind_run, park_by}
@@ -58,9 +60,9 @@ module _ (read : LineReader) (q : Request) (name points : List ℕ) where
         by_schedule k p e = rw (f, b, l, p, e, run_checked) refl
 
 -- the buffers are as they were
-pub refuses : {read : LineReader} {book line : List ℕ} {units budget day : ℕ} {schedule name work net points output : List ℕ} (k : ℕ) →
-    parked read book line units budget day schedule name work net points output ≡ refused k →
-    ParkedBy read book line units budget day schedule name work net points output work net points output (D.Answer.Refused k)
+pub refuses : {read : LineReader} {book line : List ℕ} {units budget day : ℕ} {schedule name work net points output : List ℕ} (k : Refusal) →
+    parked read book line units budget day schedule name work net points output ≡ refused (number k) →
+    ParkedBy read book line units budget day schedule name work net points output work net points output (Err k)
 refuses k e = record {
   answer = ap (λ (x : Result (After Answer)). values_of (told x)) (sym e);
   unchanged = λ j h. (refl, refl, refl, refl);
@@ -72,7 +74,7 @@ refuses k e = record {
 
 -- A RUN answers as without a name, and leaves the points behind it
 module _ {read : LineReader} {book line : List ℕ} {units budget day : ℕ} {schedule name work net points output : List ℕ} where
-  pub accepts : {work' net' points' output' : List ℕ} {r : D.Answer} (A : AnyBook) (t : Term) (k : ℕ) → let q = request book line units budget day schedule work net output in
+  pub accepts : {work' net' points' output' : List ℕ} {r : Reply} (A : AnyBook) (t : Term) (k : ℕ) → let q = request book line units budget day schedule work net output in
       frame_fault published q ≡ none → read_any book ≡ accepted A →
       read (on_day day A) line ≡ accepted t → place_checked name points ≡ accepted k → all_below units schedule ≡ true →
       points' ≡ behind_run k q name points (on_day day A) t → ReducedBy read book line units budget day schedule work net output work' net' output' r →
@@ -96,7 +98,7 @@ module _ {read : LineReader} {book line : List ℕ} {units budget day : ℕ} {sc
 
 -- ANOTHER BOOK OR LINE that is answered alike
 module _ {read read₂ : LineReader} {book book₂ line line₂ : List ℕ} {units budget day : ℕ} {schedule name work net points output : List ℕ} where
-  pub parked_as : {work' net' points' output' : List ℕ} {r : D.Answer} →
+  pub parked_as : {work' net' points' output' : List ℕ} {r : Reply} →
       parked read book line units budget day schedule name work net points output ≡ parked read₂ book₂ line₂ units budget day schedule name work net points output →
       ((x : After Answer) → parked read book line units budget day schedule name work net points output ≡ accepted x →
       RunBy read book line units budget day schedule work net output x.answer → RunBy read₂ book₂ line₂ units budget day schedule work net output x.answer) →
@@ -121,7 +123,7 @@ module _ {read : LineReader} {line symbols : List ℕ} {m : ℕ} (budget : ℕ) 
   unfolding park_by unless then run_checked
   same_term = rw (framed (request book line units budget (day_in rules) schedule work net output) f.faultless, tables.read, t.line_read, t.given.term_read) refl
 
-  pub parked_alike : {work' net' points' output' : List ℕ} {r : D.Answer} →
+  pub parked_alike : {work' net' points' output' : List ℕ} {r : Reply} →
       ParkedBy read_line book front units budget (day_in rules) schedule name work net points output work' net' points' output' r →
       ParkedBy read book line units budget (day_in rules) schedule name work net points output work' net' points' output' r
   parked_alike = parked_as same_term (λ x e r.
@@ -151,7 +153,7 @@ same_answer read book line units budget day schedule name work net points output
     go (accepted A) e = absurd (let h = longest_book book A e in omega (arith, h, long))
     go (refused k) e = refused_alike k (frame_fault published q₂) e refl
 
-pub parked_prefix : {read : LineReader} {book line : List ℕ} {units budget day : ℕ} {schedule name work net points output work' net' points' output' : List ℕ} {r : D.Answer} →
+pub parked_prefix : {read : LineReader} {book line : List ℕ} {units budget day : ℕ} {schedule name work net points output work' net' points' output' : List ℕ} {r : Reply} →
     65536 ≤ length book →
     ParkedBy read (take 65536 book) line units budget day schedule name work net points output work' net' points' output' r →
     ParkedBy read book line units budget day schedule name work net points output work' net' points' output' r
@@ -159,7 +161,7 @@ parked_prefix {read} {book} {line} {units} {budget} {day} {schedule} {name} {wor
     parked_as (same_answer read book line units budget day schedule name work net points output long)
     (λ x e r. run_as r (read_any_prefix book long ∙ r.book_read) r.line_read)
 
-pub parked_front : {read : LineReader} {book line : List ℕ} {units budget day : ℕ} {schedule name work net points output work' net' points' output' : List ℕ} {r : D.Answer} (m : ℕ) →
+pub parked_front : {read : LineReader} {book line : List ℕ} {units budget day : ℕ} {schedule name work net points output work' net' points' output' : List ℕ} {r : Reply} (m : ℕ) →
     m ≡ min (length book) 65536 →
     ParkedBy read (take m book) line units budget day schedule name work net points output work' net' points' output' r →
     ParkedBy read book line units budget day schedule name work net points output work' net' points' output' r
@@ -173,7 +175,7 @@ parked_front {read} {book} {line} {units} {budget} {day} {schedule} {name} {work
     is b = ParkedBy read b line units budget day schedule name work net points output work' net' points' output' r
 
 -- on the day that was asked for, with as many units
-pub as_asked : {read : LineReader} {book line : List ℕ} {units few budget day table : ℕ} {schedule name work net points output work' net' points' output' : List ℕ} {r : D.Answer} →
+pub as_asked : {read : LineReader} {book line : List ℕ} {units few budget day table : ℕ} {schedule name work net points output work' net' points' output' : List ℕ} {r : Reply} →
     few ≡ units → table ≡ day → ParkedBy read book line few budget table schedule name work net points output work' net' points' output' r →
     ParkedBy read book line units budget day schedule name work net points output work' net' points' output' r
 as_asked {read} {book} {line} {budget = budget} {schedule = schedule} {name} {work} {net} {points} {output} {work'} {net'} {points'} {output'} {r} =

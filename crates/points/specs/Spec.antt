@@ -6,8 +6,7 @@ use Rattle.paper.specs.Tree.{preorder}
 use Rattle.paper.specs.Run.{Answer}
 use Rattle.paper.specs.Page.{LineReader}
 use Rattle.flat.specs.Run.{FlatAnswer}
-use Rattle.engine.specs.Spec.{published, Values, values, values_of, request, RunBy}
-use Rattle.engine.specs.declared.Answer as D
+use Rattle.engine.specs.Spec.{published, Reply, Values, values, values_of, request, RunBy}
 use Rattle.parking.specs.Points.{After, park_by, resume_of}
 use Rattle.parking.specs.Change14.{FirstStart, EnoughSince}
 
@@ -21,7 +20,7 @@ module _ (read : LineReader) (book line : List ℕ) (units budget day : ℕ) (sc
   abbrev pub parked : Result (After Answer)
   parked = park_by read published (request book line units budget day schedule work net output) name points
 
-  pub record ParkedBy (work' net' points' output' : List ℕ) (r : D.Answer) : Type 0 where
+  pub record ParkedBy (work' net' points' output' : List ℕ) (r : Reply) : Type 0 where
     -- the answer is the definition's
     pub answer : values r ≡ values_of (told parked)
     -- on a refusal every lent buffer is unchanged
@@ -56,7 +55,7 @@ module _ (name schedule work net points output : List ℕ) where
   abbrev pub resumed : Result (After FlatAnswer)
   resumed = resume_of published (length work) (length net) (length output) schedule name points
 
-  pub record ResumedBy (work' net' points' output' : List ℕ) (r : D.Answer) : Type 0 where
+  pub record ResumedBy (work' net' points' output' : List ℕ) (r : Reply) : Type 0 where
     pub answer : values r ≡ flat_values_of (told resumed)
     pub unchanged : (k : ℕ) → resumed ≡ refused k → (work' ≡ work) × (net' ≡ net) × (points' ≡ points) × (output' ≡ output)
     pub cleared : (x : After FlatAnswer) → resumed ≡ accepted x → (work' ≡ replicate (length work) 0) × (net' ≡ replicate (length net) 0)

@@ -16,7 +16,7 @@ ghost use Rattle.engine.specs.Promises as E;
 ghost use Rattle.points.specs.Spec as P;
 ghost use Rattle.points.specs.Promises as C;
 
-use engine::{Answer, Form};
+use engine::Form;
 use point::Numbers;
 use refusal::Refusal;
 use run::{Ending, Run};
@@ -181,7 +181,7 @@ fn run_named(
     net: &mut [u8],
     points: &mut [u8],
     output: &mut [u8],
-) -> Answer
+) -> Result<Run, Refusal>
     requires framed { E.Framed book.now limits.units work.old net.old output.old }
     requires loaded { E.Loaded book.now operators.now rules.now line.now length }
     requires budget_bound { (limits.budget < 2 ^ 32) × (day ≡ day_in rules.now) }
@@ -190,7 +190,7 @@ fn run_named(
         work.old net.old points.old output.old work.new net.new points.new output.new result }
 {
     if !engine::names_units(schedule, limits.units) {
-        return Answer::Refused(Refusal::UnknownUnitInSchedule.number());
+        return Err(Refusal::UnknownUnitInSchedule);
     }
     insertion::build(book, operators, rules, net);
     let mut symbols = [0u32; 1024];
@@ -215,7 +215,7 @@ fn run_named(
         points, k, name, book, day, limits, run, &symbols, work, &cells, &order,
     );
     leave(&symbols, run.length, work, net, output);
-    Answer::Ran(run)
+    Ok(run)
 }
 
 // The run of the term in front of the line, where a run with the name has its place.
@@ -233,20 +233,18 @@ fn park_term(
     net: &mut [u8],
     points: &mut [u8],
     output: &mut [u8],
-) -> Answer
+) -> Result<Run, Refusal>
     requires framed { E.Framed book.now limits.units work.old net.old output.old }
     requires loaded { E.Loaded book.now operators.now rules.now line.now length }
     requires budget_bound { (limits.budget < 2 ^ 32) × (day ≡ day_in rules.now) }
     ensures { P.ParkedBy read_line book.now (take length line.now) limits.units limits.budget day schedule.now name.now
         work.old net.old points.old output.old work.new net.new points.new output.new result }
 {
-    match checking::place(name, points) {
-        Err(e) => Answer::Refused(e.number()),
-        Ok(k) => run_named(
-            book, operators, rules, line, length, limits, day, schedule, name, k, work, net,
-            points, output,
-        ),
-    }
+    let k = checking::place(name, points)?;
+    run_named(
+        book, operators, rules, line, length, limits, day, schedule, name, k, work, net, points,
+        output,
+    )
 }
 
 // A book of at most 65,536 bytes. The line or text that is given is read into a line of its own.
@@ -263,7 +261,7 @@ fn park_book(
     net: &mut [u8],
     points: &mut [u8],
     output: &mut [u8],
-) -> Answer
+) -> Result<Run, Refusal>
     requires { E.Framed book.now units work.old net.old output.old }
     ensures { P.ParkedBy (R.reader form) book.now given.now units budget day schedule.now name.now work.old net.old
         points.old output.old work.new net.new points.new output.new result }
@@ -271,30 +269,26 @@ fn park_book(
     let mut operators = [0u8; tables::OPERATORS];
     let mut rules = [0u32; tables::RULES];
     let mut line = [0u8; 1024];
-    match book::read_book(book, day, &mut operators, &mut rules) {
-        Err(e) => Answer::Refused(e.number()),
-        Ok(n) => match engine::read_term(form, given, n, &operators, &mut line) {
-            Err(e) => Answer::Refused(e.number()),
-            Ok(length) => park_term(
-                book,
-                &operators,
-                &rules,
-                &line,
-                length,
-                Limits {
-                    units: usize::from(units),
-                    budget,
-                },
-                day,
-                schedule,
-                name,
-                work,
-                net,
-                points,
-                output,
-            ),
+    let n = book::read_book(book, day, &mut operators, &mut rules)?;
+    let length = engine::read_term(form, given, n, &operators, &mut line)?;
+    park_term(
+        book,
+        &operators,
+        &rules,
+        &line,
+        length,
+        Limits {
+            units: usize::from(units),
+            budget,
         },
-    }
+        day,
+        schedule,
+        name,
+        work,
+        net,
+        points,
+        output,
+    )
 }
 
 // A run with a name: as `engine::reduce_form`, and if it ends cut it is saved under the name.
@@ -311,14 +305,11 @@ pub fn park(
     net: &mut [u8],
     points: &mut [u8],
     output: &mut [u8],
-) -> Answer
+) -> Result<Run, Refusal>
     ensures { P.ParkedBy (R.reader form) book.now line.now units budget day schedule.now name.now work.old net.old
         points.old output.old work.new net.new points.new output.new result }
 {
-    let fault = engine::frame_fault(units, work.len(), net.len(), output.len());
-    if fault != 0 {
-        return Answer::Refused(fault);
-    }
+    engine::check_frame(units, work.len(), net.len(), output.len())?;
     // What stands behind a book's first 65,536 bytes does not change what it reads as.
     let front = &book[..book.len().min(65536)];
     park_book(

@@ -13,28 +13,19 @@ use Rattle.flat.specs.Run.{FlatAnswer}
 use Rattle.tables.specs.Tables.{accepted_book, any_book}
 use Rattle.engine.specs.Spec.{published}
 use Rattle.engine.specs.Promises as R
-use Rattle.engine.specs.declared.Answer as D
 use Rattle.engine.proofs.Frame.{framed, faulty}
 use Rattle.run.specs.declared.Run.{Run}
 use Rattle.parking.specs.Form.{Point}
 use Rattle.parking.specs.Points.{Found, find_checked, areas_fault, After, behind_resumption, resume_checked, resume_of}
 use Rattle.parking.proofs.Enough.{enough_since}
-use Rattle.checking.specs.Promises as H
 use Rattle.checking.specs.Promises.{Holds}
 use Rattle.refusal.specs.declared.Refusal.{Refusal}
+use Rattle.refusal.specs.declared.Refusal.TheVariants.{UnknownUnitInSchedule}
 use Rattle.refusal.specs.Numbers.{number}
-use Rattle.std.specs.Prelude.{Result as Told, Ok, Err}
+use Rattle.std.specs.Prelude.{Ok, Err}
 use Rattle.points.specs.Spec.{flat_values_of, told, resumed, ResumedBy}
 use Rattle.resumption.specs.Promises.{its_book, goes_on, GoneOn}
 use Rattle.resumption.proofs.Slot.{held}
-
--- THE SLOT
-module _ {name points : List ℕ} {r : Told ℕ Refusal} (f : H.FoundAs name points r) where
-  pub found_at : (k : ℕ) → r ≡ Ok k → Holds name points k
-  found_at k e = rw e at f.is
-
-  pub not_found : (e : Refusal) → r ≡ Err e → find_checked name points ≡ refused (number e)
-  not_found _ e = rw e at f.is
 
 -- AREAS: a frame of one unit
 module _ (work net output : ℕ) where
@@ -57,7 +48,7 @@ after schedule points x = record { answer = goes_on schedule x; points = behind_
 
 module _ (name schedule work net points output : List ℕ) where
   -- REFUSALS leave the buffers as they were
-  refuses : (k : ℕ) → resumed name schedule work net points output ≡ refused k → ResumedBy name schedule work net points output work net points output (D.Answer.Refused k)
+  refuses : (k : Refusal) → resumed name schedule work net points output ≡ refused (number k) → ResumedBy name schedule work net points output work net points output (Err k)
   refuses k e = record {
     answer = ap (λ (x : Result (After FlatAnswer)). flat_values_of (told x)) (sym e);
     unchanged = λ j h. (refl, refl, refl, refl);
@@ -67,11 +58,11 @@ module _ (name schedule work net points output : List ℕ) where
     enough = λ x h. absurd (refused_accepted (sym e ∙ h));
   }
 
-  pub by_areas : (k : ℕ) → areas_fault published (length work) (length net) (length output) ≡ some k → ResumedBy name schedule work net points output work net points output (D.Answer.Refused k)
+  pub by_areas : (k : Refusal) → areas_fault published (length work) (length net) (length output) ≡ some (number k) → ResumedBy name schedule work net points output work net points output (Err k)
   by_areas k f = refuses k (unfold resume_of unless in rw f refl)
 
   module _ (f : areas_fault published (length work) (length net) (length output) ≡ none) where
-    pub by_points : (k : ℕ) → find_checked name points ≡ refused k → ResumedBy name schedule work net points output work net points output (D.Answer.Refused k)
+    pub by_points : (k : Refusal) → find_checked name points ≡ refused (number k) → ResumedBy name schedule work net points output work net points output (Err k)
     by_points k e = refuses k (unfold resume_of unless then in rw (f, e) refl)
 
     module _ {k : ℕ} (h : Holds name points k) where
@@ -83,8 +74,8 @@ module _ (name schedule work net points output : List ℕ) where
       checked = rw (f, h.found, book_read) refl
 
       pub by_schedule : all_below (length h.point.saved.parked.state.units) schedule ≡ false →
-          ResumedBy name schedule work net points output work net points output (D.Answer.Refused 14)
-      by_schedule e = refuses 14 (checked ∙ (unfold resume_checked in rw (e, resume_checked) refl))
+          ResumedBy name schedule work net points output work net points output (Err UnknownUnitInSchedule)
+      by_schedule e = refuses UnknownUnitInSchedule (checked ∙ (unfold resume_checked in rw (e, resume_checked) refl))
 
       -- A RUN
       module _ (named : all_below (length h.point.saved.parked.state.units) schedule ≡ true) where
@@ -92,9 +83,9 @@ module _ (name schedule work net points output : List ℕ) where
         passes = checked ∙ (unfold resume_checked in rw (named, resume_checked) refl)
 
         pub accepts : {w work' net' points' output' : List ℕ} {r : Run} {z : Found} → z ≡ spot k h.point → length w ≡ length work → GoneOn schedule z w net points output work' net' points' output' r →
-            ResumedBy name schedule work net points output work' net' points' output' (D.Answer.Ran r)
+            ResumedBy name schedule work net points output work' net' points' output' (Ok r)
         accepts {w} {work'} {net'} {points'} {output'} {r} e long =
-            subst (λ (z : Found). GoneOn schedule z w net points output work' net' points' output' r → ResumedBy name schedule work net points output work' net' points' output' (D.Answer.Ran r)) (sym e)
+            subst (λ (z : Found). GoneOn schedule z w net points output work' net' points' output' r → ResumedBy name schedule work net points output work' net' points' output' (Ok r)) (sym e)
             (λ g. record {
               answer = ap accepted g.values_are ∙ sym (ap (λ (z : Result (After FlatAnswer)). flat_values_of (told z)) passes);
               unchanged = λ j q. absurd (refused_accepted (sym q ∙ passes));

@@ -226,9 +226,9 @@ module _ {name points : List ℕ} {k : ℕ} (h : Holds name points k) where
         let n : u ≡ length P.saved.parked.state.units = cc in
         (n, omega (arith, n, l))
 
-    pub counted : ((u : ℕ) → r ≡ Some u → ⊥) → ⊥
+    pub counted : r ≡ None → ⊥
     unfolding return
-    counted d = d _ (c.is _ behind_it.is).0
+    counted e = let s = (c.is _ behind_it.is).0 in let z : ◌≡◌ {A = ℕ} 0 1 = cc in omega arith
 
   pub not_broken : {book operators rules : List ℕ} {a : Arrays} {r : Option Loaded} → LoadedAs part book operators rules a r → r ≡ None → ⊥
   unfolding return

@@ -11,7 +11,6 @@ ghost use Rattle.points.specs.Spec as P;
 ghost use Rattle.points.specs.Promises.{CanSave};
 ghost use Rattle.resumption.specs.Promises as C;
 
-use engine::Answer;
 use point::Numbers;
 use refusal::Refusal;
 use run::Run;
@@ -182,7 +181,7 @@ fn resume_point(
     net: &mut [u8],
     points: &mut [u8],
     output: &mut [u8],
-) -> Answer
+) -> Result<Run, Refusal>
     requires { C.Ready name.now schedule.now k work.old net.old points.old output.old }
     ensures { P.ResumedBy name.now schedule.now work.old net.old points.old output.old
         work.new net.new points.new output.new result }
@@ -193,7 +192,8 @@ fn resume_point(
     let mut symbols = [0u32; 1024];
     let mut cells = [0u32; 8];
     let mut order = [0u16; 1024];
-    match load(
+    // A slot that was checked is not broken.
+    let point = load(
         points,
         k,
         &mut book,
@@ -203,27 +203,25 @@ fn resume_point(
         work,
         &mut cells,
         &mut order,
-    ) {
-        // A slot that was checked is not broken.
-        None => Answer::Refused(Refusal::BadPointOrName.number()),
-        Some(point) => Answer::Ran(go_on(
-            &book[..point.book],
-            &operators,
-            &rules,
-            point.day,
-            point.numbers,
-            name,
-            k,
-            schedule,
-            &mut symbols,
-            work,
-            &mut cells,
-            &mut order,
-            net,
-            points,
-            output,
-        )),
-    }
+    )
+    .ok_or(Refusal::BadPointOrName)?;
+    Ok(go_on(
+        &book[..point.book],
+        &operators,
+        &rules,
+        point.day,
+        point.numbers,
+        name,
+        k,
+        schedule,
+        &mut symbols,
+        work,
+        &mut cells,
+        &mut order,
+        net,
+        points,
+        output,
+    ))
 }
 
 // The run that was saved under the name goes on with the schedule.
@@ -234,25 +232,16 @@ pub fn resume(
     net: &mut [u8],
     points: &mut [u8],
     output: &mut [u8],
-) -> Answer
+) -> Result<Run, Refusal>
     ensures { P.ResumedBy name.now schedule.now work.old net.old points.old output.old
         work.new net.new points.new output.new result }
 {
     // The units are the point's, so that a frame of one stands for the areas alone.
-    let fault = engine::frame_fault(1, work.len(), net.len(), output.len());
-    if fault != 0 {
-        return Answer::Refused(fault);
+    engine::check_frame(1, work.len(), net.len(), output.len())?;
+    let k = checking::find(name, points)?;
+    let units = unit_count(points, k).ok_or(Refusal::BadPointOrName)?;
+    if !engine::names_units(schedule, units) {
+        return Err(Refusal::UnknownUnitInSchedule);
     }
-    match checking::find(name, points) {
-        Err(e) => Answer::Refused(e.number()),
-        Ok(k) => {
-            let Some(units) = unit_count(points, k) else {
-                return Answer::Refused(Refusal::BadPointOrName.number());
-            };
-            if !engine::names_units(schedule, units) {
-                return Answer::Refused(Refusal::UnknownUnitInSchedule.number());
-            }
-            resume_point(name, schedule, k, work, net, points, output)
-        }
-    }
+    resume_point(name, schedule, k, work, net, points, output)
 }

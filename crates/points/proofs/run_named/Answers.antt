@@ -17,7 +17,7 @@ names_units-requires c = (frame_of c.requires.framed.faultless).some_units
 pub returns-then-not-names_units : goal.returns-then-not-names_units
 returns-then-not-names_units c =
     let p = c.requires in
-    rw c.number.ensures.value (unnamed p.framed p.loaded.tables p.budget_bound.1 p.loaded.given p.placed (sym c.names_units.ensures ∙ c.if-not-names_units.true))
+    unnamed p.framed p.loaded.tables p.budget_bound.1 p.loaded.given p.placed (sym c.names_units.ensures ∙ c.if-not-names_units.true)
 
 pub build-requires : goal.build-requires
 build-requires c =

@@ -19,19 +19,19 @@ pub go_on-requires : goal.go_on-requires
 go_on-requires c =
     let p = c.requires in
     let h = p.holds in
-    let o = loaded_run c.load.ensures c.in-Some.is in
+    let o = loaded_run c.load.ensures c.in_ok-point.ensures.ok_part in
     record { point_in = point_in h o; asked = (asked_with h o c.load.auto.work p.asked, can_save h o) }
 
-pub returns-in-None : goal.returns-in-None
-returns-in-None c = absurd (not_broken c.requires.holds c.load.ensures c.in-None.is)
+pub returns-in_err-point : goal.returns-in_err-point
+returns-in_err-point c = absurd (not_broken c.requires.holds c.load.ensures c.in_err-point.ensures.ok_part)
 
-pub shape_of-work-in-Some : goal.shape_of-work-in-Some
-shape_of-work-in-Some c = c.go_on.auto.work ∙ c.load.auto.work
+pub shape_of-work : goal.shape_of-work
+shape_of-work c = c.go_on.auto.work ∙ c.load.auto.work
 
-pub returns-in-Some : goal.returns-in-Some
-returns-in-Some c =
+pub returns : goal.returns
+returns c =
     let p = c.requires in
     let h = p.holds in
-    let o = loaded_run c.load.ensures c.in-Some.is in
+    let o = loaded_run c.load.ensures c.in_ok-point.ensures.ok_part in
     accepts _ _ _ _ _ _ (areas_good _ _ _ p.asked.faultless) h p.asked.named (ap (λ (P : Point). record { at = c.args.k; point = P }) (loaded_point h o)) c.load.auto.work
     c.go_on.ensures
