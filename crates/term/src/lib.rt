@@ -65,10 +65,13 @@ pub fn same(symbols: &[u32; 1024], len: usize, a: usize, b: usize, n: usize) -> 
     if len - b < n {
         return false;
     }
-    symbols[a..a + n]
-        .iter()
-        .zip(&symbols[b..b + n])
-        .all(|(x, y)| symbol::operator(*x) == symbol::operator(*y))
+    // Kept as a loop: that all symbols before the one compared are equal is its invariant (document 02, Change 6), which `all` doesn't promise.
+    for i in 0..n {
+        if symbol::operator(symbols[a + i]) != symbol::operator(symbols[b + i]) {
+            return false;
+        }
+    }
+    true
 }
 
 // The n symbols of part from offset `from` on, into symbols at offset at.

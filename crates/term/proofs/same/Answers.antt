@@ -1,70 +1,73 @@
--- `term::same` meets its contract: that all pairs have equal operators says that the parts are the same. Assumes nothing.
-use mathlib.Core.Bool.{Bool, ◌&&◌, true, false}
-use mathlib.Core.List.{List, [], ◌∷◌}
-use mathlib.Core.Path.{◌≡◌, refl, sym, ap, ap₂, ◌∙◌}
+-- Answers of `same`. Assumes nothing.
+use mathlib.Core.Bool.{true, false}
+use mathlib.Core.List.{List}
+use mathlib.Core.Path.{◌≡◌, refl, sym, ap, ◌∙◌}
 use Prim.Native.Nat.{ℕ, ◌+◌, ◌-◌, ◌≤◌, ◌<◌}
+use native.Mathlib.Numerals.{add-one}
 use native.Mathlib.Omega.{arith}
-use borrow.Author.Rules.{rules}
-use borrow.Author.Tests.{tests}
-use lib.Dec.{eqb}
-use lib.Seq.{take-take}
-use lib.ListN.{length, take, drop, length-take, length-drop}
-use Rattle.std.specs.Slice.Iter.{iter_rest}
-use Rattle.std.specs.List.{list_all, zip}
-use Rattle.std.proofs.lemmas.List.{drop-take}
-use Rattle.std.proofs.lemmas.Iterator.{YieldsList-from_slice, YieldsList-from_zip}
-use Rattle.std.proofs.lemmas.Iterator.Search.{all_from_yields_List}
-use Rattle.paper.specs.Writer.{same}
-use Rattle.paper.proofs.Operators.{same_false}
+use lib.ListN.{length, get_or, take, drop, length-take, length-drop}
+use lib.Seq.{take-suc, get_or-take, get_or-drop}
+use Rattle.paper.proofs.Operators.{same_true, same_false}
 use Rattle.symbol.specs.Record.{operator, operators}
-use Rattle.symbol.proofs.Record.{front_length, map_take, map_drop}
+use Rattle.symbol.proofs.Record.{front_length, operator_front}
 use Rattle.term.specs.Promises.{Compared}
+use Rattle.term.proofs.same.Invariants.{EqualBefore}
 use Rattle.term.proofs.same.Goals as goal
 
--- fewer than n symbols are not n
-fewer : (xs : List ℕ) (a b n : ℕ) → a + n ≤ length xs → length xs - b < n → Compared xs a b n false
-fewer xs a b n h l =
-    record { is = sym (same_false _ _ (λ e. let z = ap length e in omega (arith, simp (length-take, length-drop) at z))) }
+module _ (xs : List ℕ) (a b : ℕ) where
+  -- an equal symbol is passed
+  equal_next : (i : ℕ) → a + i < length xs → b + i < length xs → get_or xs (a + i) 0 ≡ get_or xs (b + i) 0 → EqualBefore xs a b i → EqualBefore xs a b (i + 1)
+  equal_next i k l e h =
+      rw (
+        add-one i,
+        take-suc (drop a xs) i 0 (rw length-drop (omega arith)),
+        take-suc (drop b xs) i 0 (rw length-drop (omega arith)),
+        get_or-drop a xs i 0,
+        get_or-drop b xs i 0,
+        e,
+        h,
+      )
 
-abbrev alike : ℕ × ℕ → Bool
-alike p = eqb (operator p.0) (operator p.1)
+  -- all n symbols are passed
+  all_equal : (n i : ℕ) → i ≡ n → EqualBefore xs a b i → Compared xs a b n true
+  all_equal n i e h = record { is = sym (same_true _ _ (rw e at h)) }
 
-both : (b r q : Bool) → r ≡ q → b && r ≡ elim b [ true ↦ q | false ↦ false ]
-both true r q e = e
-both false r q e = refl
+  -- a symbol of the n differs
+  differs : (n i : ℕ) → i < n → (get_or xs (a + i) 0 ≡ get_or xs (b + i) 0 → ⊥) → Compared xs a b n false
+  differs n i l d = record { is = sym (same_false _ _ (λ e. d (sym (at a) ∙ ap (λ (ys : List ℕ). get_or ys i 0) e ∙ at b))) }
+    where
+      at : (p : ℕ) → get_or (take n (drop p xs)) i 0 ≡ get_or xs (p + i) 0
+      at p = get_or-take n (drop p xs) i 0 l ∙ get_or-drop p xs i 0
 
-all_alike : (xs ys : List ℕ) → length xs ≡ length ys → list_all alike (zip xs ys) ≡ same (operators xs) (operators ys)
-unfolding same
-all_alike [] [] e = refl
-all_alike [] (y ∷ ys) e = absurd (omega arith)
-all_alike (x ∷ xs) [] e = absurd (omega arith)
-all_alike (x ∷ xs) (y ∷ ys) e = both (eqb (operator x) (operator y)) _ _ (all_alike xs ys (omega arith))
-
-mid : (p n : ℕ) (symbols : List ℕ) → take (p + n - p) (drop p symbols) ≡ take n (drop p symbols)
-mid p n symbols = let e : p + n - p ≡ n = omega arith in rw e
-
--- the n symbols from offset p on, of the first len
-part : (symbols : List ℕ) (len p n : ℕ) → p + n ≤ len → operators (take n (drop p symbols)) ≡ take n (drop p (operators (take len symbols)))
-part symbols len p n h =
-    ap operators (sym (drop-take p n symbols) ∙ ap (drop p) (sym (take-take (p + n) len symbols h)) ∙ drop-take p n (take len symbols))
-    ∙ map_take operator n (drop p (take len symbols))
-    ∙ ap (take n) (map_drop operator p (take len symbols))
+  -- fewer than n symbols are not n
+  fewer : (n : ℕ) → a + n ≤ length xs → length xs - b < n → Compared xs a b n false
+  fewer n h l =
+      record { is = sym (same_false _ _ (λ e. let z = ap length e in omega (arith, simp (length-take, length-drop) at z))) }
 
 pub returns-then-len-b : goal.returns-then-len-b
 returns-then-len-b c =
     let l = front_length operator c.args.len c.args.symbols.now (omega arith) in
     fewer _ _ _ _ (omega arith) (omega arith)
 
-pub returns : goal.returns
-returns c =
+pub returns-then-operator : goal.returns-then-operator
+returns-then-operator c =
     let s = c.args in
-    let xs = take s.n (drop s.a s.symbols.now) in
-    let ys = take s.n (drop s.b s.symbols.now) in
-    let first : c.zip.result.a.rest.now ≡ xs = ap (λ i. iter_rest i) c.zip.ensures.first ∙ c.iter.ensures.rest ∙ mid s.a s.n s.symbols.now in
-    let second : c.zip.result.b.rest.now ≡ ys = c.zip.ensures.second.0 ∙ mid s.b s.n s.symbols.now in
-    let pairs = YieldsList-from_zip (YieldsList-from_slice xs first) (YieldsList-from_slice ys second) in
-    let all = all_from_yields_List alike c.all.new.self _ _ c.all.ensures.ran pairs (λ x b q k. search (rules, tests)) in
-    let long : length xs ≡ length ys = simp (length-take, length-drop) (omega arith) in
-    record {
-      is = all ∙ all_alike xs ys long ∙ ap₂ same (part s.symbols.now s.len s.a s.n (omega arith)) (part s.symbols.now s.len s.b s.n (omega arith));
-    }
+    let p = operator_front s.len s.symbols.now (s.a + c.loop-i.i) (omega arith) in
+    let q = operator_front s.len s.symbols.now (s.b + c.loop-i.i) (omega arith) in
+    differs _ _ _ _ c.loop-i.i (omega arith) (λ e. omega arith)
+
+pub loop-i-preserved : goal.loop-i-preserved
+loop-i-preserved c =
+    let s = c.args in
+    let m = front_length operator s.len s.symbols.now (omega arith) in
+    let p = operator_front s.len s.symbols.now (s.a + c.loop-i.i) (omega arith) in
+    let q = operator_front s.len s.symbols.now (s.b + c.loop-i.i) (omega arith) in (
+      omega arith,
+      equal_next (operators (take s.len s.symbols.now)) s.a s.b c.loop-i.i (omega arith) (omega arith) (omega arith) c.loop-i.invariant.1,
+    )
+
+pub returns : goal.returns
+returns c = all_equal _ _ _ _ c.loop-i.i (omega arith) c.loop-i.invariant.1
+
+pub loop-i-init : goal.loop-i-init
+loop-i-init c = (omega arith, refl)
