@@ -14,7 +14,7 @@ use Rattle.paper.specs.Page.{Request, all_below, frame_fault, unless, run_checke
 use Rattle.paper.proofs.Readers.{accepted_injective, refused_accepted}
 use Rattle.paper.proofs.Prefix.{read_any_prefix}
 use Rattle.entry.specs.State.{limited}
-use Rattle.std.specs.Prelude.{Ok, Err}
+use Rattle.std.specs.Prelude.{Err}
 use Rattle.refusal.specs.declared.Refusal.{Refusal}
 use Rattle.refusal.specs.Numbers.{number}
 use Rattle.engine.specs.Spec.{Reply, published, values, values_of, request, answered_by, RunBy, ReducedBy}

@@ -20,7 +20,6 @@ use mathlib.Core.Option.{none, some}
 use Rattle.std.specs.Prelude.{Ok, Err}
 use Rattle.std.specs.Prelude.{Result as Checked}
 use Rattle.refusal.specs.declared.Refusal.{Refusal}
-use Rattle.refusal.specs.Numbers.{number}
 use Rattle.line.proofs.Checking as Lines
 use Rattle.text.specs.Promises.{TextRead}
 use Rattle.text.proofs.Laws as Texts

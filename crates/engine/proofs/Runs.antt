@@ -58,7 +58,7 @@ use Rattle.entry.specs.State.{limited, state, Arrays}
 use Rattle.run.specs.Promises as Run
 use Rattle.run.specs.Promises.{begun, Runnable, Ran}
 use Rattle.run.specs.declared.Run as R
-use Rattle.std.specs.Prelude.{Ok, Err}
+use Rattle.std.specs.Prelude.{Ok}
 use Rattle.engine.specs.Spec.{Values, values, values_of, request, Reduced}
 use Rattle.engine.specs.Promises as C
 use Rattle.engine.specs.Promises.{Framed, Opened, Given, Asked, Posted}

@@ -1,7 +1,7 @@
 -- `engine::hand_out` meets its contract: so far the first i are copied. Assumes nothing.
 use mathlib.Core.List.{◌++◌}
 use mathlib.Core.Path.{◌≡◌}
-use Prim.Native.Nat.{◌-◌, ◌≤◌}
+use Prim.Native.Nat.{◌≤◌}
 use lib.ListN.{length, take, drop}
 use Rattle.symbol.specs.Record.{operators}
 use Rattle.engine.proofs.hand_out.Given as goal

@@ -1,9 +1,8 @@
 -- `engine::reduce_form` meets its contract, by the laws of Frame and Answers. Assumes nothing.
-use mathlib.Core.Path.{sym, ap, ◌∙◌}
+use mathlib.Core.Path.{sym}
 use native.Mathlib.Omega.{arith}
 use Rattle.refusal.proofs.Passing.{passed_up}
 use Rattle.refusal.proofs.Some.{some_number}
-use Rattle.engine.specs.Promises.{frame_number}
 use Rattle.engine.proofs.Frame.{faulty}
 use Rattle.engine.proofs.Answers.{by_frame, refuses, reduced_prefix}
 use Rattle.engine.proofs.reduce_form.Goals as goal
