@@ -15,7 +15,7 @@ use Rattle.flat.proofs.Sizes.{correct_spells}
 use Rattle.tables.specs.Layout.{arity_in}
 use Rattle.tables.specs.Tables.{rule_at}
 use Rattle.line.specs.Line.{judgement}
-use Rattle.line.specs.declared.Line as L
+use mathlib.Core.Option.{none}
 use Rattle.line.proofs.Checking.{sound_known, sound_accepted}
 use Rattle.term.specs.Present.{length_in, operators_in}
 use Rattle.term.specs.Promises.{Loaded}
@@ -37,7 +37,7 @@ use Rattle.whole.specs.Promises.{UnitsDue}
 
 -- a sound line of a book with this net
 module _ {bytes operators net : List ℕ} {n : ℕ} (line : List ℕ) (t : NetOf bytes operators net) (count : n ≡ length (book_by bytes net).operators)
-    (sound : L.Line.Sound ≡ judgement n (arity_in operators) line) where
+    (sound : none ≡ judgement n (arity_in operators) line) where
   abbrev B : Book
   B = book_by bytes net
 

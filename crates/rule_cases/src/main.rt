@@ -11,9 +11,7 @@ ghost use Rattle.fill.specs.Promises.{Fillable};
 ghost use Rattle.net.specs.Net.{book_by, NetOf};
 ghost use Rattle.lookup.specs.Promises.{Present};
 
-use book::Book;
 use cases::{say, say_front, say_number, say_refused};
-use line::Line;
 use whole::{Limits, Place, Progress, Whole};
 
 fn say_found(i: usize, end: usize) {
@@ -160,8 +158,8 @@ fn try_line(bytes: &[u8], n: usize, operators: &[u8; 4352], net: &[u8], line: &[
     requires { (length bytes.now ≤ 65536) × NetOf bytes.now operators.now net.now × (n ≡ length (book_by bytes.now net.now).operators) }
 {
     match line::check_line(line, n, operators) {
-        Line::Refused(k) => say_refused(k),
-        Line::Sound => {
+        Err(e) => say_refused(e.number()),
+        Ok(()) => {
             let mut space = [0u8; 1024];
             let len = load(line, &mut space);
             if len < offset {
@@ -186,8 +184,8 @@ fn try_book(bytes: &[u8], line: &[u8], offset: usize)
     let mut operators = [0u8; 4352];
     let mut rules = [0u32; 512];
     match book::read_book(bytes, 0, &mut operators, &mut rules) {
-        Book::Refused(k) => say_refused(k),
-        Book::Read(n) => {
+        Err(e) => say_refused(e.number()),
+        Ok(n) => {
             let mut net = [0u8; net::NET];
             insertion::build(bytes, &operators, &rules, &mut net);
             try_line(bytes, n, &operators, &net, line, offset)

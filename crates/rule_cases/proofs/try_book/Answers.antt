@@ -5,11 +5,11 @@ use Rattle.rule_cases.proofs.try_book.Goals as goal
 
 pub build-requires : goal.build-requires
 build-requires c =
-    let x = rw c.in-Read.is at c.read_book.ensures.is in
+    let x = rw c.in-Ok.is at c.read_book.ensures.is in
     (x.0, c.requires, search rules, omega (arith, x.1))
 
 pub try_line-requires : goal.try_line-requires
 try_line-requires c =
-    let x = rw c.in-Read.is at c.read_book.ensures.is in
+    let x = rw c.in-Ok.is at c.read_book.ensures.is in
     let e = c.build.ensures in
     (c.requires, e.of_book, rw e.same_book x.2)
