@@ -75,10 +75,11 @@ fn answer_line(
     ensures arrays_after { C.Arrays line.new symbols.new scratch.new }
 {
     match engine::read_term(form, given, n, operators, line) {
-        Err(e) => records::put_refusal(e, answers, at),
+        Err(e) => records::put_refusal(e.number(), answers, at),
         Ok(length) => {
             if !named {
-                return records::put_refusal(Refusal::UnknownUnitInSchedule, answers, at);
+                let k = Refusal::UnknownUnitInSchedule.number();
+                return records::put_refusal(k, answers, at);
             }
             let run = engine::post(
                 book, operators, net, line, length, limits, schedule, symbols, scratch, work,

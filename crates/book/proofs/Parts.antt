@@ -65,7 +65,7 @@ ended_value bytes at k v next e l g =
     ∙ ap (λ (i : ℕ). value (take i xs)) f ∙ ap value (take-length xs) in
     record { is = rw (ltb_true (length xs) 8 (omega arith), w) (value_zero xs (all_drop at (bits_of bytes) (bits_below bytes))) }
 
-pub ended_out : (bytes : List ℕ) (at k : ℕ) → k ≡ 8 * length bytes - at → field k (bits_at bytes at) ≡ refused 1 → EndsAt bytes at false
+pub ended_out : (bytes : List ℕ) (at k : ℕ) {e : ℕ} → k ≡ 8 * length bytes - at → field k (bits_at bytes at) ≡ refused e → EndsAt bytes at false
 unfolding field return refuse
 ended_out bytes at k e h =
     let there : length (take k (bits_at bytes at)) ≡ k = length-take-le k (bits_at bytes at) (omega (arith, bits_left bytes at)) in

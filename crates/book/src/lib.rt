@@ -105,7 +105,7 @@ fn ends(book: &[u8], at: usize) -> bool
     if 8 <= k {
         return false;
     }
-    let Some(padding) = bits::field(book, at, k) else {
+    let Ok(padding) = reader::field(book, at, k) else {
         return false;
     };
     padding.value == 0

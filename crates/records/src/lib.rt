@@ -5,21 +5,20 @@ ghost use Rattle.std.specs.Prelude.{◌∷◌, [], ◌+◌, ◌≤◌, ◌≡◌
 ghost use Rattle.symbol.specs.Record as Y;
 ghost use Rattle.stream.specs.Promises.{WrittenAt};
 ghost use Rattle.engine.specs.Spec.{values};
-ghost use Rattle.refusal.specs.Numbers.{number};
 ghost use Rattle.records.specs.Record.{longest, value_bytes};
 
-use refusal::Refusal;
 use run::Run;
 
 // The bytes of the longest record.
 pub const LONGEST: usize = 1056;
 
-// The record of a refusal, at a position; the position behind it.
-pub fn put_refusal(refusal: Refusal, answers: &mut [u8], at: usize) -> usize
+// The record of the refusal of number k, at a position; the position behind it.
+// Kept: a number, since any may be given here, and a reason is one of 24.
+pub fn put_refusal(k: u8, answers: &mut [u8], at: usize) -> usize
     requires { at + longest ≤ length answers.old }
-    ensures { WrittenAt at (number refusal ∷ []) answers.old answers.new result }
+    ensures { WrittenAt at (k ∷ []) answers.old answers.new result }
 {
-    answers[at] = refusal.number();
+    answers[at] = k;
     at + 1
 }
 

@@ -1,5 +1,5 @@
 -- `book::ends` meets its contract, by the laws of Parts. Assumes nothing.
-use Rattle.bits.proofs.Reading.{got, ran_out}
+use Rattle.reader.proofs.Reading.{got, ran_out}
 use Rattle.book.proofs.Parts.{ended_byte, ended_out, ended_value}
 use Rattle.book.proofs.ends.Goals as goal
 
@@ -11,4 +11,4 @@ returns-in_default c = ended_out _ _ _ c.left-k.ensures (ran_out c.field.ensures
 
 pub returns : goal.returns
 returns c =
-    ended_value _ _ _ _ _ c.left-k.ensures c.if-k-ge8.false (got c.field.ensures c.in-Some.is)
+    ended_value _ _ _ _ _ c.left-k.ensures c.if-k-ge8.false (got c.field.ensures c.in-Ok.is)

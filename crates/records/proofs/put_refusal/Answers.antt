@@ -4,4 +4,4 @@ use Rattle.records.proofs.Writing.{put_one}
 use Rattle.records.proofs.put_refusal.Goals as goal
 
 pub returns : goal.returns
-returns c = rw c.number.ensures.value (put_one _ _ _ (omega arith))
+returns c = put_one _ _ _ (omega arith)
