@@ -10,7 +10,7 @@ returns-then-not-named c =
     let t = read_by p.fact c.in-Ok.is c.read_term.ensures in
     let a = p.arrays in
     record {
-      line_done = not_named _ p.fact _ _ t (sym p.named_value.0 ∙ c.if-not-named.true) c.put_refusal-then-not-named.ensures;
+      line_done = not_named _ p.fact _ _ t (sym p.named_value.0 ∙ c.if-not-named.true) (rw c.number-k.ensures.value at c.put_refusal-then-not-named.ensures);
       arrays_after = record { line_long = t.given.long; symbols_long = a.symbols_long; scratch_long = a.scratch_long };
     }
 
@@ -35,7 +35,7 @@ returns-in-Err c =
     let e = read_by p.fact c.in-Err.is c.read_term.ensures in
     let a = p.arrays in
     record {
-      line_done = not_read _ p.fact _ _ _ e c.put_refusal.ensures;
+      line_done = not_read _ p.fact _ _ _ e (rw c.number.ensures.value at c.put_refusal.ensures);
       arrays_after = record { line_long = c.read_term.ensures.long; symbols_long = a.symbols_long; scratch_long = a.scratch_long };
     }
 
