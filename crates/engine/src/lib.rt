@@ -55,7 +55,10 @@ fn load(symbols: &mut [u8; 1024], line: &[u8])
     requires { (length symbols.old ≡ 1024) × (length line.now ≤ 1024) }
     ensures { symbols.new ≡ line.now ++ drop (length line.now) symbols.old }
 {
-    symbols[..line.len()].copy_from_slice(line);
+    // Kept as a loop: `copy_from_slice` would have the static library need `memmove` from outside.
+    for i in 0..line.len() {
+        symbols[i] = line[i];
+    }
 }
 
 // The operators of the first n symbols, to the front of the output.

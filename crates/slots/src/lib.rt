@@ -25,9 +25,11 @@ fn put_bytes(output: &mut [u8], at: usize, bytes: &[u8]) -> usize
     requires { at + length bytes.now ≤ length output.old }
     ensures { WrittenAt at bytes.now output.old output.new result }
 {
-    let end = at + bytes.len();
-    output[at..end].copy_from_slice(bytes);
-    end
+    // Kept as a loop: `copy_from_slice` would have the static library need `memmove` from outside.
+    for i in 0..bytes.len() {
+        output[at + i] = bytes[i];
+    }
+    at + bytes.len()
 }
 
 // The name, with zeros behind it.

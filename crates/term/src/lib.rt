@@ -79,7 +79,10 @@ pub fn copy(symbols: &mut [u32; 1024], at: usize, part: &[u32; 1024], from: usiz
     requires { (length symbols.old ≡ 1024) × (length part.now ≡ 1024) × (at + n ≤ 1024) × (from + n ≤ 1024) }
     ensures { Pasted symbols.old at part.now from n symbols.new }
 {
-    symbols[at..at + n].copy_from_slice(&part[from..from + n]);
+    // Kept as a loop: `copy_from_slice` would have the static library need `memmove` from outside.
+    for j in 0..n {
+        symbols[at + j] = part[from + j];
+    }
 }
 
 // Puts the operator o at offset at, without mark, with its size by those of its arguments, which stand behind it.
